@@ -5,8 +5,8 @@
 
 Each of COUNT runs (1,000 without a word) has 1 to 4 images of random calls, reads and writes, which tell at their end
 what their answers were and what the windows show, under a random schedule; with `run` it has one program under the
-library, of random services, reads and writes, and more often than not with children. Console and notes have to be the
-same. What differs is told with its seed, and left in a folder; the status is then 1. A run that comes to code which the
+library, of random services, reads and writes, and more often than not with children, on a random disk. Console and notes have to be the
+same, and the disk behind the run, byte by byte. What differs is told with its seed, and left in a folder; the status is then 1. A run that comes to code which the
 model does not have, since it jumped to what it had written itself, is left out. It wants out/jos, which ./jos builds.
 """
 import collections
@@ -16,6 +16,7 @@ import subprocess
 import sys
 import tempfile
 
+from disks import BLOCK, Disk, Fault, random_tree
 from images import BASE, CODE, image, word
 from library_model import Run
 from library_programs import ForkProgram, LibraryProgram, random_words
@@ -179,36 +180,54 @@ def compare(seed, folder):
     return compared(seed, folder, model, notes, ["exo", *options, *names], console_input)
 
 
-def make_disk(folder, content):
-    """Makes a disk that has this image, under its own name."""
-    (folder / "image").write_bytes(content)
-    blocks = 8 + len(content) // 4096
-    subprocess.run([PROGRAM, "mkfs", folder / "disk", str(blocks), folder / "image"], capture_output=True, check=True)
+def random_files(chance):
+    """A disk on which files are laid out, and there is room for an image; the records of its root, and all paths."""
+    while True:
+        disk = Disk(chance.choice([64, 300, 1200]), chance.choice([min, max, lambda free: chance.choice(list(free))]))
+        try:
+            records, paths = random_tree(chance, disk, chance.choice([0, 1, 1, 1]))
+        except Fault:
+            continue
+        if len(disk.free) > 40:
+            return disk, records, paths
+
+
+def with_image(disk, records, content):
+    """The disk with an image in its root, behind the other records."""
+    return disk.finish(disk.record(b"/", records + disk.record(b"image", content, 0).ljust(BLOCK, b"\0"), 1))
 
 
 def compare_library(seed, folder):
     """The same of a program under the library, which stands on a disk."""
     chance = random.Random(seed)
     forks = chance.random() < 0.6
-    program = (ForkProgram if forks else LibraryProgram)(chance)
+    disk, records, paths = random_files(chance)
+    program = (ForkProgram if forks else LibraryProgram)(chance, paths)
     content = program.build()
     frames = Run.wanted_frames(content) + chance.choice([0, 1, 20, 60, 500])
-    steps, traps = chance.choice([3000, 60000, 200000] if forks else [777, 3000, 20000]), chance.choice([0, 1, 1024])
+    steps, traps = chance.choice([3000, 60000, 200000] if forks else [777, 3000, 20000, 60000]), chance.choice([0, 1, 1024])
     schedule, given = random_schedule(chance), random_words(chance)
     console_input = bytes(chance.choice([4, 0, 10, 255, *range(32, 127)]) for _ in range(chance.choice([0, 1, 2, 5, 20])))
     if forks and program.fills_table:
         frames, steps, schedule = frames + 5000, 5000000, schedule + [1000]
     words = ["image", *given]
-    make_disk(folder, content)
+    data = with_image(disk, records, content)
+    (folder / "disk").write_bytes(data)
     (folder / "schedule").write_text(" ".join(map(str, schedule)))
-    model = Run(content, [str(each).encode() for each in words], frames, console_input, schedule, steps, traps)
+    model = Run(data, content, [str(each).encode() for each in words], frames, console_input, schedule, steps, traps)
     try:
-        notes = model.notes(model.run())
+        end = model.run()
+        left = model.finish()
     except Unmodelled:
         return "left out"
     words.insert(0, folder / "disk")
     options = ["--frames", frames, "--steps", steps, "--trace", traps, "--schedule", folder / "schedule"]
-    return compared(seed, folder, model, notes, ["run", *options, "--", *words], console_input)
+    told = compared(seed, folder, model, model.notes(end), ["run", *options, "--", *words], console_input)
+    if told is not None and (folder / "disk").read_bytes() != left:
+        print(f"seed {seed}: the disk differs, in {folder}: {' '.join(map(str, words))}")
+        (folder / "left").write_bytes(left)
+        return None
+    return told
 
 
 def main():

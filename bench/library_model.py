@@ -1,15 +1,15 @@
 #!/usr/bin/env python3
 """A model of `jos run`: a program under the library, and the children that it makes.
 
-    python3 bench/library_model.py [--frames N] [--steps N] [--schedule FILE] [--trace N] [--] IMAGE [WORD..]
+    python3 bench/library_model.py [--frames N] [--steps N] [--schedule FILE] [--trace N] [--left FILE] [--] DISK PATH [WORD..]
 
-IMAGE is a file, which stands on no disk here, and the program's first word.
+DISK stays as it is; as the run leaves it, it goes to the file that --left names.
 
-It is written after docs/library.md, and shares nothing with the code: the fence, the services 0 to 9, 11 to 16, 18 and 19,
-each with its refusals and its steps, the handler of page faults, which copies a page that waits for that or ends the program, the
-file server, which is asked for sync alone, and turns.
-The processor is that of processor.py, and the frames are those of model.py. It takes the words of the command, and the console's
-input on its own, and answers with its console, notes and status; what it does not have is `Unmodelled`.
+It is written after docs/library.md, and shares nothing with the code: the fence, the services 0 to 9 and 11 to 19, each with its
+refusals and its steps, the handler of page faults, which copies a page that waits for that or ends the program, turns, and the end of a
+run, behind which the disk has what the file server has done.
+The processor is that of processor.py, the frames are those of model.py, and the file server is that of server_model.py. It takes the words
+of the command, and the console's input on its own, and answers with its console, notes and status; what it does not have is `Unmodelled`.
 """
 import argparse
 import pathlib
@@ -18,13 +18,15 @@ import sys
 
 from model import ACCESSED, AVAILABLE, BAD_ENVIRONMENT, DIRTY, EAX, EBX, ECX, EDX, ESP, EXCEPTION_STACK, INVALID, MASK
 from model import NO_ENVIRONMENT, NO_MEMORY, NOT_RECEIVING, P, PAGE_SIZE, SLOTS, STACK_TOP, U, W
+from disks import Reader
 from model import Frames, PageFault, Trap, Unmodelled
 from processor import Processor
+from server_model import BAD_PATH, LONGEST_PATH, REMOVE, SYNC, FileServer
 
 SHARED, COPIED = 0x400, 0x800  # bits of an entry: its page is shared, or is copied when it is written
 KEPT = P | U | W | AVAILABLE  # the bits of an entry that a call gives
 COPY_PAGE = 0x007FF  # where a copy is made
-WORKING_PAGE = 0x00400  # where write keeps the bytes that it has taken
+WORKING_PAGE = 0x00400  # where write keeps the bytes that it has taken, and remove those of its path
 FIRST_DESCRIPTOR, DESCRIPTORS = 0xD0000, 32  # the pages of descriptors
 CONSOLE = struct.pack("<4I", ord("c"), 0, 2, 0)  # what such a page holds
 CONSOLE_STAT = b"<cons>".ljust(128, b"\0") + struct.pack("<2I", 0, 0)  # what stat tells of it
@@ -32,8 +34,6 @@ TRANSFER_MAX = 4096  # bytes of one read or write
 END_OF_INPUT = 4  # what is read where there is no byte
 NOT_SUPPORTED = 15
 SERVER, PROGRAM = 0x1000, 0x1001
-SYNC = 8  # the word of the only request
-CACHED_REGIONS = 64  # the regions of the server's cache, which has no page
 OPEN_RECORDS = 0x0FFFE  # where the server has its page for the records of open files
 FENCE = [(0x00200000, 0x00400000), (0x00800000, 0xD0000000), (0xD0400000, 0xEEBFE000)]
 RESIDENT = range(0xEEBFE800, 0xEEC00000)
@@ -135,9 +135,9 @@ def is_own_and_written(bits):
 
 
 class Run:
-    """A run of a program and of those that it makes."""
+    """A run of a program, which stands on a disk, and of those that it makes."""
 
-    def __init__(self, image, words, frames, console_input, schedule, steps, traps):
+    def __init__(self, disk, image, words, frames, console_input, schedule, steps, traps):
         self.frames, self.input = Frames(frames), list(console_input)
         self.schedule, self.steps_left, self.traps_kept = schedule, steps, traps
         self.steps = self.turns = self.refused = self.upcalls = 0
@@ -147,6 +147,7 @@ class Run:
         server = self.make(0)
         assert self.frames.allocate(server.directory, OPEN_RECORDS, P | U | W)
         server.status = "runnable"
+        self.server = FileServer(self, server, disk)
         self.now = self.make(0)
         self.load(image)
         self.begin(words)
@@ -261,6 +262,8 @@ class Run:
             self.seek_or_set_size(edx)
         elif service == 15:
             self.stat(edx, ecx)
+        elif service == 17:
+            self.remove(edx)
         elif service == 18:
             self.sync()
         elif service == 19:
@@ -430,12 +433,9 @@ class Run:
             else:
                 self.now.answer(self.wanting(NO_MEMORY))
         elif stage == "keeping":
-            done, content = self.now.found
-            kept = content if len(content) == 4 and done % 4 == 0 else content[:1]
-            self.page_bytes(WORKING_PAGE << 12)[done:done + len(kept)] = kept
-            done, content = done + len(kept), content[len(kept):]
-            if content:
-                self.now.go_on("keeping", done, content)
+            done, _, rest = self.keeps()
+            if rest:
+                self.now.go_on("keeping", done, rest)
             elif done == wanted:
                 self.now.go_on("printing")
             else:
@@ -450,14 +450,25 @@ class Run:
             if self.finds(descriptor) and not self.is_refused(va, wanted):
                 self.now.go_on("taking")
         elif self.looks(va, P):
-            done = self.now.found[0]
-            try:
-                content = self.now.memory.read(va + done, moved_at_once(va + done, wanted - done))
-            except PageFault as fault:
-                self.page_fault(fault.error, fault.address, self.now.processor.eip)
-            else:
-                assert stage == "moving"
-                self.now.go_on("keeping", done, content)
+            self.gathers(va, wanted)
+
+    def gathers(self, va, wanted):
+        """The next bytes are loaded; or the handler of page faults has the fault."""
+        done = self.now.found[0]
+        try:
+            content = self.now.memory.read(va + done, moved_at_once(va + done, wanted - done))
+        except PageFault as fault:
+            self.page_fault(fault.error, fault.address, self.now.processor.eip)
+        else:
+            assert self.now.stage == "moving"
+            self.now.go_on("keeping", done, content)
+
+    def keeps(self):
+        """The next bytes of those that were loaded are put into the own page. How many are there then, these, and the rest."""
+        done, content = self.now.found
+        kept = content if len(content) == 4 and done % 4 == 0 else content[:1]
+        self.page_bytes(WORKING_PAGE << 12)[done:done + len(kept)] = kept
+        return done + len(kept), kept, content[len(kept):]
 
     # ---- the others
 
@@ -569,48 +580,74 @@ class Run:
     # ---- requests to the file server
 
     def sync(self):
-        """The own id; a try to send the word of the request, after one in vain a yield, and again; from the next step on it waits
-        for the server alone; then the word that came, which it answers."""
+        """The own id, and the request; then the word that came, which it answers."""
+        if self.now.stage == "entered":
+            self.now.go_on("asking")
+        elif self.now.stage == "reply":
+            self.now.answer(self.now.message[1])
+        else:
+            self.asks(SYNC, 0, "reply")
+
+    def remove(self, path):
+        """A page is taken, and the bytes of the path are loaded and put there, up to a NUL. Where a NUL may not come any more the page is
+        given back and the path is refused, by one step. Then the own id; the request, with the page; when the reply has come the page is
+        given back, and the word of the reply is answered."""
         stage = self.now.stage
         if stage == "entered":
+            if in_fence(path, 1):
+                self.now.go_on("taking")
+            else:
+                self.now.answer(-INVALID)
+        elif stage == "taking":
+            if self.frames.allocate(self.now.directory, WORKING_PAGE, P | U | W):
+                self.now.go_on("region", 0)
+            else:
+                self.now.answer(self.wanting(NO_MEMORY))
+        elif stage == "keeping":
+            done, kept, rest = self.keeps()
+            if 0 in kept:
+                self.now.go_on("identifying")
+            elif rest:
+                self.now.go_on("keeping", done, rest)
+            elif self.may_follow(path, done):
+                self.behind(path, done)
+            else:
+                self.now.go_on("moving", done)
+        elif stage == "identifying":
             self.now.go_on("asking")
-        elif stage == "asking":
-            self.now.go_on("pausing" if self.try_to_send(SERVER, SYNC, 0) == -NOT_RECEIVING else "awaiting")
+        elif stage in ("asking", "pausing", "awaiting"):
+            self.asks(REMOVE, WORKING_PAGE << 12, "giving back")
+        elif stage == "giving back":
+            self.frames.remove(self.now.directory, WORKING_PAGE)
+            self.now.go_on("reply")
+        elif stage == "reply":
+            self.now.answer(self.now.message[1])
+        elif stage == "moving" and not self.may_follow(path, self.now.found[0]):
+            self.frames.remove(self.now.directory, WORKING_PAGE)
+            self.now.answer(-BAD_PATH if self.now.found[0] > LONGEST_PATH else -INVALID)
+        elif self.looks(path, P):
+            self.gathers(path, LONGEST_PATH + 1)
+
+    @staticmethod
+    def may_follow(path, done):
+        return done <= LONGEST_PATH and in_fence(path + done, 1)
+
+    def asks(self, word, va, then):
+        """A try to send the word of the request, after one in vain a yield, and again; from the next step on it waits for the server
+        alone."""
+        stage = self.now.stage
+        if stage == "asking":
+            answer = self.try_to_send(SERVER, word, va)
+            assert answer in (0, -NOT_RECEIVING)
+            self.now.go_on("pausing" if answer else "awaiting")
+            self.server.has_to_act = self.server.has_to_act or not answer
         elif stage == "pausing":
             self.now.status = "runnable"
             self.now.go_on("asking")
-        elif stage == "awaiting":
+        else:
+            assert stage == "awaiting"
             self.now.receives, self.now.status = (0, SERVER), "not runnable"
-            self.now.go_on("reply")
-        else:
-            self.now.answer(self.now.message[1])
-
-    def server_step(self):
-        """It gives back the page of a request, and it has none; from the next step on it waits for anybody. Then the word that came
-        and who sent it; the entry of each region of its cache, in none of which is a page to be written; its own id, by which it has
-        acted; and a try to send the answer, after one in vain a yield, and again."""
-        stage = self.now.stage
-        if stage == "entered":
-            self.now.go_on("receiving")
-        elif stage == "receiving":
-            self.now.receives, self.now.status = (0, 0), "not runnable"
-            self.now.go_on("kind")
-        elif stage == "kind":
-            assert self.now.message[1:] == (SYNC, 0)
-            self.now.go_on("client")
-        elif stage == "client":
-            self.now.go_on("flushing", self.now.message[0], 0)
-        elif stage == "flushing":
-            client, region = self.now.found
-            self.now.go_on(*("flushing", client, region + 1) if region + 1 < CACHED_REGIONS else ("acting", client))
-        elif stage == "acting":
-            self.now.go_on("replying", *self.now.found)
-        elif stage == "replying":
-            answer = self.try_to_send(self.now.found[0], 0, 0)
-            self.now.go_on(*("pausing", *self.now.found) if answer == -NOT_RECEIVING else ("entered",))
-        else:
-            self.now.status = "runnable"
-            self.now.go_on("replying", *self.now.found)
+            self.now.go_on(then)
 
     # ---- fork
 
@@ -751,7 +788,7 @@ class Run:
     def step(self):
         now = self.now
         if now.id == SERVER:
-            self.server_step()
+            self.server.step()
             return
         if now.fault is not None:
             self.handle()
@@ -815,6 +852,11 @@ class Run:
             if self.turn(slot):
                 return "budget"
 
+    def finish(self):
+        """Behind the turns the file server goes on up to its act, and the disk gets what was changed. The steps are counted."""
+        self.closing = self.server.close()
+        return bytes(self.server.disk)
+
     def notes(self, end):
         kept = self.traps[-self.traps_kept:] if self.traps_kept else []
         lines = ["[%08x] trap %d err %x va %08x ip %08x\n" % trap for trap in kept]
@@ -828,16 +870,22 @@ def main():
     parser.add_argument("--steps", type=int, default=100000000)
     parser.add_argument("--schedule", type=pathlib.Path)
     parser.add_argument("--trace", type=int, default=0)
+    parser.add_argument("--left", type=pathlib.Path)
+    parser.add_argument("disk", type=pathlib.Path)
     parser.add_argument("words", nargs="+")
     told = parser.parse_args()
-    image = pathlib.Path(told.words[0]).read_bytes()
+    disk = told.disk.read_bytes()
+    image = Reader(disk).file(told.words[0].encode())
     schedule = [int(word) for word in told.schedule.read_text().split()] if told.schedule else [QUANTUM]
     if told.frames < Run.wanted_frames(image):
         print("limit: boot", file=sys.stderr)
         return 3
     words = [word.encode() for word in told.words]
-    run = Run(image, words, told.frames, sys.stdin.buffer.read(), schedule, told.steps, told.trace)
+    run = Run(disk, image, words, told.frames, sys.stdin.buffer.read(), schedule, told.steps, told.trace)
     end = run.run()
+    left = run.finish()
+    if told.left:
+        told.left.write_bytes(left)
     sys.stdout.buffer.write(run.output)
     sys.stderr.write(run.notes(end))
     return STATUSES[end]

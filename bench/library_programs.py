@@ -11,13 +11,13 @@ ENDS = [0x1FFFFF, 0x200000, 0x3FFFFF, 0x400000, 0x7FFFFF, 0x800000, 0xCFFFFFFF, 
         0xEEBFDFFF, 0xEEBFE000, 0xEEC00000, 0xFFFFFFFF]
 IDS = [0, 0x1001, 0x1002, 0x2001, 0x2000, 0x13FF, 0xFFFFFFFF]
 LIKELY_IDS = [0x1001, 0x1002, 0x1002, 0x1003, 0x1004, 0x2002, 0x2003]
-NUMBERS = [10, 17, 20, 21, 22, 0x41, 0x80000000, 0xFFFFFFFF]
+NUMBERS = [10, 20, 21, 22, 0x41, 0x80000000, 0xFFFFFFFF]
 FDS, ODD_FDS = [0, 1, 1, 2, 5, 31], [32, 33, 0x80000000, 0xFFFFFFFF]
 OPEN_FDS = [0, 1, 1, 1, 2]
 LENGTHS, ODD_LENGTHS = [1, 2, 3, 4, 5, 7, 8, 13, 16, 17], [0, 4095, 4096, 4097, 0x7FFFFFFF, 0xFFFFFFFF]
 
 # how often a program asks for which service; 99 is any other number
-ANY = {1: 4, 2: 1, 3: 2, 5: 2, 6: 6, 7: 3, 8: 4, 9: 1, 11: 2, 12: 3, 13: 5, 14: 1, 15: 2, 16: 1, 18: 2, 19: 4, 99: 1}
+ANY = {1: 4, 2: 1, 3: 2, 5: 2, 6: 6, 7: 3, 8: 4, 9: 1, 11: 2, 12: 3, 13: 5, 14: 1, 15: 2, 16: 1, 17: 5, 18: 2, 19: 4, 99: 1}
 # where ESP may lie, and at the end the first and last places where it may not
 STACKS = [STACK + 0x800, 0x902000, 0, 0xEEBFE000, 0xEEBFE7FF, 0xEEC00000, 0xEEC00FF0]
 RESIDENT = [0xEEBFE800, 0xEEBFF000, 0xEEBFFFFF]
@@ -29,8 +29,9 @@ class LibraryProgram:
     log_at = 0x801000  # where a program keeps its answers
     page_ends = [0x801000]  # with a page on either side
 
-    def __init__(self, chance):
+    def __init__(self, chance, paths):
         self.chance, self.code, self.answers = chance, b"", 0
+        self.paths = paths  # of the disk's files and directories
 
     def usually(self, part, these, others):
         return self.chance.choice(these if self.chance.random() < part else others)
@@ -73,6 +74,40 @@ class LibraryProgram:
         length = self.usually(0.85, LENGTHS, ODD_LENGTHS)
         return self.fd(), self.buffer(length), length
 
+    def put(self, where, content):
+        """Bytes are written, by words."""
+        for k in range(0, len(content), 4):
+            self.code += b"\xc7\x05" + word(where + k & 0xFFFFFFFF) + content[k:k + 4].ljust(4, b"\0")
+
+    def fill_with(self, where, length):
+        """So many letters are written."""
+        self.set(EDI, where)
+        self.set(ECX, length)
+        self.set(EAX, 0x78787878)
+        self.code += b"\xf3\xaa"
+
+    def path(self):
+        """Where a path stands: one of the disk's, or like one, or too long, or without a NUL before the end of its page, or anything."""
+        chance = self.chance
+        kind = chance.random()
+        where = self.usually(0.8, [self.log_at + 0xC00, STACK + 0x300], self.page_ends) + chance.randrange(-9, 9)
+        if kind < 0.7:
+            path = self.usually(0.9, self.paths + [b"image"], [b"", b"/", b"//"])
+            path = chance.choice([path] * 6 + [b"/" + path, path + b"/", path.replace(b"/", b"//"), path + b"/x", path + b"x"])
+            self.put(where, path[:300] + b"\0")
+        elif kind < 0.8:
+            where = self.log_at + 0x900 + chance.randrange(9)
+            self.fill_with(where, chance.choice([127, 128, 300, 1023, 1024, 1030]))
+        elif kind < 0.9:
+            end = chance.choice(self.page_ends + PAGES[3:6] + PAGES[7:]) + 0x1000
+            where = end - chance.randint(1, 12)
+            if end not in [each + 0x1000 for each in self.page_ends] and chance.random() < 0.9:
+                self.ask(6, end - 0x1000, 1)
+            self.fill_with(where, end - where)
+        else:
+            where = chance.choice(ODD_PAGES + ENDS + PAGES) - chance.choice([0, 0, 1, 4]) & 0xFFFFFFFF
+        return where
+
     def service(self):
         chance = self.chance
         number = chance.choices(list(ANY), list(ANY.values()))[0]
@@ -94,6 +129,7 @@ class LibraryProgram:
             14: lambda: (self.fd(), chance.choice([0, 7, 0x7FFFFFFF, 0x80000000])),
             15: lambda: (self.fd(), self.buffer(136)),
             16: lambda: (self.fd(), chance.choice([0, 7, 0x7FFFFFFF, 0x80000000])),
+            17: lambda: (self.path(),),
             19: lambda: (self.usually(0.9, FDS, ODD_FDS), self.usually(0.9, FDS, ODD_FDS)),
         }.get(number, tuple)()
         self.ask(chance.choice(NUMBERS) if number == 99 else number, *given)
@@ -140,6 +176,12 @@ class LibraryProgram:
         self.code += b"\x74" + bytes([begin - len(self.code) - 2 & 255])
         self.log()
 
+    def give_back(self, most):
+        """Some of these pages."""
+        for _ in range(self.chance.randint(0, most)):
+            self.code += b"\x81\xee" + word(0x1000) + b"\x89\xf2"  # sub 0x1000 from esi, mov esi to edx
+            self.ask(7)
+
     def end(self):
         """Tells what it has got, and ends in one way or another."""
         chance = self.chance
@@ -177,6 +219,11 @@ class LibraryProgram:
             act()
         if chance.random() < 0.2:
             self.fill()
+            if chance.random() < 0.7:
+                self.give_back(6)
+                for _ in range(chance.randint(2, 6)):
+                    self.ask(17, self.path())
+                    self.log()
             for _ in range(6):
                 self.service()
         self.end()
@@ -191,8 +238,8 @@ class ForkProgram(LibraryProgram):
     page_ends = [0x803000, 0x804000, 0x805000]
     depth_max = 3
 
-    def __init__(self, chance):
-        super().__init__(chance)
+    def __init__(self, chance, paths):
+        super().__init__(chance, paths)
         self.depth, self.ids = 0, []  # where in the log ids stand
         self.fills_table = False  # whether it wants as many frames as there are slots for children
 
@@ -334,9 +381,7 @@ class ForkProgram(LibraryProgram):
             self.ask(4)
             self.write()
         self.fill()
-        for _ in range(chance.randint(0, 14)):
-            self.code += b"\x81\xee" + word(0x1000) + b"\x89\xf2"  # sub 0x1000 from esi, mov esi to edx
-            self.ask(7)
+        self.give_back(14)
         for _ in range(chance.choice([1, 1, 2, 3])):
             self.fork()
             chance.choice([self.write, self.hand_over])()

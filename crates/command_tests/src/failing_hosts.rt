@@ -1,7 +1,9 @@
 //! Hosts of which a call fails.
 
-use crate::hosts::{ask, disk_with, holds, host_of, len_of, same_bytes, same_status};
-use crate::images::{HI, PRINTS};
+use crate::hosts::{
+    ask, disk_with, disk_with_both, holds, host_of, len_of, same_bytes, same_status,
+};
+use crate::images::{HI, PRINTS, REMOVES};
 use jos_cli::Outcome;
 use jos_host::MemHost;
 use std::alloc::{AllocError, Global};
@@ -118,6 +120,41 @@ fn a_call_that_fails_in_a_run_leaves_its_turns(rt: HostRuntime) -> Result<(), Fa
     let disk = disk_with(rt.alloc(), "h", &PRINTS)?;
     for (call, turns) in [(0, 0), (1, 0), (2, 0), (3, 0), (4, 2), (5, 2)] {
         check_turns(&rt, rt.alloc(), &disk, call, turns)?;
+    }
+    Ok(())
+}
+
+/// The name of the file that is on the disk, the number of the call that fails, and then the exit status and the console.
+type Removal = (&'static str, u64, u8, &'static [u8]);
+
+// `f` is removed by a program that prints a letter before that and one behind it. The calls up to the first letter are the first five of
+// a run; then the blocks 1, 3 and 2 are read, the other letter is printed, the blocks 2 and 3 are written, and the note is told. Where no
+// such file is on the disk the blocks 1 and 3 are read, and nothing is written: the note is behind the letter.
+#[rattlefmt::skip]
+static REMOVALS: [Removal; 6] = [
+    ("f", 7, 7, b"A"),
+    ("f", 9, 7, b"AB"),
+    ("f", 10, 7, b"AB"),
+    ("f", 12, 0, b"AB"),
+    ("g", 8, 7, b"AB"),
+    ("g", 9, 0, b"AB"),
+];
+
+fn check_removal(rt: &impl Abort, alloc: Global, removal: &Removal) -> Result<(), AllocError> {
+    let (name, call, status, console) = *removal;
+    let disk = disk_with_both(alloc, &REMOVES, name)?;
+    let mut host = host_of(alloc, &[("d", disk.as_slice())], &[call])?;
+    let outcome = ask(alloc, &["run", "--frames=300", "d", "h"], &mut host);
+    let case = format!(in alloc; "{name}, call {call}")?;
+    same_status(rt, outcome.status(), status, &case);
+    same_bytes(rt, host.console(), console, &case);
+    Ok(())
+}
+
+#[test]
+fn a_call_for_a_block_that_fails_ends_a_run(rt: HostRuntime) -> Result<(), Fail> {
+    for removal in &REMOVALS {
+        check_removal(&rt, rt.alloc(), removal)?;
     }
     Ok(())
 }

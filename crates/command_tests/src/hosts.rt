@@ -47,6 +47,17 @@ pub(crate) fn disk_with(alloc: Global, name: &str, bytes: &[u8]) -> Result<Vec<u
     Vec::from_slice(alloc, host.file("d").unwrap_or(b""))
 }
 
+/// A disk of 16 blocks with an image, `h`, and a file of two bytes behind it.
+pub(crate) fn disk_with_both(
+    alloc: Global,
+    image: &[u8],
+    name: &str,
+) -> Result<Vec<u8>, AllocError> {
+    let mut host = host_of(alloc, &[("h", image), (name, b"hi")], &[])?;
+    let _ = ask(alloc, &["mkfs", "d", "16", "h", name], &mut host);
+    Vec::from_slice(alloc, host.file("d").unwrap_or(b""))
+}
+
 /// How many bytes a file has; 0 where there is none.
 pub(crate) fn len_of(host: &MemHost, name: &str) -> usize {
     host.file(name).unwrap_or(b"").len()

@@ -1,7 +1,7 @@
 //! What only an outcome tells: turns, the first refusal, and the places of words.
 
-use crate::hosts::{ask, disk_with, holds, host_of};
-use crate::images::{FILLS, FORKS_AND_SYNCS, HI, JUMPS, PRINTS, SYNCS};
+use crate::hosts::{ask, disk_with, disk_with_both, holds, host_of, same_bytes};
+use crate::images::{FILLS, FORKS_AND_SYNCS, HI, JUMPS, PRINTS, REMOVES, SYNCS};
 use jos_cli::{Outcome, Refusal, Turn};
 use std::alloc::{AllocError, Global};
 use std::process::Abort;
@@ -116,6 +116,61 @@ fn two_ask_the_file_server_at_once(rt: HostRuntime) -> Result<(), Fail> {
     let mut host = host_of(rt.alloc(), &files, &[])?;
     let outcome = ask(rt.alloc(), &["run", "--schedule=s", "d", "h"], &mut host);
     check_steps_of_two(&rt, turns_of(&outcome));
+    Ok(())
+}
+
+/// How many steps of the server's a run has behind its turns.
+fn closing_of(outcome: &Outcome) -> Option<u32> {
+    match outcome {
+        Outcome::Ran(report, _) => Some(report.closing),
+        _ => None,
+    }
+}
+
+/// The byte at a place of the disk behind the removal: the file's block is free, and its record is empty and names none.
+fn byte_behind(place: usize, byte: u8) -> u8 {
+    match place {
+        0x2000 => 0xe0,
+        0x3100 | 0x3180 | 0x3188 => 0,
+        _ => byte,
+    }
+}
+
+/// What becomes of the disk.
+fn disk_behind(alloc: Global, disk: &[u8]) -> Result<Vec<u8>, AllocError> {
+    let mut behind = Vec::new(alloc);
+    for (place, byte) in disk.iter().enumerate() {
+        behind.push(byte_behind(place, *byte))?;
+    }
+    Ok(behind)
+}
+
+/// Ends the test where a run of so many steps at most does not have so many behind its turns, or leaves another disk.
+fn check_closing(
+    rt: &impl Abort,
+    alloc: Global,
+    steps: &str,
+    disk: &[u8],
+    closing: u32,
+    left: &[u8],
+) -> Result<(), AllocError> {
+    let mut host = host_of(alloc, &[("d", disk)], &[])?;
+    let outcome = ask(alloc, &["run", "--frames=300", steps, "d", "h"], &mut host);
+    holds(rt, closing_of(&outcome) == Some(closing), steps);
+    same_bytes(rt, host.file("d").unwrap_or(b""), left, steps);
+    Ok(())
+}
+
+// Up to the step that asks there are two of the server's, seven of the program's, one that prints the letter, and ten of the service, whose
+// path is two bytes that lie in no whole word. From there on the server reads the word and who sent it, looks the file up in 26 steps, looks
+// at 1,024 places, removes it in 26 steps, and acts.
+#[test]
+fn a_file_is_removed_where_it_was_asked_for(rt: HostRuntime) -> Result<(), Fail> {
+    let disk = disk_with_both(rt.alloc(), &REMOVES, "f")?;
+    let behind = disk_behind(rt.alloc(), &disk)?;
+    check_closing(&rt, rt.alloc(), "--steps=19", &disk, 0, &disk)?;
+    check_closing(&rt, rt.alloc(), "--steps=20", &disk, 1079, &behind)?;
+    check_closing(&rt, rt.alloc(), "--steps=2000", &disk, 0, &behind)?;
     Ok(())
 }
 

@@ -31,7 +31,7 @@ use Rattle.fs_blocks.specs.CachePlans.{ask_by, block_of, fetching, flushing, nex
 use Rattle.fs_cache.specs.CacheStands.{CacheAt, CacheStands, CacheView, HoldsBlock, cache_view, cached_at, cached_in, was_used}
 use Rattle.fs_cache.specs.CacheSteps.{Caller, FilesAfter, HasGone, by_word, stopped, IsReply, KeepsCache}
 use Rattle.fs_cache.specs.CacheSteps.{FetchTells, FetchTold, FlushTells, FlushTold, IsBlockStep, as_cached, as_flushed}
-use Rattle.fs_cache.specs.CacheSteps.{cache_state, fetch_left, fetch_state, flush_left, flush_state, gone_on, left_in, row_in}
+use Rattle.fs_cache.specs.CacheSteps.{cache_state, fetch_left, fetch_state, flush_left, flush_state, gone_on, is_found, left_in, row_in, wait_left}
 use Rattle.fs_cache.proofs.CacheBegins.{IsUnderWay, fetch_caches, fetch_fetches, fetch_goes, fetch_stands}
 use Rattle.fs_cache.proofs.CacheBegins.{fetch_tells, FetchEnds, goes_on, gives_up}
 use Rattle.fs_cache.proofs.CacheBegins.{flush_caches, flush_goes, flush_stands, own_ask}
@@ -40,6 +40,8 @@ use Rattle.fs_cache.proofs.Interfaces.{BlockIsRead, BlockIsWritten, CallerStays,
 use Rattle.fs_cache.proofs.Interfaces.{LoadsGive, PageIsMapped, PageIsTaken, PageIsUnmapped}
 use Rattle.fs_cache.proofs.Interfaces.{RegionIsRead, view_in}
 use Rattle.fs_cache.proofs.Loads.{row_past}
+use Rattle.fs_cache.proofs.FallsHeld.{held_falls}
+use Rattle.fs_cache.proofs.Waits.{found_by, wait_falls}
 use Rattle.fs_cache.proofs.Views.{DoneAt, EndsRightly, FetchFalls, FlushFalls, StandsBehind, left_by}
 
 -- what is shown of the calls, kind by kind, and of what they do to what is seen
@@ -320,6 +322,18 @@ flush_from s n place state words place_is state_is words_is =
     let known : state ≡ cache_state s n = state_is ∙ ap (λ (w : List ℕ). state_in w) words_is in
     λ i. record { place = (place_is ∙ ap (λ (x : CacheState). flushing x.place) known) i; hand = (known i).hand }
 
+-- whether a block was found, by what the code has found
+pub not_found_there : (s : KernelState) (n block : ℕ) (state : CacheState) (words : List ℕ) → state ≡ state_in words → words ≡ (slot_at s n).extra →
+    is_found block state.place ≡ false → is_found block (cache_state s n).place ≡ false
+not_found_there s n block state words state_is words_are off =
+    sym (ap (λ (x : CacheState). is_found block x.place) (state_is ∙ ap (λ (w : List ℕ). state_in w) words_are)) ∙ off
+
+pub found_there : (s : KernelState) (n block : ℕ) (state : CacheState) (words : List ℕ) → state ≡ state_in words → words ≡ (slot_at s n).extra →
+    is_found block state.place ≡ true → (cache_state s n).place ≡ at.Found block
+found_there s n block state words state_is words_are on =
+    found_by (cache_state s n).place block
+    (sym (ap (λ (x : CacheState). is_found block x.place) (state_is ∙ ap (λ (w : List ℕ). state_in w) words_are)) ∙ on)
+
 -- ---- a step towards a block
 
 module _ (p : Pieces) (block : ℕ) (c : Caller) (tells : Told) (output : Output) (below : block < CACHE_BLOCKS) where
@@ -375,32 +389,40 @@ module _ (p : Pieces) (block : ℕ) (c : Caller) (tells : Told) (output : Output
               ((p.ends_rightly d e v x.view fetch_place fetch_hand x.word (fetch_at before cache) x.done).0 (sym x.tells_is ∙ is)),
         )
 
-    fetch_fell : tells ≡ told.Going → FetchTells block cached.Going c.slot (from_to c.state after)
-    fetch_fell is =
+    fetch_fell : is_found block (cache_state c.state c.slot).place ≡ false → tells ≡ told.Going →
+        FetchTells block cached.Going c.slot (from_to c.state after)
+    fetch_fell not_found is =
         let d = disk_in before c.disk in
         let e = disk_in x.files c.disk in
         let v = view_in c.state c.slot in
-        subst (λ (k : ℕ). k < left_in fetch_left fetch_place c.state c.slot)
-        (sym (left_behind fetch_left c before fetch_place fetch_hand behind tells after x))
-        (p.fetch_falls d e v x.view fetch_place fetch_hand x.word (fetch_at before cache) x.done
-        (fetch_fetches (cache_state c.state c.slot).place block) (sym x.tells_is ∙ is))
+        let fell = p.fetch_falls d e v x.view fetch_place fetch_hand x.word (fetch_at before cache) x.done
+        (fetch_fetches (cache_state c.state c.slot).place block) (sym x.tells_is ∙ is) in (
+          subst (λ (k : ℕ). k < left_in fetch_left fetch_place c.state c.slot)
+              (sym (left_behind fetch_left c before fetch_place fetch_hand behind tells after x)) fell,
+          subst (λ (k : ℕ). k < left_in (wait_left block) (cache_state c.state c.slot).place c.state c.slot)
+              (sym (left_behind (wait_left block) c before fetch_place fetch_hand behind tells after x))
+              (wait_falls (cache_state c.state c.slot).place fetch_hand x.word block v x.view not_found (sym x.tells_is ∙ is)
+              (held_falls d e v x.view fetch_place fetch_hand x.word (fetch_at before cache) x.done
+              (fetch_fetches (cache_state c.state c.slot).place block))),
+        )
 
     fetch_not_clean : FetchEnds fetch_place x.word (next_by fetch_place fetch_hand x.word).told → tells ≡ told.Clean → ⊥
     fetch_not_clean (goes_on going) is = subst IsGoing (sym going ∙ sym x.tells_is ∙ is) tt
     fetch_not_clean (gives_up b place_is refused told_is) is = subst IsNoPage (sym told_is ∙ sym x.tells_is ∙ is) tt
 
-    fetch_is : (t : Told) → tells ≡ t → FetchTells block (as_cached t) c.slot (from_to c.state after)
-    fetch_is told.NoPage is = fetch_gave_up fetch_ends is
-    fetch_is told.Going is = fetch_fell is
-    fetch_is told.Clean is = absurd (fetch_not_clean fetch_ends is)
+    fetch_is : is_found block (cache_state c.state c.slot).place ≡ false → (t : Told) → tells ≡ t →
+        FetchTells block (as_cached t) c.slot (from_to c.state after)
+    fetch_is not_found told.NoPage is = fetch_gave_up fetch_ends is
+    fetch_is not_found told.Going is = fetch_fell not_found is
+    fetch_is not_found told.Clean is = absurd (fetch_not_clean fetch_ends is)
 
   pub fetch_is_told : (files : Around (Option Files)) (after : KernelState) → HasBlocks files.before c.disk → IsInOrder after →
-      HasGone (fetch_state c.state c.slot block) c files tells after output →
+      HasGone (fetch_state c.state c.slot block) c files tells after output → is_found block (cache_state c.state c.slot).place ≡ false →
       FetchTold block (Ok (as_cached tells)) c.disk c.slot (from_to c.state after) files.before
-  fetch_is_told files after whole in_order gone before is cache =
+  fetch_is_told files after whole in_order gone not_found before is cache =
       let x = fetch_stepped before files.after after (subst (λ (f : Option Files). HasBlocks f c.disk) is whole) in_order cache
       (subst (λ (f : Option Files). HasGone (fetch_state c.state c.slot block) c (from_to f files.after) tells after output) is gone) in
-      fetch_is before files.after after cache x tells refl
+      fetch_is before files.after after cache x not_found tells refl
 
 pub fetch_made : (block : ℕ) (c : Caller) (output : Output) (files : Around (Option Files)) (after : KernelState) (t : Told) →
     HasGone (fetch_state c.state c.slot block) c files t after output → IsBlockStep block c (Ok (as_cached t)) files after output

@@ -57,7 +57,7 @@ none_most n = omega arith
 blocks_most : (n b k : ℕ) → k ≤ 5 → 5 * (n - b) + k ≤ 5 * n + 5 + 0
 blocks_most n b k few = omega (arith, few)
 
-flush_most : (place : CachePlace) (c u : ℕ) → flush_left place c u ≤ 5 * CACHE_BLOCKS + 5 + fetch_left place c u
+pub flush_most : (place : CachePlace) (c u : ℕ) → flush_left place c u ≤ 5 * CACHE_BLOCKS + 5 + fetch_left place c u
 flush_most at.Resting c u = none_most (5 * CACHE_BLOCKS + 5)
 flush_most (at.Found b) c u = none_most (5 * CACHE_BLOCKS + 5)
 flush_most (at.LookingRegion b) c u = same_most (5 * CACHE_BLOCKS + 5) (fetch_left (at.LookingRegion b) c u)

@@ -1,6 +1,6 @@
 -- How many blocks are cached, and how many of their pages were used, where one block has another entry.
 use Rattle.std.proofs.Common.{◌≡◌, ◌≢◌, ◌∙◌, ◌<◌, ◌≤◌, ◌+◌, ◌*◌, ℕ, Bool, true, false, is_some, Option, Some, None, inl, inr, refl, sym, ap, arith}
-use Rattle.std.proofs.lemmas.Bool.{cases_eq}
+use Rattle.std.proofs.lemmas.Bool.{cases_eq, cases_lt}
 use Rattle.jos_base.specs.Environments.{bit_of}
 use Rattle.jos_base.specs.Reach.{Entry}
 use Rattle.jos_base.proofs.Sums.{total-change, total-le, total-mono, total-same}
@@ -95,3 +95,53 @@ unfolding cached_count
 set_none v w n set below is =
     count-off CACHE_BLOCKS n (λ m. is_some (w.row m)) (λ m. is_some (v.row m)) below
     (λ m ne. ap is_some (set.rest m ne)) (ap is_some set.set) is
+
+-- ---- of one row, where another entry stands
+
+at_one : (n k : ℕ) (g h : ℕ → Bool) → ((q : ℕ) → q ≢ k → g q ≡ h q) → count_below n g ≤ count_below n h + bit_of (g k)
+at_one n k g h same = elim (cases_lt k n) [
+  | inl lt ↦
+      let change = total-change n k (λ q. bit_of (g q)) (λ q. bit_of (h q)) lt (λ q ne. ap bit_of (same q ne)) in
+      omega (arith, change)
+  | inr past ↦
+      let all = total-same n (λ q. bit_of (g q)) (λ q. bit_of (h q)) (λ q lt. ap bit_of (same q (λ is. absurd (omega (arith, is, lt, past))))) in
+      omega (arith, all)
+]
+
+one_more : (n k : ℕ) (g h : ℕ → Bool) → ((q : ℕ) → q ≢ k → g q ≡ h q) → count_below n g ≤ count_below n h + 1
+one_more n k g h same =
+    let one = at_one n k g h same in
+    let bit = bit-le (g k) in
+    omega (arith, one, bit)
+
+no_more : (n k : ℕ) (g h : ℕ → Bool) → ((q : ℕ) → q ≢ k → g q ≡ h q) → g k ≡ false → count_below n g ≤ count_below n h
+no_more n k g h same off =
+    let one = at_one n k g h same in
+    let bit : bit_of (g k) ≡ 0 = ap bit_of off in
+    omega (arith, one, bit)
+
+module _ (v w : EntryRow) (k : ℕ) (rest : (m : ℕ) → m ≢ k → w m ≡ v m) where
+  pub cached_one_more : cached_count w ≤ cached_count v + 1
+  unfolding cached_count
+  cached_one_more = one_more CACHE_BLOCKS k (λ m. is_some (w m)) (λ m. is_some (v m)) (λ m ne. ap is_some (rest m ne))
+
+  pub cached_no_more : w k ≡ None → cached_count w ≤ cached_count v
+  unfolding cached_count
+  cached_no_more none = no_more CACHE_BLOCKS k (λ m. is_some (w m)) (λ m. is_some (v m)) (λ m ne. ap is_some (rest m ne)) (ap is_some none)
+
+  pub cached_as_many : is_some (w k) ≡ is_some (v k) → cached_count w ≡ cached_count v
+  unfolding cached_count
+  cached_as_many same =
+      count-same CACHE_BLOCKS (λ m. is_some (w m)) (λ m. is_some (v m))
+      (λ m. (elim (cases_eq m k) [
+        | inl e ↦ ap (λ q. is_some (w q)) e ∙ same ∙ sym (ap (λ q. is_some (v q)) e)
+        | inr ne ↦ ap is_some (rest m ne)
+      ]))
+
+  pub used_one_more : used_count w ≤ used_count v + 1
+  unfolding used_count
+  used_one_more = one_more CACHE_BLOCKS k (λ m. was_used (w m)) (λ m. was_used (v m)) (λ m ne. ap was_used (rest m ne))
+
+  pub used_no_more : was_used (w k) ≡ false → used_count w ≤ used_count v
+  unfolding used_count
+  used_no_more off = no_more CACHE_BLOCKS k (λ m. was_used (w m)) (λ m. was_used (v m)) (λ m ne. ap was_used (rest m ne)) off

@@ -6,6 +6,8 @@ pub mod MovesRound
 pub mod CacheBegins
 pub mod StepWhole
 pub mod DiskTouched
+pub mod FallsHeld
+pub mod Waits
 pub mod CacheLaw
 pub mod PagesPut
 pub mod Pages

@@ -1,6 +1,6 @@
 -- A step of the cache: what is asked is done by one call, and the cache goes on by the reply. What a block holds stays, and the steps
 -- come to an end.
-use Rattle.std.specs.Prelude.{◌≡◌, ◌≢◌, ◌<◌, ℕ, ◌+◌, ◌-◌, ◌*◌, ◌^◌, true, false, is_some, [], Option, Some, None, Result, Ok, Err}
+use Rattle.std.specs.Prelude.{◌≡◌, ◌≢◌, ◌<◌, ℕ, ◌+◌, ◌-◌, ◌*◌, ◌^◌, ◌==◌, Bool, true, false, is_some, [], Option, Some, None, Result, Ok, Err}
 use Rattle.jos_host.specs.declared.host.Failed.{Failed}
 use Rattle.jos_host.specs.Files.{Files}
 use Rattle.jos_host.specs.Frames.{Around}
@@ -27,7 +27,7 @@ use Rattle.fs_cache.specs.declared.steps.Cached.{Cached}
 use Rattle.fs_cache.specs.declared.steps.Cached.TheVariants as cached
 use Rattle.fs_cache.specs.declared.steps.Flushed.{Flushed}
 use Rattle.fs_cache.specs.declared.steps.Flushed.TheVariants as flushed
-use Rattle.fs_blocks.specs.CachePlaces.{state_in, with_state}
+use Rattle.fs_blocks.specs.CachePlaces.{block_at, state_in, with_state}
 use Rattle.fs_blocks.specs.CachePlans.{ask_at, next_at, fetching, flushing}
 use Rattle.fs_cache.specs.CacheStands.{CacheAt, cached_in, was_used}
 
@@ -152,6 +152,76 @@ fetch_left (at.Freeing block) cached used = giving_left cached used + 2
 fetch_left (at.TakingLast block) cached used = 4
 fetch_left _ cached used = 0
 
+-- a block is being fetched
+abbrev pub is_fetching : CachePlace → Bool
+is_fetching at.Resting = false
+is_fetching (at.Found block) = false
+is_fetching (at.FlushRegion block) = false
+is_fetching (at.FlushPage block) = false
+is_fetching (at.FlushWriting block) = false
+is_fetching (at.FlushSettling block) = false
+is_fetching _ = true
+
+-- this block was found
+abbrev pub is_found : ℕ → CachePlace → Bool
+is_found block (at.Found other) = other == block
+is_found block _ = false
+
+-- What is held back for the pages that are cached: each may be given up once, and each that was used is passed once in a round. Where a page is taken,
+-- or used, that is more, and no more than one page's.
+abbrev pub steps_to_give : ℕ
+steps_to_give = steps_of_round + 10
+
+abbrev pub held_left : ℕ → ℕ → ℕ
+held_left cached used = cached * steps_to_give + used * steps_of_round
+
+abbrev pub steps_to_seek : ℕ
+steps_to_seek = steps_to_give + steps_of_round + 10
+
+abbrev pub steps_to_take : ℕ
+steps_to_take = steps_to_seek + steps_of_round
+
+abbrev pub steps_to_begin : ℕ
+steps_to_begin = steps_to_take + 2
+
+-- how many steps may come until a block that is wanted is there, with all that is held back behind them
+abbrev pub near_left : CachePlace → ℕ → ℕ → ℕ
+near_left (at.LookingRegion block) cached used = held_left cached used + (steps_to_take + 2)
+near_left (at.LookingPage block) cached used = held_left cached used + (steps_to_take + 1)
+near_left (at.Taking block) cached used = held_left cached used + steps_to_take
+near_left (at.Filling block) cached used = held_left cached used + (steps_of_round + 2)
+near_left (at.Settling block) cached used = held_left cached used + 1
+near_left (at.HandRegion block left) cached used = held_left cached used + (steps_to_seek + 2 * left + 3)
+near_left (at.HandPage block left) cached used = held_left cached used + (steps_to_seek + 2 * left + 2)
+near_left (at.WritingBack block) cached used = held_left cached used + (steps_to_seek + 2)
+near_left (at.Passing block) cached used = held_left cached used + (steps_to_seek + 1)
+near_left (at.Moving block) cached used = held_left cached used + (steps_to_seek + 3)
+near_left (at.Leaving block) cached used = held_left cached used + (steps_of_round + 3)
+near_left (at.Freeing block) cached used = held_left cached used + (steps_to_seek + 2)
+near_left (at.TakingLast block) cached used = held_left cached used + (steps_to_seek + 3)
+near_left _ cached used = held_left cached used
+
+-- the same where another may be under way, which is done first; and of no block that is known
+abbrev pub wait_by : Bool → Bool → Bool → ℕ → ℕ
+wait_by true true found left = left
+wait_by true false found left = left + steps_to_begin
+wait_by false own true left = left
+wait_by false own false left = left + steps_to_begin
+
+abbrev pub wait_left : ℕ → CachePlace → ℕ → ℕ → ℕ
+wait_left block place cached used =
+    wait_by (is_fetching place) (block_at place == block) (is_found block place) (near_left place cached used)
+
+abbrev pub other_left : CachePlace → ℕ → ℕ → ℕ
+other_left place cached used = near_left place cached used + steps_to_begin
+
+-- the most of them, and of a flush
+abbrev pub WAIT_STEPS_MAX : ℕ
+WAIT_STEPS_MAX = 2 ^ 36
+
+abbrev pub FLUSH_STEPS_MAX : ℕ
+FLUSH_STEPS_MAX = 2 ^ 51
+
 -- the same until no page is dirty
 abbrev pub flush_left : CachePlace → ℕ → ℕ → ℕ
 flush_left at.Resting cached used = 5 * CACHE_BLOCKS + 5
@@ -167,13 +237,15 @@ left_in number place s n = number place (cached_count (row_in s n)) (used_count 
 
 -- ---- what a step tells
 
--- A block that is ready has its page. Where there is more to do, a number is less than before. No
--- page is to be had only where one was refused in this step, and no block is cached.
+-- A block that is ready has its page. Where there is more to do, a number is less than before, and so is that of a wait, where another block may
+-- be under way. No page is to be had only where one was refused in this step, and no block is cached.
 abbrev pub FetchTells : ℕ → Cached → ℕ → Around KernelState → Type 0
 FetchTells block (cached.Ready va) n states = is_some (row_in states.before n block) ≡ true
 FetchTells block cached.Going n states =
-    left_in fetch_left (cache_state states.after n).place states.after n
-    < left_in fetch_left (fetching (cache_state states.before n).place block) states.before n
+    (left_in fetch_left (cache_state states.after n).place states.after n
+    < left_in fetch_left (fetching (cache_state states.before n).place block) states.before n)
+    × (left_in (wait_left block) (cache_state states.after n).place states.after n
+    < left_in (wait_left block) (cache_state states.before n).place states.before n)
 FetchTells block cached.NoPage n states =
     (states.before.refusals < 2 ^ 64 - 1 → states.before.refusals < states.after.refusals)
     × ((m : ℕ) → row_in states.after n m ≡ None)

@@ -127,6 +127,16 @@ fn as_flushed(told: Told) -> Flushed
     }
 }
 
+/// Whether this block was found.
+fn is_found(place: CachePlace, block: u32) -> bool
+    ensures { result ≡ cache.is_found block place }
+{
+    match place {
+        CachePlace::Found { block: found } => found == block,
+        _ => false,
+    }
+}
+
 /// Makes a step towards a block in the cache. Nothing is done where it is ready; else the step is one call. What is under way for
 /// another block is done first. Of the host's files at most a block of the disk's is read or written, whether or not the host fails
 /// (`disk_only`). (MIT 6.828, lab 5: fs/bc.c, bc_pgfault)
@@ -158,10 +168,8 @@ pub fn block_step<O: UserOs, H: Host>(
     ensures cause { HasCause (H.faults host.old) (H.faults host.new) result }
 {
     let state = find_state(&os.extra());
-    if let CachePlace::Found { block: found } = state.place {
-        if found == block {
-            return Ok(Cached::Ready(address_of(block)));
-        }
+    if is_found(state.place, block) {
+        return Ok(Cached::Ready(address_of(block)));
     }
     let place = fetching(state.place, block);
     match step(os, host, CacheState { place, ..state }) {

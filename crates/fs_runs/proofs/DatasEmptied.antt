@@ -2,7 +2,7 @@
 use Rattle.std.proofs.Common.{refl, arith}
 use Rattle.fs_acts.specs.BlockActs.{empty_it, written}
 use Rattle.fs_jobs.specs.declared.place.FilePlace.TheVariants as file
-use Rattle.fs_runs.specs.TreeRuns.{at_once}
+use Rattle.fs_runs.proofs.Leads.{at_once}
 use Rattle.fs_runs.proofs.Pieces.{RecordsAreEmptied, at_file}
 
 pub records_are_emptied : RecordsAreEmptied

@@ -16,9 +16,9 @@ use Rattle.fs_jobs.specs.declared.place.Job.{Job}
 use Rattle.fs_changes.specs.ChangePlans.{bitmap_word, free_in_word, is_free_bit, more_blocks}
 use Rattle.fs_jobs.specs.declared.place.TreeState.{TreeState}
 use Rattle.fs_jobs.specs.TreeBounds.{is_bounded, is_bounded_changed, is_bounded_job, is_count, is_place}
-use Rattle.fs_runs.specs.TreeRuns.{AreSmall, Memory, at_once}
+use Rattle.fs_runs.specs.TreeRuns.{AreSmall, Memory}
 use Rattle.fs_changes.proofs.FreesBits.{free-bit, is_free_block}
-use Rattle.fs_runs.proofs.Leads.{Leads, here, leads_on, leads_to_end, on}
+use Rattle.fs_runs.proofs.Leads.{Leads, at_once, here, leads_on, leads_to_end, on}
 use Rattle.fs_runs.proofs.Numbers.{file-bounded}
 use Rattle.fs_runs.proofs.Pieces.{EndsWith, FreeIsCounted, IsCounted, at_file}
 

@@ -20,6 +20,7 @@ use Rattle.fs_jobs.specs.TreeBounds.{is_bounded_job, is_place}
 use Rattle.fs_runs.specs.TreeRuns.{FindsAreLooks, HasPath, IsJobOf, IsOnItsWay, IsSound, JobsAreActs, Memory, begun_with, bytes_given, found_place}
 use Rattle.fs_runs.specs.TreeRuns.{opens, reads, removes, sizes, stats, writes}
 use Rattle.fs_walks.specs.WalkPlans.{begun}
+use Rattle.fs_runs.proofs.StepsCounted.{ends-few, ends-of, with_path, with_super}
 use Rattle.fs_runs.proofs.Leads.{Leads, leads_on, leads_to_end}
 use Rattle.fs_runs.proofs.Pieces.{EndsWith, IsWalking, at_walk, finding, opening}
 use Rattle.fs_runs.proofs.JobsFacts.{Found, Pieces, facts, home-small}
@@ -163,11 +164,11 @@ job-acts : Pieces → (count : ℕ) (is_open : List ℕ → Bool) (m : Memory) �
     IsOnItsWay count is_open act m (begun_with j) m
 unfolding plan_of
 job-acts pieces count is_open m sound act j (opens path mode has_path) =
-    on-its-way count is_open (open_path path mode) m (at_walk (job.Open mode) 0 (walk.Path 0 0)) (open-acts pieces count mode path m sound has_path)
+    on-its-way count is_open (open_path path mode) m (job.Open mode) (walk.Path 0 0) sound with_path (open-acts pieces count mode path m sound has_path)
 job-acts pieces count is_open m sound act j (removes path way home led regular closed) =
     let found = led-found count path way home m sound led in
     let acts = remove-acts pieces count way home m found regular in
-    on-its-way count is_open (remove_path path) m (at_walk (job.Remove home) 0 walk.Magic)
+    on-its-way count is_open (remove_path path) m (job.Remove home) walk.Magic sound with_super
     (behind-super pieces count (job.Remove home) home m (remove_led is_open m.disk (led_to m.disk path)) sound
     (place-small pieces count way home m found) refl
     (subst (λ (l : Led). Acts count (remove_led is_open m.disk l) m (at_kind (job.Remove home) count home) m) (sym led)
@@ -177,7 +178,7 @@ job-acts pieces count is_open m sound act j (reads way home at n stands low) =
     let found : Found count way home m = record { sound = sound; stands = stands } in
     let it : Job = job.Read home at n in
     let bounded : is_bounded_job it ≡ true = low-bounded home at (place-small pieces count way home m found) low in
-    on-its-way count is_open (read_file way at n) m (at_walk it 0 walk.Magic)
+    on-its-way count is_open (read_file way at n) m it walk.Magic sound with_super
     (behind-super pieces count it home m (plan_of is_open m.disk (read_file way at n)) sound bounded refl
     (acts-file pieces count it way home m (λ place. read_plan m.disk place at n) found bounded
     (λ regular. read-acts pieces count way home at n m found regular low)))
@@ -185,7 +186,7 @@ job-acts pieces count is_open m sound act j (writes way home at n stands low few
     let found : Found count way home m = record { sound = sound; stands = stands } in
     let it : Job = job.Write home at n in
     let bounded : is_bounded_job it ≡ true = low-bounded home at (place-small pieces count way home m found) low in
-    on-its-way count is_open (write_file way at (bytes_given m.page n)) m (at_walk it 0 walk.Magic)
+    on-its-way count is_open (write_file way at (bytes_given m.page n)) m it walk.Magic sound with_super
     (behind-super pieces count it home m (plan_of is_open m.disk (write_file way at (bytes_given m.page n))) sound bounded refl
     (acts-file pieces count it way home m (λ place. write_plan m.disk place at (bytes_given m.page n)) found bounded
     (λ regular. write-acts pieces count way home at n m found regular low few)))
@@ -193,7 +194,7 @@ job-acts pieces count is_open m sound act j (sizes way home size stands) =
     let found : Found count way home m = record { sound = sound; stands = stands } in
     let it : Job = job.SetSize home size in
     let bounded : is_bounded_job it ≡ true = place-small pieces count way home m found in
-    on-its-way count is_open (set_file_size way size) m (at_walk it 0 walk.Magic)
+    on-its-way count is_open (set_file_size way size) m it walk.Magic sound with_super
     (behind-super pieces count it home m (plan_of is_open m.disk (set_file_size way size)) sound bounded refl
     (acts-file pieces count it way home m (λ place. size_plan m.disk place size) found bounded
     (λ regular. size-acts pieces count way home size m found regular)))
@@ -201,7 +202,7 @@ job-acts pieces count is_open m sound act j (stats way home stands) =
     let found : Found count way home m = record { sound = sound; stands = stands } in
     let it : Job = job.Stat home in
     let bounded : is_bounded_job it ≡ true = place-small pieces count way home m found in
-    on-its-way count is_open (stat_file way) m (at_walk it 0 walk.Magic)
+    on-its-way count is_open (stat_file way) m it walk.Magic sound with_super
     (behind-super pieces count it home m (plan_of is_open m.disk (stat_file way)) sound bounded refl
     (acts-file pieces count it way home m (stat_plan m.disk) found bounded (λ regular. stat-acts pieces count way home m found regular)))
 
@@ -237,7 +238,12 @@ find-led pieces count path m sound has_path good (a_record place way) e =
         (leads_to_end (at_walk job.Find count (walk.Component 0 root_place)) m run ends.0 ends.1)
 
 pub finds_are_looks : Pieces → FindsAreLooks
-finds_are_looks pieces count path m sound has_path = by (is_good_path path) refl
+finds_are_looks pieces count path m sound has_path =
+    let ends = by (is_good_path path) refl in (
+      ends.0,
+      ends-few m job.Find (walk.Path 0 0) sound with_path (omega arith) ends.1,
+      ends-of ends.1,
+    )
   where
     by : (b : Bool) → is_good_path path ≡ b → EndsWith count (found_place m.disk (led_to m.disk path)) m
         (at_walk job.Find 0 (walk.Path 0 0)) m

@@ -1,5 +1,5 @@
 -- Each change of a record's blocks, from where its size is read to where it is read again.
-use Rattle.std.proofs.Common.{◌≡◌, ◌<◌, ◌≤◌, ◌-◌, ◌*◌, ◌/◌, ◌%◌, ◌⊎◌, inl, inr, ℕ, Bool, true, false, not}
+use Rattle.std.proofs.Common.{◌≡◌, ◌<◌, ◌≤◌, ◌+◌, ◌-◌, ◌*◌, ◌/◌, ◌%◌, ◌⊎◌, inl, inr, ℕ, Bool, true, false, not}
 use Rattle.std.proofs.Common.{refl, sym, ap, subst, arith, min}
 use Rattle.std.specs.Prelude.{◌&&◌, nat_le, nat_lt, if◌then◌else◌}
 use Rattle.std.proofs.lemmas.Bool.Decides.{nat_tests}
@@ -21,32 +21,34 @@ use Rattle.fs_jobs.specs.declared.asks.TreeNext.TheVariants.{GoOn}
 use Rattle.fs_changes.specs.ChangePlans.{fill_end, gives_back, go_on, has_one, next_change, settled}
 use Rattle.fs_jobs.specs.TreeBounds.{is_bounded_job, is_block, is_place}
 use Rattle.fs_runs.specs.TreeRuns.{AreSmall, Memory}
-use Rattle.fs_runs.proofs.Leads.{Leads, here, leads_on}
+use Rattle.fs_runs.proofs.Leads.{Leads, LeadsIn, here, leads_on}
 use Rattle.fs_runs.proofs.Pieces.{at_file, with_disk}
 use Rattle.fs_runs.proofs.JobsFacts.{Facts, Pieces, apart-now, blocks-now, changes-now, indirect-small, none-there, read_now, size-small}
 use Rattle.fs_runs.proofs.JobsRuns.{before, deciding, reads-again}
 
 -- ---- runs between changes
 
-pub record Came (count : ℕ) (j : Job) (home end : ℕ) (from : TreeState) (m after : Memory) : Type 0 where
+pub record Came (count : ℕ) (j : Job) (home end most : ℕ) (from : TreeState) (m after : Memory) : Type 0 where
   pub size : ℕ
   pub indirect : ℕ
   pub size_small : is_place size ≡ true
   pub indirect_small : is_block indirect ≡ true
-  pub leads : Leads count (before j count home end size indirect) after from m
+  pub rounds : ℕ
+  pub few : rounds ≤ most
+  pub leads : LeadsIn count (before j count home end size indirect) after rounds from m
 
--- whatever was read of the record last
-abbrev pub Comes : ℕ → Job → ℕ → ℕ → Memory → Memory → Type 0
-Comes count j home end m after =
-    (size indirect : ℕ) → is_place size ≡ true → is_block indirect ≡ true → Came count j home end (before j count home end size indirect) m after
+-- whatever was read of the record last, and with at most so many changes
+abbrev pub Comes : ℕ → Job → ℕ → ℕ → ℕ → Memory → Memory → Type 0
+Comes count j home end most m after =
+    (size indirect : ℕ) → is_place size ≡ true → is_block indirect ≡ true → Came count j home end most (before j count home end size indirect) m after
 
-pub comes-none : (count : ℕ) (j : Job) (home end : ℕ) (m : Memory) → Comes count j home end m m
-comes-none count j home end m size indirect a b =
-    record { size = size; indirect = indirect; size_small = a; indirect_small = b; leads = here }
+pub comes-none : (count : ℕ) (j : Job) (home end most : ℕ) (m : Memory) → Comes count j home end most m m
+comes-none count j home end most m size indirect a b =
+    record { size = size; indirect = indirect; size_small = a; indirect_small = b; rounds = 0; few = omega arith; leads = here }
 
-pub comes-on : (count : ℕ) (j : Job) (home end : ℕ) (m mid after : Memory) → Comes count j home end m mid → Comes count j home end mid after →
-    Comes count j home end m after
-comes-on count j home end m mid after one two size indirect a b =
+pub comes-on : (count : ℕ) (j : Job) (home end most more : ℕ) (m mid after : Memory) → Comes count j home end most m mid →
+    Comes count j home end more mid after → Comes count j home end (most + more) m after
+comes-on count j home end most more m mid after one two size indirect a b =
     let first = one size indirect a b in
     let second = two first.size first.indirect first.size_small first.indirect_small in
     record {
@@ -54,8 +56,13 @@ comes-on count j home end m mid after one two size indirect a b =
       indirect = second.indirect;
       size_small = second.size_small;
       indirect_small = second.indirect_small;
+      rounds = first.rounds + second.rounds;
+      few = both_few first.rounds second.rounds most more first.few second.few;
       leads = leads_on (before j count home end size indirect) m first.leads second.leads;
     }
+  where
+    both_few : (a b c d : ℕ) → a ≤ c → b ≤ d → a + b ≤ c + d
+    both_few a b c d one two = omega arith
 
 -- ---- what comes next
 
@@ -133,13 +140,15 @@ comes-one : (count : ℕ) (j : Job) (home end : ℕ) (m after : Memory) → Work
     ((indirect : ℕ) → next_change (deciding j count home end m.disk indirect) (read_now home end m.disk)
     ≡ GoOn (at_file j count (read_now home end m.disk) place)) →
     Leads count (at_file j count (read_now home end m.disk) file.SizeNow) after (at_file j count (read_now home end m.disk) place) m →
-    Comes count j home end m after
+    Comes count j home end 1 m after
 comes-one count j home end m after works place goes run size indirect a b =
     record {
       size = size_of m.disk home;
       indirect = indirect_of m.disk home;
       size_small = size-small (size_of m.disk home) works.facts.short;
       indirect_small = indirect-small works.facts;
+      rounds = 1;
+      few = omega arith;
       leads =
           leads_on (before j count home end size indirect) m
           (reads-again count j home end m size indirect works.facts works.job works.short a b (at_file j count (read_now home end m.disk) place)
@@ -167,7 +176,7 @@ some-bytes : (end size : ℕ) → blocks_of end < blocks_of size → 0 < size
 some-bytes end size less = omega arith
 
 pub comes-given : Pieces → (count : ℕ) (j : Job) (home end : ℕ) (m : Memory) → Works count j home end m → gives_back j ≡ true →
-    blocks_of end < blocks_needed m.disk home → Comes count j home end m (with_disk m (written (give_block home m.disk) m.disk))
+    blocks_of end < blocks_needed m.disk home → Comes count j home end 1 m (with_disk m (written (give_block home m.disk) m.disk))
 comes-given pieces count j home end m works gives less =
     let c = read_now home end m.disk in
     comes-one count j home end m (with_disk m (written (give_block home m.disk) m.disk)) works (file.Number (blocks_of c.size - 1) wanted.Giving)
@@ -178,7 +187,7 @@ comes-given pieces count j home end m works gives less =
 
 pub comes-unmarked : Pieces → (count : ℕ) (j : Job) (home end : ℕ) (m : Memory) → Works count j home end m → gives_back j ≡ true →
     blocks_needed m.disk home ≤ blocks_of end → needs_indirect end ≡ false → has_indirect m.disk home ≡ true →
-    Comes count j home end m (with_disk m (written (give_indirect home m.disk) m.disk))
+    Comes count j home end 1 m (with_disk m (written (give_indirect home m.disk) m.disk))
 comes-unmarked pieces count j home end m works gives few needs has =
     let c = read_now home end m.disk in
     comes-one count j home end m (with_disk m (written (give_indirect home m.disk) m.disk)) works (file.PutIndirect change.GiveIndirect c.indirect)
@@ -194,7 +203,7 @@ Unmarked end indirect = (not (needs_indirect end) && indirect) ≡ false
 
 pub comes-cut : Pieces → (count : ℕ) (j : Job) (home end : ℕ) (m : Memory) → Works count j home end m → gives_back j ≡ true →
     blocks_needed m.disk home ≤ blocks_of end → Unmarked end (has_indirect m.disk home) → end < size_of m.disk home →
-    Comes count j home end m (with_disk m (written (cut home end m.disk) m.disk))
+    Comes count j home end 1 m (with_disk m (written (cut home end m.disk) m.disk))
 comes-cut pieces count j home end m works gives few unmarked less =
     let c = read_now home end m.disk in
     comes-one count j home end m (with_disk m (written (cut home end m.disk) m.disk)) works (file.PutSize c.end)
@@ -232,11 +241,11 @@ keeps-now j home end byte given = by (gives_back j) refl
 
 pub comes-filled : Pieces → (count : ℕ) (j : Job) (home end : ℕ) (m : Memory) → Works count j home end m → Keeps j (read_now home end m.disk) →
     (most : ℕ) → most ≡ min end (BLKSIZE * blocks_needed m.disk home) → size_of m.disk home < most →
-    Comes count j home end m (with_disk m (written (fill home most m.disk) m.disk))
+    Comes count j home end 1 m (with_disk m (written (fill home most m.disk) m.disk))
 comes-filled pieces count j home end m works keeps most e less =
     let c = read_now home end m.disk in
     let below : c.size < fill_end c = subst (λ (n : ℕ). c.size < n) e less in
-    subst (λ (n : ℕ). Comes count j home end m (with_disk m (written (fill home n m.disk) m.disk))) (sym e)
+    subst (λ (n : ℕ). Comes count j home end 1 m (with_disk m (written (fill home n m.disk) m.disk))) (sym e)
     (comes-one count j home end m (with_disk m (written (fill home (fill_end c) m.disk) m.disk)) works
     (file.Number (c.size / BLKSIZE) (wanted.Filling c.size))
     (λ indirect. next-fills (deciding j count home end m.disk indirect) c keeps (is-less c.size (fill_end c) below))
@@ -252,7 +261,7 @@ pub record Takes (count home end : ℕ) (m : Memory) : Type 0 where
 
 pub comes-marked : Pieces → (count : ℕ) (j : Job) (home end : ℕ) (m : Memory) → Works count j home end m → Keeps j (read_now home end m.disk) →
     Takes count home end m → NDIRECT ≤ blocks_needed m.disk home → has_indirect m.disk home ≡ false →
-    Comes count j home end m (with_disk m (written (take_indirect home m.disk) m.disk))
+    Comes count j home end 1 m (with_disk m (written (take_indirect home m.disk) m.disk))
 comes-marked pieces count j home end m works keeps room many has =
     let c = read_now home end m.disk in
     let found = free-found (BLKSIZE * count) m.disk room.disk room.free in
@@ -268,7 +277,7 @@ comes-marked pieces count j home end m works keeps room many has =
 
 pub comes-taken : Pieces → (count : ℕ) (j : Job) (home end : ℕ) (m : Memory) → Works count j home end m → Keeps j (read_now home end m.disk) →
     Takes count home end m → (blocks_needed m.disk home < NDIRECT) ⊎ (has_indirect m.disk home ≡ true) →
-    Comes count j home end m (with_disk m (written (take_block home end m.disk) m.disk))
+    Comes count j home end 1 m (with_disk m (written (take_block home end m.disk) m.disk))
 comes-taken pieces count j home end m works keeps room counted =
     let c = read_now home end m.disk in
     let found = free-found (BLKSIZE * count) m.disk room.disk room.free in

@@ -18,6 +18,7 @@ use Rattle.fs_jobs.specs.declared.place.Changed.{Changed}
 use Rattle.fs_jobs.specs.declared.place.Job.{Job}
 use Rattle.fs_jobs.specs.TreeBounds.{is_bounded_changed, is_bounded_job, is_block, is_place}
 use Rattle.fs_runs.specs.TreeRuns.{AreSmall, IsSound, Memory}
+use Rattle.fs_runs.proofs.WalksLowered.{own-few}
 use Rattle.fs_runs.proofs.Pieces.{BlocksAreGiven, BlocksAreTaken, BytesAreRead, BytesAreWritten, Changes, EndsAreFilled, FreeIsCounted, HasBlocks}
 use Rattle.fs_runs.proofs.Pieces.{IndirectsAreGiven, IndirectsAreTaken, IsCounted, LiesApart, LiesOn, LowestIsFound, NamesAreSought}
 use Rattle.fs_runs.proofs.Pieces.{NumbersAreFound, NumbersAreRead, PathsAreRead, PlacesLie, RecordsAreEmptied, RecordsAreMade, SizesAreCut}
@@ -75,6 +76,7 @@ pub record Facts (count home : ℕ) (byte : ℕ → ℕ) : Type 0 where
   pub counted : IsCounted count byte
   pub lies : LiesOn count home
   pub short : size_of byte home ≤ MAXFILESIZE
+  pub few : blocks_needed byte home ≤ count
   pub within : (i : ℕ) → i < blocks_needed byte home → is_data_block count (block_number_at byte home i) ≡ true
   pub indirect : has_indirect byte home ≡ true → is_data_block count (indirect_of byte home) ≡ true
   pub needed : NDIRECT < blocks_needed byte home → has_indirect byte home ≡ true
@@ -98,6 +100,7 @@ facts pieces count way home m found =
       counted = counted-is count m found.sound;
       lies = pieces.places_lie count m way home found.sound found.stands;
       short = stands.good.readable.short;
+      few = subst (λ (n : ℕ). blocks_needed m.disk home ≤ n) found.sound.count_is (own-few m.disk home stands.good stands.once);
       within = λ i less.
           subst (λ (n : ℕ). is_data_block n (block_number_at m.disk home i) ≡ true) found.sound.count_is (stands.good.readable.within i less);
       indirect = λ has.

@@ -1,18 +1,22 @@
 -- The jobs of a file whose record is known: its size, its bytes, what stat tells of it, and its removal.
-use Rattle.std.proofs.Common.{◌≡◌, ◌∙◌, ◌+◌, ◌-◌, ◌*◌, ◌/◌, ◌^◌, ◌<◌, ◌≤◌, ℕ, Bool, true, false, not, List, [], ◌∷◌, ◌++◌}
+use Rattle.std.proofs.Common.{◌≡◌, ◌∙◌, ◌+◌, ◌-◌, ◌*◌, ◌/◌, ◌^◌, ◌<◌, ◌≤◌, ℕ, zero, suc, Bool, true, false, not, List, [], ◌∷◌, ◌++◌}
 use Rattle.std.proofs.Common.{length, Option, refl, sym, ap, subst, arith, min}
-use Rattle.std.specs.Prelude.{◌==◌, ◌||◌, ◌&&◌, nat_le, nat_lt, if◌then◌else◌}
+use Rattle.std.specs.Prelude.{◌==◌, ◌||◌, ◌&&◌, nat_le, nat_lt, replicate, if◌then◌else◌}
 use Rattle.std.proofs.lemmas.Bool.{eqb-true}
 use Rattle.std.proofs.lemmas.Bool.Decides.{nat_tests}
+use Rattle.std.proofs.lemmas.List.{length-append, length-replicate}
 use Rattle.jos_base.specs.declared.numbers.TheConstants.{E_INVAL, E_NO_DISK}
+use Rattle.jos_base.specs.Environments.{bit_of}
 use Rattle.jos_base.specs.Words.{negated}
+use Rattle.jos_base.proofs.Sums.{total-le}
 use Rattle.jos_base.proofs.Below.{length-values}
 use Rattle.fs_layout.specs.declared.numbers.TheConstants.{BLKSIZE, FTYPE_REG, MAXFILESIZE}
-use Rattle.fs_layout.specs.FileTree.{a_file, blocks_taken, needs_indirect}
+use Rattle.fs_layout.specs.FileTree.{a_file, blocks_of, blocks_taken, needs_indirect}
 use Rattle.fs_layout.specs.FileActs.{resized}
-use Rattle.fs_layout.specs.DiskImage.{has_indirect, indirect_of, is_directory_at, kind_at, size_of}
+use Rattle.fs_layout.specs.DiskImage.{block_count, blocks_needed, has_indirect, indirect_of, is_directory_at, is_marked_free, kind_at, size_of}
 use Rattle.fs_layout.specs.DiskFiles.{file_bytes, free_blocks}
 use Rattle.fs_layout.proofs.FileBytes.{length-resized}
+use Rattle.fs_acts.specs.BlockActs.{Change, cut, fill, give_block, give_indirect, take_blocks}
 use Rattle.fs_acts.specs.BlockActs.{Planned, blocks_grown, empty_it, growth, of_file, overwrite, place_at, planned, planned_if_it_fits}
 use Rattle.fs_acts.specs.BlockActs.{read_plan, resizing, size_plan, stat_plan, turned_down, write_plan, write_some, written}
 use Rattle.fs_acts.proofs.ComposedChanges.{changes-acts}
@@ -29,6 +33,7 @@ use Rattle.fs_jobs.specs.declared.asks.TreeNext.{TreeNext}
 use Rattle.fs_jobs.specs.declared.asks.TreeNext.TheVariants.{Answer, GoOn}
 use Rattle.fs_changes.specs.ChangePlans.{bytes_read}
 use Rattle.fs_jobs.specs.TreeBounds.{is_bounded_job, is_block, is_place}
+use Rattle.fs_runs.specs.JobSteps.{rounds_max}
 use Rattle.fs_runs.specs.TreeRuns.{AreSmall, Memory, bytes_given}
 use Rattle.fs_jobs.specs.TreeTests.{refused}
 use Rattle.fs_runs.proofs.Leads.{Leads, leads_to_end}
@@ -38,7 +43,9 @@ use Rattle.fs_runs.proofs.JobsFacts.{indirect-small, read_now, size-small}
 use Rattle.fs_runs.proofs.JobsRuns.{before, bounded-file}
 use Rattle.fs_runs.proofs.JobsChanges.{Unmarked}
 use Rattle.fs_runs.proofs.JobsSizes.{Doing, Has, Run, grows, has-found, ran, resizes}
-use Rattle.fs_runs.proofs.JobsRecords.{Acts, acts-after, acts-behind, acts-either, acts-none, at_indirect, at_kind, fits-or-not, kind-one}
+use Rattle.fs_runs.proofs.JobsRecords.{Acts, EndsSoon, acts-after, acts-behind, acts-either, acts-none, at_indirect, at_kind}
+use Rattle.fs_runs.proofs.JobsRecords.{ends-at, fits-or-not, kind-one}
+use Rattle.fs_runs.proofs.JobsRecords.{soon-behind}
 use Rattle.fs_runs.proofs.JobsRecords.{kind-refused}
 use Rattle.fs_runs.proofs.JobsRecords.{settled-ends, settled-goes, size-ends, size-goes}
 
@@ -75,6 +82,75 @@ fits-bytes {count} {way} {home} {m} found regular wanted fit =
     subst (λ (n : ℕ). wanted ≤ blocks_taken n (has_indirect m.disk home) + free_blocks m.disk) (sym is.long)
     (within (blocks_taken (size_of m.disk home) (has_indirect m.disk home)) wanted (free_blocks m.disk) fit)
 
+-- ---- how many changes it makes
+
+long-taken : (n place end : ℕ) → length (take_blocks n place end) ≡ 2 * n
+unfolding take_blocks
+long-taken zero place end = refl
+long-taken (suc n) place end = let rest = long-taken n place end in omega (arith, rest)
+
+abbrev marked : Bool → ℕ
+marked b = if b then 1 else 0
+
+marked-few : (b : Bool) → marked b ≤ 1
+marked-few true = omega arith
+marked-few false = omega arith
+
+bit-few : (b : Bool) → bit_of b ≤ 1
+bit-few true = omega arith
+bit-few false = omega arith
+
+-- there are no more free blocks than blocks
+free-few : (byte : ℕ → ℕ) → free_blocks byte ≤ block_count byte
+unfolding free_blocks
+free-few byte =
+    let all = total-le (block_count byte) 1 (λ block. bit_of (is_marked_free byte block)) (λ block. bit-few (is_marked_free byte block)) in
+    omega (arith, all)
+
+-- what fits takes at most all blocks and its indirect block more
+pub room-few : (count : ℕ) (byte : ℕ → ℕ) (place end long : ℕ) (had wants : Bool) → block_count byte ≡ count → long ≡ size_of byte place →
+    blocks_taken end wants ≤ blocks_taken long had + free_blocks byte → blocks_of end ≤ blocks_needed byte place + (count + 1)
+room-few count byte place end long had wants is same fits =
+    within (blocks_of end) (blocks_of long) (blocks_needed byte place) (marked wants) (marked had) (free_blocks byte) (block_count byte) count fits
+    (ap (λ (n : ℕ). blocks_of n) same) (marked-few had) (free-few byte) is
+  where
+    within : (e l n w h free blocks count : ℕ) → e + w ≤ l + h + free → l ≡ n → h ≤ 1 → free ≤ blocks → blocks ≡ count → e ≤ n + (count + 1)
+    within e l n w h free blocks count a b c d f = omega (arith, a, b, c, d, f)
+
+pub few-growth : (count : ℕ) (byte : ℕ → ℕ) (place end : ℕ) → blocks_of end ≤ blocks_needed byte place + (count + 1) →
+    length (growth byte place end) < rounds_max count
+unfolding growth
+few-growth count byte place end room =
+    let taken = long-taken (blocks_of end - blocks_needed byte place) place end in
+    within (blocks_of end) (blocks_needed byte place) (length (take_blocks (blocks_of end - blocks_needed byte place) place end)) room taken
+  where
+    within : (a b n : ℕ) → a ≤ b + (count + 1) → n ≡ 2 * (a - b) → suc n < 2 * count + 6
+    within a b n few is = omega (arith, few, is)
+
+few-resizing : (count : ℕ) (byte : ℕ → ℕ) (place end : ℕ) → blocks_needed byte place ≤ count →
+    blocks_of end ≤ blocks_needed byte place + (count + 1) → length (resizing byte place end) < rounds_max count
+unfolding resizing growth
+few-resizing count byte place end old room =
+    let n : ℕ = blocks_needed byte place in
+    let given : List Change = replicate (n - blocks_of end) (give_block place) in
+    let its : List Change = if needs_indirect end then [] else give_indirect place ∷ [] in
+    let more : List Change = take_blocks (blocks_of end - n) place end in
+    let grown : List Change = cut place end ∷ fill place (min end (BLKSIZE * n)) ∷ more in
+    let all = length-append (given ++ its) grown in
+    let both = length-append given its in
+    let back = length-replicate {A = Change} (n - blocks_of end) (give_block place) in
+    let own = own_few (needs_indirect end) in
+    within n (blocks_of end) (length given) (length its) (length more) (length (given ++ its)) (length (given ++ its ++ grown)) old room back own
+    (long-taken (blocks_of end - n) place end) both all
+  where
+    own_few : (b : Bool) → length (if b then [] else give_indirect place ∷ []) ≤ 1
+    own_few true = omega arith
+    own_few false = omega arith
+
+    within : (n e given its more both whole : ℕ) → n ≤ count → e ≤ n + (count + 1) → given ≡ n - e → its ≤ 1 →
+        more ≡ 2 * (e - n) → both ≡ given + its → whole ≡ both + suc (suc more) → whole < 2 * count + 6
+    within n e given its more both whole a b c d f g h = omega (arith, a, b, c, d, f, g, h)
+
 -- ---- its size
 
 not-both : (b : Bool) → (not b && b) ≡ false
@@ -86,7 +162,7 @@ pub resized-ends : Pieces → (count : ℕ) (way : List ℕ) (home end : ℕ) (m
     end ≤ MAXFILESIZE → blocks_taken end (needs_indirect end) ≤ blocks_taken (length (file_bytes m.disk home))
     (has_indirect m.disk home) + free_blocks m.disk →
     (size indirect : ℕ) → is_place size ≡ true → is_block indirect ≡ true →
-    EndsWith count 0 (with_disk m (left_by (resizing m.disk home end) m.disk)) (before (job.SetSize home end) count home end size indirect) m
+    EndsSoon count 0 (with_disk m (left_by (resizing m.disk home end) m.disk)) (before (job.SetSize home end) count home end size indirect) m
 resized-ends pieces count way home end m found regular short free size indirect a b =
     let j : Job = job.SetSize home end in
     let known = facts pieces count way home m found in
@@ -96,11 +172,14 @@ resized-ends pieces count way home end m found regular short free size indirect 
     let does : Doing count j home end = record { pieces = pieces; job = bounded; short = short } in
     let run : Run count j home end way m (resizing m.disk home end) (a_file (resized bytes end) (needs_indirect end)) =
     resizes does refl m bytes (has_indirect m.disk home) has free in
+    let first = file-is changes-acts (BLKSIZE * count) m.disk way home bytes (has_indirect m.disk home) has.holds in
+    let room =
+    room-few count m.disk home end (length bytes) (has_indirect m.disk home) (needs_indirect end) known.counted.0 first.long free in
     let after : Memory = with_disk m (left_by (resizing m.disk home end) m.disk) in
     let now = ran has run in
     let is = file-is changes-acts (BLKSIZE * count) after.disk way home (resized bytes end) (needs_indirect end) now.holds in
     let then_known = facts pieces count way home after (has-found now) in
-    acts-after m (resizing m.disk home end) 0 after run.comes size indirect a b
+    acts-after m (resizing m.disk home end) 0 after run.comes (few-resizing count m.disk home end known.few room) size indirect a b
     (λ s i c d.
     settled-ends count j home end after s i 0 then_known bounded short c d (sym is.long ∙ length-resized bytes end)
     (λ back. subst (λ (t : Bool). Unmarked end t) (sym is.mark) (not-both (needs_indirect end))) refl)
@@ -148,7 +227,7 @@ size-acts pieces count way home end m found regular =
         (size-small (size_of m.disk home) known.short) (indirect-small known) in
         record {
           after = with_disk m (left_by (resizing m.disk home end) m.disk);
-          ends = leads_to_end (at_indirect j count home end m.disk) m (free.0 fit) ends.0 ends.1;
+          ends = soon-behind (at_indirect j count home end m.disk) m (free.0 fit) ends;
           disk = refl;
           bytes = λ k below. absurd (omega (arith, below));
           rest = λ k past. refl;
@@ -223,8 +302,8 @@ read-acts pieces count way home at n m found regular low = by (read == 0) refl
         record {
           after = m;
           ends =
-              subst (λ (a : ℕ). EndsWith count a m (at_kind j count home) m) (sym zero_long)
-              (size-ends pieces count j way home m 0 found bounded regular (ap (λ (b : Bool). if b then Answer 0 else GoOn next) none));
+              subst (λ (a : ℕ). EndsSoon count a m (at_kind j count home) m) (sym zero_long)
+              (ends-at (size-ends pieces count j way home m 0 found bounded regular (ap (λ (b : Bool). if b then Answer 0 else GoOn next) none)));
           disk = refl;
           bytes = λ k below. absurd (omega (arith, below, zero_long));
           rest = λ k past. refl;
@@ -236,9 +315,9 @@ read-acts pieces count way home at n m found regular low = by (read == 0) refl
         record {
           after = record m { page = told.0 };
           ends =
-              leads_to_end (at_kind j count home) m
+              soon-behind (at_kind j count home) m
               (size-goes pieces count j way home m next found bounded regular (ap (λ (b : Bool). if b then Answer 0 else GoOn next) some))
-              told.3.0 told.3.1;
+              (ends-at told.3);
           disk = refl;
           bytes = told.1;
           rest = told.2;
@@ -262,10 +341,10 @@ stat-acts pieces count way home m found regular =
     record {
       after = record m { page = told.0 };
       ends =
-          leads_to_end (at_kind j count home) m
+          soon-behind (at_kind j count home) m
           (size-goes pieces count j way home m (at_file j count (changed home (size_of m.disk home) 0 0)
           (file.StatByte 0 false)) found small regular refl)
-          told.3.0 told.3.1;
+          (ends-at told.3);
       disk = refl;
       bytes = told.1;
       rest = told.2;
@@ -372,7 +451,7 @@ write-acts pieces count way home at n m found regular low few = by (n == 0) refl
         let ends = behind-writes m 0 0 known found.sound.small refl (omega arith) refl some (is-le end (size_of m.disk home) fit) in
         record {
           after = with_disk m (written (overwrite home at new m.disk) m.disk);
-          ends = leads_to_end state m run ends.0 ends.1;
+          ends = soon-behind state m run (ends-at ends);
           disk = refl;
           bytes = λ k below. absurd (omega (arith, below));
           rest = λ k past. refl;
@@ -421,7 +500,10 @@ write-acts pieces count way home at n m found regular low few = by (n == 0) refl
             let size_is : size_of after.disk home ≡ end = sym then_is.long ∙ length-resized bytes end in
             let last : ℕ → ℕ = written (overwrite home at new after.disk) after.disk in
             let ends =
-            acts-after m (growth m.disk home end) n (with_disk m last) grow.comes (size_of m.disk home) (indirect_of m.disk home)
+            acts-after m (growth m.disk home end) n (with_disk m last) grow.comes (few-growth count m.disk home end
+            (room-few count m.disk home end (length bytes) (has_indirect m.disk home) (has_indirect m.disk home || needs_indirect end)
+            known.counted.0 is.long
+            (fits-bytes found regular (blocks_grown m.disk home end) fit))) (size_of m.disk home) (indirect_of m.disk home)
             (size-small (size_of m.disk home) known.short) (indirect-small known)
             (λ s i a b.
             let write = behind-writes after (indirect_of after.disk home) end there now.small (indirect-small there) short refl some_
@@ -432,7 +514,7 @@ write-acts pieces count way home at n m found regular low few = by (n == 0) refl
             (λ back. never back) refl) write.0 write.1) in
             record {
               after = with_disk m last;
-              ends = leads_to_end grown m lead ends.0 ends.1;
+              ends = soon-behind grown m lead ends;
               disk = sym (left_by-append (growth m.disk home end) (overwrite home at new ∷ []) m.disk);
               bytes = λ k below. absurd (omega (arith, below));
               rest = λ k past. refl;
@@ -493,7 +575,8 @@ remove-acts pieces count way home m found regular =
     pieces.records_are_emptied count j c after there.lies
     (bounded-file count j c file.Empty (count-small count there.counted.2) bounded (bounded-now 0 there (omega arith)) refl) in
     let ends =
-    acts-after m (resizing m.disk home 0) 0 (with_disk m last) run.comes (size_of m.disk home) 0 (size-small (size_of m.disk home) known.short) refl
+    acts-after m (resizing m.disk home 0) 0 (with_disk m last) run.comes (few-resizing count m.disk home 0 known.few (omega arith))
+    (size_of m.disk home) 0 (size-small (size_of m.disk home) known.short) refl
     (λ s i a b.
     leads_to_end (before j count home 0 s i) after
     (settled-goes count j home 0 after s i (at_file j count c file.Empty) there bounded (omega arith) a b (sym is.long ∙ length-resized bytes 0)
@@ -501,8 +584,8 @@ remove-acts pieces count way home m found regular =
     record {
       after = with_disk m last;
       ends =
-          leads_to_end (at_kind j count home) m
-          (size-goes pieces count j way home m (before j count home 0 (size_of m.disk home) 0) found bounded regular refl) ends.0 ends.1;
+          soon-behind (at_kind j count home) m
+          (size-goes pieces count j way home m (before j count home 0 (size_of m.disk home) 0) found bounded regular refl) ends;
       disk = sym (left_by-append (resizing m.disk home 0) (empty_it home ∷ []) m.disk);
       bytes = λ k below. absurd (omega (arith, below));
       rest = λ k past. refl;

@@ -34,18 +34,18 @@ use Rattle.fs_jobs.specs.declared.place.Wanted.TheVariants as wanted
 use Rattle.fs_jobs.specs.declared.asks.TreeNext.TheVariants.{Answer, GoOn}
 use Rattle.fs_jobs.specs.declared.tests.TheConstants.{DAMAGED}
 use Rattle.fs_jobs.specs.TreeBounds.{is_bounded, is_bounded_job, is_block, is_count, is_place}
-use Rattle.fs_runs.specs.TreeRuns.{HasPath, IsSound, Memory, at_once}
+use Rattle.fs_runs.specs.TreeRuns.{HasPath, IsSound, Memory}
 use Rattle.fs_jobs.specs.TreeTests.{refused}
 use Rattle.fs_walks.specs.WalkPlans.{changed_to, opened, size_wanted, slot_taken}
-use Rattle.fs_runs.proofs.Leads.{Leads, here, leads_on, leads_to_end, on}
+use Rattle.fs_runs.proofs.Leads.{Leads, at_once, here, leads_on, leads_to_end, on}
 use Rattle.fs_runs.proofs.Pieces.{EndsWith, IsDirectoryOf, IsLastName, at_file, at_walk, sought, with_disk}
 use Rattle.fs_runs.proofs.JobsFacts.{Facts, Found, Pieces, blocks-now, changes-now, count-small, facts, home-small, indirect-small}
 use Rattle.fs_runs.proofs.JobsFacts.{read_now, size-small}
 use Rattle.fs_runs.proofs.JobsRuns.{before, inside-word}
 use Rattle.fs_runs.proofs.JobsSizes.{Doing, has-found, ran}
 use Rattle.fs_runs.proofs.JobsDirectories.{grows-by-block, has-directory}
-use Rattle.fs_runs.proofs.JobsRecords.{Acts, acts-after, acts-behind, acts-either, acts-none, at_indirect, fits-or-not, kind-one, settled-goes}
-use Rattle.fs_runs.proofs.JobsFiles.{resized-ends}
+use Rattle.fs_runs.proofs.JobsRecords.{Acts, acts-after, acts-behind, acts-either, acts-none, at_indirect, ends-soon, fits-or-not, kind-one, settled-goes, soon-behind}
+use Rattle.fs_runs.proofs.JobsFiles.{few-growth, resized-ends}
 
 -- ---- the record that a path leads to
 
@@ -234,7 +234,7 @@ creates-in-room pieces count path name directory from slot m state makes within 
     (inside slot (slot_count m.disk directory) size within makes.whole) in
     record {
       after = with_disk m (written (make_record directory slot name m.disk) m.disk);
-      ends = leads_to_end state m run ends.0 ends.1;
+      ends = ends-soon 1 (omega arith) (leads_to_end state m run ends.0 ends.1);
       disk = refl;
       bytes = λ k below. absurd (omega (arith, below));
       rest = λ k past. refl;
@@ -343,7 +343,7 @@ creates-behind pieces count path name directory from m state makes short lead =
         (blocks-now end there) makes.has_path makes.last.at (few slot size makes.whole short)
         (inside slot size (size_of after.disk directory) makes.whole size_is) in
         let ends =
-        acts-after m (growth m.disk directory end) 0 (with_disk m last) run.1.comes size (indirect_of m.disk directory)
+        acts-after m (growth m.disk directory end) 0 (with_disk m last) run.1.comes (few-growth count m.disk directory end (omega arith)) size (indirect_of m.disk directory)
         (size-small size known.short)
         (indirect-small known)
         (λ s i a b.
@@ -353,7 +353,7 @@ creates-behind pieces count path name directory from m state makes short lead =
         (λ back. never back) refl) made.0 made.1) in
         record {
           after = with_disk m last;
-          ends = leads_to_end state m (leads_on state m lead (free.0 fit)) ends.0 ends.1;
+          ends = soon-behind state m (leads_on state m lead (free.0 fit)) ends;
           disk = sym (left_by-append (growth m.disk directory end) (make_record directory slot name ∷ []) m.disk);
           bytes = λ k below. absurd (omega (arith, below));
           rest = λ k past. refl;

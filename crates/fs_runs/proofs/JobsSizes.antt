@@ -4,7 +4,7 @@ use Rattle.std.proofs.Common.{length, refl, sym, ap, subst, arith, min}
 use Rattle.std.specs.Prelude.{◌||◌, ◌&&◌, nat_lt, take, replicate, if◌then◌else◌}
 use Rattle.std.proofs.lemmas.Bool.{cases_lt}
 use Rattle.std.proofs.lemmas.Bool.Decides.{nat_tests}
-use Rattle.std.proofs.lemmas.List.{take_all, take-take, length-take}
+use Rattle.std.proofs.lemmas.List.{length-append, take_all, take-take, length-take}
 use Rattle.fs_layout.specs.declared.numbers.TheConstants.{BLKSIZE, MAXFILESIZE, NDIRECT}
 use Rattle.fs_layout.specs.FileTree.{FileSystem, Node, a_file, blocks_of, needs_indirect, blocks_taken}
 use Rattle.fs_layout.specs.FileActs.{resized}
@@ -58,7 +58,7 @@ works {count} {j} {home} {end} {way} {m} {node} does has =
 -- changes that put a node, and the run of a job that makes them
 pub record Run (count : ℕ) (j : Job) (home end : ℕ) (way : List ℕ) (m : Memory) (changes : List Change) (node : Node) : Type 0 where
   pub turns : Turns (BLKSIZE * count) m.disk way home changes node
-  pub comes : Comes count j home end m (with_disk m (left_by changes m.disk))
+  pub comes : Comes count j home end (length changes) m (with_disk m (left_by changes m.disk))
 
 pub ran : {count : ℕ} {j : Job} {home end : ℕ} {way : List ℕ} {m : Memory} {changes : List Change} {old new : Node} → Has count way home m old →
     Run count j home end way m changes new → Has count way home (with_disk m (left_by changes m.disk)) new
@@ -78,9 +78,10 @@ run-append {count} {j} {home} {end} {way} m first rest mid new one two =
     record {
       turns = turns-append (BLKSIZE * count) m.disk way home mid new first rest one.turns two.turns;
       comes =
-          subst (λ (b : ℕ → ℕ). Comes count j home end m (with_disk m b)) (sym (left_by-append first rest m.disk))
-          (comes-on count j home end m (with_disk m (left_by first m.disk))
-          (with_disk m (left_by rest (left_by first m.disk))) one.comes two.comes);
+          subst (λ (b : ℕ → ℕ). Comes count j home end (length (first ++ rest)) m (with_disk m b)) (sym (left_by-append first rest m.disk))
+          (subst (λ (n : ℕ). Comes count j home end n m (with_disk m (left_by rest (left_by first m.disk)))) (sym (length-append first rest))
+          (comes-on count j home end (length first) (length rest) m (with_disk m (left_by first m.disk))
+          (with_disk m (left_by rest (left_by first m.disk))) one.comes two.comes));
     }
 
 run-renamed : {count : ℕ} {j : Job} {home end : ℕ} {way : List ℕ} {m : Memory} {changes : List Change} (bytes other : List ℕ)
@@ -90,22 +91,22 @@ run-renamed : {count : ℕ} {j : Job} {home end : ℕ} {way : List ℕ} {m : Mem
 run-renamed bytes other indirect mark run e f = record { turns = renamed bytes other indirect mark run.turns e f; comes = run.comes }
 
 pub run-one : {count : ℕ} {j : Job} {home end : ℕ} {way : List ℕ} (m : Memory) (change : Change) (new : Node) →
-    Turns (BLKSIZE * count) m.disk way home (change ∷ []) new → Comes count j home end m (with_disk m (written (change m.disk) m.disk)) →
+    Turns (BLKSIZE * count) m.disk way home (change ∷ []) new → Comes count j home end 1 m (with_disk m (written (change m.disk) m.disk)) →
     Run count j home end way m (change ∷ []) new
 unfolding left_by
 run-one m change new turns comes = record { turns = turns; comes = comes }
 
 pub comes-idle : (count : ℕ) (j : Job) (home end : ℕ) (m : Memory) (change : Change) → change m.disk ≡ [] →
-    Comes count j home end m (with_disk m (written (change m.disk) m.disk))
+    Comes count j home end 1 m (with_disk m (written (change m.disk) m.disk))
 unfolding written
 comes-idle count j home end m change none =
-    subst (λ (puts : List Put). Comes count j home end m (with_disk m (written puts m.disk))) (sym none) (comes-none count j home end m)
+    subst (λ (puts : List Put). Comes count j home end 1 m (with_disk m (written puts m.disk))) (sym none) (comes-none count j home end 1 m)
 
 run-none : {count : ℕ} {j : Job} {home end : ℕ} {way : List ℕ} (m : Memory) (node : Node) → Has count way home m node →
     Run count j home end way m [] node
 unfolding left_by
 run-none {count} {j} {home} {end} {way} m node has =
-    record { turns = nothing (BLKSIZE * count) m.disk way home node has.holds; comes = comes-none count j home end m }
+    record { turns = nothing (BLKSIZE * count) m.disk way home node has.holds; comes = comes-none count j home end 0 m }
 
 -- ---- blocks that are given back
 
@@ -156,12 +157,12 @@ pub marking : {count : ℕ} {j : Job} {home end : ℕ} {way : List ℕ} → Doin
     Has count way home m node →
     Keeps j (read_now home end m.disk) → min end (BLKSIZE * blocks_needed m.disk home) ≤ size_of m.disk home →
     blocks_needed m.disk home < blocks_of end → 0 < free_blocks m.disk →
-    Comes count j home end m (with_disk m (written (take_indirect home m.disk) m.disk))
+    Comes count j home end 1 m (with_disk m (written (take_indirect home m.disk) m.disk))
 marking {count} {j} {home} {end} {way} does m node has keeps full more free =
     by (cases_lt (blocks_needed m.disk home) 10) (has_indirect m.disk home) refl
   where
     by : (blocks_needed m.disk home < 10) ⊎ (10 ≤ blocks_needed m.disk home) → (b : Bool) → has_indirect m.disk home ≡ b →
-        Comes count j home end m (with_disk m (written (take_indirect home m.disk) m.disk))
+        Comes count j home end 1 m (with_disk m (written (take_indirect home m.disk) m.disk))
     by (inl few) b is = comes-idle count j home end m (take_indirect home) (few-blocks m.disk home few)
     by (inr many) true is = comes-idle count j home end m (take_indirect home) (unmarked m.disk home is)
     by (inr many) false is =
@@ -324,7 +325,7 @@ fills-and-takes {count} {j} {home} {end} {way} does m bytes indirect n has free 
   where
     filling : length bytes ≡ size_of m.disk home → has_indirect m.disk home ≡ indirect →
         (size_of m.disk home < min end (BLKSIZE * n)) ⊎ (min end (BLKSIZE * n) ≤ size_of m.disk home) →
-        Comes count j home end m (with_disk m (written (fill home (min end (BLKSIZE * n)) m.disk) m.disk))
+        Comes count j home end 1 m (with_disk m (written (fill home (min end (BLKSIZE * n)) m.disk) m.disk))
     filling long mark (inl less) =
         comes-filled does.pieces count j home end m (works does has)
         (keeps-now j home end m.disk
@@ -380,7 +381,7 @@ cuts {count} {j} {home} {end} {way} does back m bytes indirect has few unmarked 
     (by is.long is.mark (cases_lt end (size_of m.disk home)))
   where
     by : length bytes ≡ size_of m.disk home → has_indirect m.disk home ≡ indirect → (end < size_of m.disk home) ⊎ (size_of m.disk home ≤ end) →
-        Comes count j home end m (with_disk m (written (cut home end m.disk) m.disk))
+        Comes count j home end 1 m (with_disk m (written (cut home end m.disk) m.disk))
     by long mark (inl less) =
         comes-cut does.pieces count j home end m (works does has) back (subst (λ (n : ℕ). blocks_of n ≤ blocks_of end) long few)
         (subst (λ (b : Bool). Unmarked end b) (sym mark) unmarked) less
@@ -408,7 +409,7 @@ unmarks-run {count} {j} {home} {end} {way} does back m bytes indirect has few fa
     most n end a b = omega arith
 
     by : (b : Bool) → has_indirect m.disk home ≡ b → blocks_needed m.disk home ≤ blocks_of end →
-        Comes count j home end m (with_disk m (written (give_indirect home m.disk) m.disk))
+        Comes count j home end 1 m (with_disk m (written (give_indirect home m.disk) m.disk))
     by true e own = comes-unmarked does.pieces count j home end m (works does has) back own is e
     by false e own = comes-idle count j home end m (give_indirect home) (no-indirect m.disk home e)
 

@@ -41,3 +41,6 @@ pub mod Jobs
 pub mod JobsWhole
 pub mod Ways
 pub mod OpensFound
+pub mod StepsCounted
+pub mod StepsLeft
+pub mod WalksLowered

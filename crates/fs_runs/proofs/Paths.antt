@@ -17,10 +17,10 @@ use Rattle.fs_jobs.specs.declared.asks.TreeNext.{TreeNext}
 use Rattle.fs_jobs.specs.declared.asks.TreeNext.TheVariants.{GoOn}
 use Rattle.fs_jobs.specs.TreeBounds.{is_block, is_bounded, is_bounded_job, is_bounded_walk, is_place}
 use Rattle.fs_runs.specs.TreePlans.{next_at}
-use Rattle.fs_runs.specs.TreeRuns.{AreSmall, HasPath, Memory, at_once, later}
+use Rattle.fs_runs.specs.TreeRuns.{AreSmall, HasPath, Memory}
 use Rattle.fs_jobs.specs.TreeTests.{low_byte, refused, walk_on}
 use Rattle.fs_walks.specs.WalkPlans.{run_behind}
-use Rattle.fs_runs.proofs.Leads.{Leads, here, on}
+use Rattle.fs_runs.proofs.Leads.{Leads, at_once, here, later, on}
 use Rattle.fs_runs.proofs.Pieces.{EndsWith, IsWalking, PathsAreRead, at_walk, finding, opening}
 use Rattle.fs_runs.proofs.PathsSuper.{both-true, goes-else, goes-where}
 

@@ -17,10 +17,10 @@ use Rattle.fs_jobs.specs.declared.place.WalkPlace.TheVariants as walk
 use Rattle.fs_jobs.specs.declared.asks.TreeNext.{TreeNext}
 use Rattle.fs_jobs.specs.TreeBounds.{is_bounded, is_bounded_seek, is_place}
 use Rattle.fs_runs.specs.TreePlans.{next_at}
-use Rattle.fs_runs.specs.TreeRuns.{HasPath, IsSound, Memory, at_once}
+use Rattle.fs_runs.specs.TreeRuns.{HasPath, IsSound, Memory}
 use Rattle.fs_jobs.specs.TreeTests.{change_on, low_byte, refused, walk_on}
 use Rattle.fs_walks.specs.WalkPlans.{changed_to, creates, found, missing, size_wanted, slot_taken, wants_new}
-use Rattle.fs_runs.proofs.Leads.{here, leads_on, leads_to_end, on}
+use Rattle.fs_runs.proofs.Leads.{at_once, here, leads_on, leads_to_end, on}
 use Rattle.fs_runs.proofs.Pieces.{IsWalking, NamesAreSought, WalksFind, WalksMiss, WalksStray, at_file, at_walk, sought}
 use Rattle.fs_runs.proofs.PathsSuper.{both-true}
 use Rattle.fs_runs.proofs.Paths.{low-is, place-small, walk-bounded}

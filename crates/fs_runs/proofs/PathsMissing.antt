@@ -12,10 +12,10 @@ use Rattle.fs_jobs.specs.declared.place.WalkPlace.TheVariants as walk
 use Rattle.fs_jobs.specs.declared.asks.TreeNext.TheVariants.{GoOn}
 use Rattle.fs_jobs.specs.TreeBounds.{is_block, is_bounded, is_bounded_seek, is_place}
 use Rattle.fs_runs.specs.TreePlans.{next_at}
-use Rattle.fs_runs.specs.TreeRuns.{AreSmall, Memory, at_once, later}
+use Rattle.fs_runs.specs.TreeRuns.{AreSmall, Memory}
 use Rattle.fs_jobs.specs.TreeTests.{low_byte, refused, walk_on}
 use Rattle.fs_walks.specs.WalkPlans.{missing}
-use Rattle.fs_runs.proofs.Leads.{Leads, here, on}
+use Rattle.fs_runs.proofs.Leads.{Leads, at_once, here, later, on}
 use Rattle.fs_runs.proofs.Pieces.{EndsWith, IsWalking, at_walk}
 use Rattle.fs_runs.proofs.PathsSuper.{both-true}
 use Rattle.fs_runs.proofs.Paths.{is-not-nul, low-is, place-small, stands-first, walk-bounded}

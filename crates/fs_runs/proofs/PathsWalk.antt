@@ -17,10 +17,10 @@ use Rattle.fs_jobs.specs.declared.place.WalkPlace.TheVariants as walk
 use Rattle.fs_jobs.specs.declared.tests.TheConstants.{DAMAGED}
 use Rattle.fs_jobs.specs.TreeBounds.{is_block, is_bounded, is_bounded_seek, is_count, is_place}
 use Rattle.fs_runs.specs.TreePlans.{next_at}
-use Rattle.fs_runs.specs.TreeRuns.{HasPath, IsSound, Memory, at_once}
+use Rattle.fs_runs.specs.TreeRuns.{HasPath, IsSound, Memory}
 use Rattle.fs_jobs.specs.TreeTests.{low_byte, refused, walk_on}
 use Rattle.fs_walks.specs.WalkPlans.{found}
-use Rattle.fs_runs.proofs.Leads.{Leads, here, leads_on, leads_to_end, on}
+use Rattle.fs_runs.proofs.Leads.{Leads, at_once, here, leads_on, leads_to_end, on}
 use Rattle.fs_runs.proofs.Pieces.{EndsWith, IsDirectoryOf, IsLastName, IsNameAt, IsWalking, NamesAreSought, at_walk, sought}
 use Rattle.fs_runs.proofs.PathsSuper.{both-true}
 use Rattle.fs_runs.proofs.Paths.{is-not-nul, low-is, place-small, stands-first, walk-bounded}

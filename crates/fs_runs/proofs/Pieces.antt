@@ -29,9 +29,9 @@ use Rattle.fs_jobs.specs.declared.place.Wanted.TheVariants as wanted
 use Rattle.fs_jobs.specs.declared.asks.TreeNext.TheVariants.{GoOn}
 use Rattle.fs_changes.specs.ChangePlans.{fill_end, more_blocks, place_for}
 use Rattle.fs_jobs.specs.TreeBounds.{is_bounded, is_bounded_changed, is_bounded_job, is_bounded_wanted}
-use Rattle.fs_runs.specs.TreeRuns.{AreSmall, Ends, HasPath, IsSound, Memory, bytes_given}
+use Rattle.fs_runs.specs.TreeRuns.{AreSmall, HasPath, IsSound, Memory, bytes_given}
 use Rattle.fs_walks.specs.WalkPlans.{begun, changed_to, creates, size_wanted, slot_taken, wants_new}
-use Rattle.fs_runs.proofs.Leads.{Leads}
+use Rattle.fs_runs.proofs.Leads.{EndsIn, Leads}
 
 -- ---- words
 
@@ -44,9 +44,13 @@ at_file j count changed place = record { job = j; count = count; place = Changin
 abbrev pub with_disk : Memory → (ℕ → ℕ) → Memory
 with_disk m disk = record m { disk = disk }
 
--- it ends with an answer
+-- it ends with an answer, and reads the size again so often
+abbrev pub EndsAfter : ℕ → ℕ → Memory → ℕ → TreeState → Memory → Type 0
+EndsAfter count answer after rounds state m = (n : ℕ) × EndsIn count answer after rounds n state m
+
+-- or never
 abbrev pub EndsWith : ℕ → ℕ → Memory → TreeState → Memory → Type 0
-EndsWith count answer after state m = (n : ℕ) × Ends count answer after n state m
+EndsWith count answer after state m = EndsAfter count answer after 0 state m
 
 -- a job that walks along a path
 pub data IsWalking : Job → Type 0 where

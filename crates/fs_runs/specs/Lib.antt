@@ -1,2 +1,3 @@
+pub mod JobSteps
 pub mod TreePlans
 pub mod TreeRuns

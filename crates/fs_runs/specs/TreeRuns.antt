@@ -21,6 +21,7 @@ use Rattle.fs_jobs.specs.declared.asks.TreeAsk.{TreeAsk}
 use Rattle.fs_jobs.specs.declared.asks.TreeAsk.TheVariants as ask
 use Rattle.fs_jobs.specs.declared.asks.TreeNext.TheVariants.{Answer, GoOn}
 use Rattle.fs_jobs.specs.TreeBounds.{is_bounded}
+use Rattle.fs_runs.specs.JobSteps.{ROUND_STEPS_MAX, job_steps_max, reads_size, steps_left}
 use Rattle.fs_runs.specs.TreePlans.{ask_at, next_at}
 use Rattle.fs_jobs.specs.TreeTests.{low_byte}
 
@@ -113,9 +114,10 @@ pub record HasActed (is_open : List ℕ → Bool) (act : FileAct) (before : Memo
   pub bytes : (k : ℕ) → k < length (plan_of is_open before.disk act).bytes → after.page k ≡ slice_index (plan_of is_open before.disk act).bytes k
   pub rest : (k : ℕ) → length (plan_of is_open before.disk act).bytes ≤ k → after.page k ≡ before.page k
 
--- From here what is left of a job ends as the act does that began over another memory.
+-- From here what is left of a job ends as the act does that began over another memory, and in so few steps.
 pub record IsOnItsWay (count : ℕ) (is_open : List ℕ → Bool) (act : FileAct) (before : Memory) (state : TreeState) (m : Memory) : Type 0 where
   pub left : ℕ
+  pub soon : left ≤ job_steps_max count
   pub answer : ℕ
   pub after : Memory
   pub ends : Ends count answer after left state m
@@ -133,10 +135,10 @@ found_place byte astray = negated E_NOT_FOUND
 found_place byte (no_record directory name) = negated E_NOT_FOUND
 found_place byte (a_record place way) = if is_directory_at byte place then negated E_INVAL else place
 
--- A path that is looked up answers where the record stands, and changes nothing.
+-- A path that is looked up answers where the record stands, and changes nothing; and it does so soon.
 abbrev pub FindsAreLooks : Type 0
 FindsAreLooks = (count : ℕ) (path : List ℕ) (m : Memory) → IsSound count m → HasPath m.page path →
-    (n : ℕ) × Ends count (found_place m.disk (led_to m.disk path)) m n (begun_with job.Find) m
+    (n : ℕ) × (n ≤ job_steps_max count) × Ends count (found_place m.disk (led_to m.disk path)) m n (begun_with job.Find) m
 
 -- Over a disk without a fault an open that answers 0 leaves a disk on which its path leads to a file, and the tree of this disk names the same.
 abbrev pub OpensAreFound : Type 0
@@ -160,9 +162,10 @@ abbrev pub WaysGoOn : Type 0
 WaysGoOn = (count : ℕ) (is_open : List ℕ → Bool) (act : FileAct) (before : Memory) (state : TreeState) (m : Memory)
     (way : IsOnItsWay count is_open act before state m) → StaysOnItsWay count is_open act before state m way
 
--- From here a job ends with this answer, and leaves this.
+-- From here a job ends with this answer, and leaves this, in so few steps.
 pub record IsRunning (count answer : ℕ) (after : Memory) (state : TreeState) (m : Memory) : Type 0 where
   pub left : ℕ
+  pub soon : left ≤ job_steps_max count
   pub ends : Ends count answer after left state m
 
 -- Such a job makes a lawful step too. Where it goes on it still runs towards this end, with one step fewer to come; where it answers, this is
@@ -177,3 +180,9 @@ StaysRunning count answer after state m run =
 abbrev pub RunsGoOn : Type 0
 RunsGoOn = (count answer : ℕ) (after : Memory) (state : TreeState) (m : Memory) (run : IsRunning count answer after state m) →
     StaysRunning count answer after state m run
+
+-- Whatever word a job reads, its next step leaves fewer steps up to where a size is read again, or to its end; and behind such a reading there
+-- are not many.
+abbrev pub StepsAreLeft : Type 0
+StepsAreLeft = (count : ℕ) (state next : TreeState) (word : ℕ) → is_bounded state ≡ true → IsInside count (ask_at state) →
+    next_at state word ≡ GoOn next → steps_left next < steps_left state + ROUND_STEPS_MAX * reads_size state

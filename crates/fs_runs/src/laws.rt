@@ -1,8 +1,8 @@
 //! What the run of a job is. Nothing here is to be run: each clause is a theorem.
 
-ghost use Rattle.fs_runs.specs.TreeRuns.{FindsAreLooks, JobsAreActs, OpensAreFound, RunsGoOn, WaysGoOn};
+ghost use Rattle.fs_runs.specs.TreeRuns.{FindsAreLooks, JobsAreActs, OpensAreFound, RunsGoOn, StepsAreLeft, WaysGoOn};
 
-/// Each job's run ends, its answer is the act's, what it has stored is exactly what the act stores, what it hands back stands at the begin
+/// Each job's run ends soon, its answer is the act's, what it has stored is exactly what the act stores, what it hands back stands at the begin
 /// of the page, and the rest of the page is as it was.
 #[tactic(auto, using(crate::proofs::JobsWhole::all_jobs_are_acts))]
 pub fn jobs_are_acts()
@@ -29,4 +29,10 @@ pub fn ways_go_on()
 /// answered it.
 pub fn runs_go_on()
     ensures { RunsGoOn }
+{}
+
+/// Whatever words are read, each step of a job leaves fewer steps up to where the size of a record is read again before its next change, or up
+/// to the end; and behind such a reading there are not many.
+pub fn steps_are_left()
+    ensures { StepsAreLeft }
 {}

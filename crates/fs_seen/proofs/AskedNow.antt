@@ -9,6 +9,7 @@ use Rattle.fs_layout.specs.FileTree.{FileSystem}
 use Rattle.lib_os.specs.Disk.{Disk}
 use Rattle.lib_os.specs.FileServer.{request_begun}
 use Rattle.lib_os.specs.InOrder.{IsInOrder}
+use Rattle.lib_os.specs.LibrarySteps.{with_word}
 use Rattle.fs_blocks.specs.CachePlaces.{state_in as cache_at_words}
 use Rattle.fs_cache.proofs.Loads.{number_of}
 use Rattle.fs_tree.specs.TreeSteps.{memory_in}
@@ -18,7 +19,7 @@ use Rattle.fs_requests.specs.declared.state.ServerStep.TheVariants as step
 use Rattle.fs_requests.specs.ServerWords.{server_in}
 use Rattle.fs_serving.specs.ServerRuns.{HasFiles, StandsAtStep, TableStands}
 use Rattle.fs_server.specs.ServerSteps.{server_at}
-use Rattle.fs_seen.specs.ServerMemory.{HasRequested, StandsOver, request_page, serving_in, view_in}
+use Rattle.fs_seen.specs.ServerMemory.{HasRequested, StandsOver, has_request, request_page, serving_in, view_in}
 use Rattle.fs_seen.specs.ServerWhole.{AskedByWord, AskedServes, IsAsked, IsIdle, ServesBy, ServesFor}
 use Rattle.fs_seen.proofs.Between.{files_over}
 use Rattle.fs_seen.proofs.Changes.{block_server, request_server, table_no_request, table_server}
@@ -89,6 +90,11 @@ asked_serves a b d s after client request k waits h in_order asked files server 
 
     step_is : (server_at after 0).step ≡ step.ReadingKind
     step_is = ap (λ (x : ServerState). x.step) (asked_server s after 0 asked) ∙ was.at
+
+-- a word leaves the page of the request
+pub word_request : (s after : KernelState) (n sender value : ℕ) → slot_at after n ≡ with_word (slot_at s n) sender value → after.spaces ≡ s.spaces →
+    has_request after n ≡ has_request s n
+word_request s after n sender value slot spaces i = is_some ((spaces i).entries (slot i).directory request_page)
 
 pub asked_by_word : AskedByWord
 asked_by_word d s after n sender value h slot spaces = record {

@@ -66,6 +66,20 @@ sees_same d s mid n h k counts entry bytes message = record {
     page_same : (memory_in d mid n).page ≡ (memory_in d s n).page
     page_same = bytes_alike s mid n (λ x is. (h.request x is).bits) (same_entry s mid n entry bytes)
 
+-- where the message is as it was, over the page that the request has now
+pub sees_paged : (d : Disk) (s mid : KernelState) (n : ℕ) → Stays s mid n → CountsStay s mid n →
+    (slot_at mid n).rendezvous ≡ (slot_at s n).rendezvous →
+    SeesAlike (record (view_in d s n) { memory = record { disk = (memory_in d s n).disk; page = (memory_in d mid n).page } }) (view_in d mid n)
+sees_paged d s mid n k counts message = record {
+  memory = λ i. record { disk = disk_same s mid n k d i; page = (memory_in d mid n).page };
+  homes = λ i number. (same_table s mid n k).homes number i;
+  pages = λ i number. (same_table s mid n k).pages number i;
+  frames = λ i number. same_frames s mid n k number i;
+  holders = same_holders s mid n k counts;
+  value = λ i. (message i).value;
+  sender = λ i. (message i).sender;
+}
+
 -- ---- the files
 
 pub files_over : (count : ℕ) (m k : Memory) (files : FileSystem) → k.disk ≡ m.disk → HasFiles count m files → HasFiles count k files

@@ -29,7 +29,7 @@ use Rattle.fs_seen.specs.ServerWhole.{IsServing, ReceivesServe, ReleasesServe, S
 use Rattle.fs_seen.proofs.Between.{called_at, files_over, leaving_serves, number_small, same_objects, same_state, table_seen}
 use Rattle.fs_seen.proofs.ServesFor.{stands_at}
 use Rattle.fs_seen.proofs.Setting.{was_in_order}
-use Rattle.fs_seen.proofs.StaysGone.{HasGone, SlotStays, counts_released, counts_still, given_back, has_gone, none_there, stays_released, stays_still}
+use Rattle.fs_seen.proofs.StaysGone.{HasGone, SlotStays, counts_released, counts_still, given_back, has_gone, none_there, stays_released, stays_still, still_entry}
 use Rattle.fs_seen.proofs.StaysSo.{CountsStay, disk_same, same_table, stands_so}
 use Rattle.fs_seen.proofs.TablesAlike.{table_again}
 
@@ -107,7 +107,7 @@ module _ (a : AbstractState) (d : Disk) (s after : KernelState) (output : Output
     waiting = record a { server = idle }
 
     ready_serves : (gone : HasGone s ready after 0 (shown st step.ReadingKind)) →
-        (server_step a ≡ Some waiting) × ServesOn d s after waiting step.ReadingKind
+        (server_step a ≡ Some waiting) × ServesOn d s after waiting step.ReadingKind × (has_request after 0 ≡ has_request s 0)
     unfolding server_step
     ready_serves gone = (
       ap (λ (x : Server). served a x) is.0,
@@ -126,6 +126,7 @@ module _ (a : AbstractState) (d : Disk) (s after : KernelState) (output : Output
         at_step = step_is;
         table = same_table s after 0 gone.stays;
       },
+      ap (λ (o : Option Entry). is_some o) (gone.entries request_page ∙ still_entry d s ready 0 h.stands ready_stays request_page),
     )
       where
         stands : StandsServing d.count a (serving_in d s 0)
@@ -142,6 +143,7 @@ module _ (a : AbstractState) (d : Disk) (s after : KernelState) (output : Output
 
     receives : (done : Progress) → HasCalled (call_for st step.Receiving) st s after 0 output done →
         (done ≡ progress.Visible) × (server_step a ≡ Some waiting) × ServesOn d s after waiting step.ReadingKind
+        × (has_request after 0 ≡ has_request s 0)
     receives _ (by_word word mid reply behind) =
         let step_made = receive_is s (0 ∷ 0 ∷ 0 ∷ []) h.stands.cache.live in
         let came : mid ≡ ready = reply.2.1 ∙ ap (λ (z : CallStep Called). z.state) step_made in
@@ -149,7 +151,7 @@ module _ (a : AbstractState) (d : Disk) (s after : KernelState) (output : Output
         let here : after ≡ gone_on ready 0 (shown st step.ReadingKind) = behind ∙ (λ i. gone_on (came i) 0 (goes i)) in
         let stays = stays_still d s ready 0 h.stands ready_stays (was_in_order ready 0 (shown st step.ReadingKind) after here in_order) in
         let behind_it = ready_serves (has_gone s ready 0 (shown st step.ReadingKind) refl (number_small s 0) stays after here in_order) in
-        (ap (λ (z : ServerNext). z.seen) goes, behind_it.0, behind_it.1)
+        (ap (λ (z : ServerNext). z.seen) goes, behind_it.0, behind_it.1, behind_it.2)
     receives done (was_stopped why end reply stops) = absurd reply
 
 pub releases_serve : ReleasesServe

@@ -51,7 +51,7 @@ module _ (d : Disk) (s : KernelState) (n : ℕ) (h : AllStands d s n) where
 
   module _ (there : has_request s n ≡ true) (at : ℕ) (fits : at + 4 ≤ PGSIZE) where
     abbrev pub request : HasRequest s n
-    request = (tree_of d s n h.stands there).request
+    request = (tree_of d s n h there).request
 
     abbrev pub request_va : ℕ
     request_va = REQUEST + at

@@ -34,12 +34,12 @@ use Rattle.fs_server.specs.ServerSteps as server
 use Rattle.fs_server.specs.ServerSteps.{Flushes, HasFlushed, ends, goes, server_at}
 use Rattle.fs_seen.specs.BlockSteps.{FlushesServe, SeesAlike}
 use Rattle.fs_seen.specs.ServerMemory.{IsRequestPage, StandsOver, entry_of, has_request, serving_in, view_in}
-use Rattle.fs_seen.specs.ServerSees.{HasServed, is_working}
+use Rattle.fs_seen.specs.ServerSees.{AllStands, HasServed, is_working}
 use Rattle.fs_seen.proofs.CacheLeaves.{CacheLeaves, step_leaves}
 use Rattle.fs_seen.proofs.DiskStays.{bytes_gone}
 use Rattle.fs_seen.proofs.GoesOn.{goes_well}
 use Rattle.fs_seen.proofs.JobsServed.{follows_seen, number_below}
-use Rattle.fs_seen.proofs.Over.{RequestAlike, all_small, bytes_alike, has_alike, no_page}
+use Rattle.fs_seen.proofs.Over.{RequestAlike, all_small, bytes_alike, has_alike, no_page, request_of}
 use Rattle.fs_seen.proofs.SeenAlike.{seeing, sees_as}
 use Rattle.fs_seen.proofs.ServesAs.{follows_as, serves_as}
 use Rattle.fs_seen.proofs.Setting.{going_to, has_gone_on}
@@ -68,18 +68,21 @@ record RequestNow (s after : KernelState) (n : ℕ) : Type 0 where
   stays : has_request after n ≡ has_request s n
 
 -- The cache stands over the disk that the host tells then, the table stands, and the same is seen.
-record FlushLeaves (disk : DiskFile) (d : Disk) (s after : KernelState) (n : ℕ) (files : Option Files) : Type 0 where
-  now : Files
-  told : files ≡ Some now
-  over : StandsOver (disk_in now disk) after n
-  request_stays : has_request after n ≡ has_request s n
-  sees : SeesAlike (view_in d s n) (view_in (disk_in now disk) after n)
-  server : server_at after n ≡ server_at s n
+pub record FlushLeaves (disk : DiskFile) (d : Disk) (s after : KernelState) (n : ℕ) (files : Option Files) : Type 0 where
+  pub now : Files
+  pub told : files ≡ Some now
+  pub over : StandsOver (disk_in now disk) after n
+  pub request_stays : has_request after n ≡ has_request s n
+  pub sees : SeesAlike (view_in d s n) (view_in (disk_in now disk) after n)
+  pub server : server_at after n ≡ server_at s n
 
-module _ (disk : DiskFile) (before : Files) (s : KernelState) (n : ℕ) (h : StandsOver (disk_in before disk) s n)
+module _ (disk : DiskFile) (before : Files) (s : KernelState) (n : ℕ) (all : AllStands (disk_in before disk) s n)
     (files : Around (Option Files)) (output : Output) (is : files.before ≡ Some before) where
   abbrev d : Disk
   d = disk_in before disk
+
+  abbrev h : StandsOver d s n
+  h = all.stands
 
   -- the page of a request stays, or none is there
   request_now : (after : KernelState) → CacheLeaves s after n → RequestNow s after n
@@ -94,18 +97,17 @@ module _ (disk : DiskFile) (before : Files) (s : KernelState) (n : ℕ) (h : Sta
             stays = has_alike s after n none;
           }
       by_entry (Some x) at =
-          let page = h.request x at in
-          let kept = left.kept (record { entry = x; stands = at; bits = page.bits; whole = page.whole; apart = page.apart }) in
+          let kept = left.kept (request_of d s n all x at) in
           let request = kept.request in
           record {
             pages = λ e there.
                 subst (λ (y : Entry). IsRequestPage after n y) (same_Some request.entry e (sym request.stands ∙ there))
-                (record { bits = request.bits; whole = request.whole; apart = request.apart });
+                (record { bits = request.bits; apart = request.apart });
             bytes = kept.bytes;
             stays = ap (λ (o : Option Entry). is_some o) request.stands ∙ sym (ap (λ (o : Option Entry). is_some o) at);
           }
 
-  flush_leaves : (done : Flushed) (after : KernelState) → Flushes done disk n s after files output → FlushLeaves disk d s after n files.after
+  pub flush_leaves : (done : Flushed) (after : KernelState) → Flushes done disk n s after files output → FlushLeaves disk d s after n files.after
   flush_leaves done after it =
       let kept = it.cache before is h.cache in
       let e : Disk = disk_in kept.0 disk in
@@ -140,7 +142,7 @@ module _ (disk : DiskFile) (before : Files) (s : KernelState) (n : ℕ) (h : Sta
     goes_on_so : let next = next_at (server_at s n) 0 in Follows count a next.seen (gone_on it next it.view)
     goes_on_so =
         subst (λ (at : ServerStep). GoesOnBy (ask_for (server_at s n) at) count a it) flushing
-        (all_servers_serve count a it (subst (λ (at : ServerStep). is_serving at ≡ true) (sym flushing) refl) (all_small d s n h) stands)
+        (all_servers_serve count a it (subst (λ (at : ServerStep). is_serving at ≡ true) (sym flushing) refl) (all_small d s n all) stands)
 
     idle : is_working (server_at s n).step ≡ false
     idle = ap is_working flushing
@@ -195,4 +197,4 @@ module _ (disk : DiskFile) (before : Files) (s : KernelState) (n : ℕ) (h : Sta
 
 pub flushes_serve : FlushesServe
 flushes_serve count a disk before s after files output done flushing all stands order is flushed =
-    has_flushed disk before s 0 all.stands files output is count a flushing stands after done order flushed
+    has_flushed disk before s 0 all files output is count a flushing stands after done order flushed

@@ -149,14 +149,14 @@ module _ (disk : DiskFile) (before now : Files) (s : KernelState) (n : ℕ) (h :
   abbrev Left : KernelState → Type 0
   Left mid = LeavesTable s mid n × ((slot_at mid n).directory ≡ dir)
 
-  call_left : (mid : KernelState) (output : Output) → IsTreeCall disk before now s mid n output → Left mid
-  call_left mid output (fetches block told below done) =
+  call_left : (a : TreeAsk) (mid : KernelState) (output : Output) → IsTreeCall a disk before now s mid n output → Left mid
+  call_left a mid output (fetches block told below done) =
       let left : CacheLeaves s mid n =
       step_leaves d (caller s n disk) (server_of d s n h.cache) (fetch_state s n block) before (Some now) told mid output k h.cache.words
-      (fetch_stands d (view_in s n) (cache_state s n).place (cache_state s n).hand block below h.cache.stands)
+      (fetch_stands d (view_in s n) (cache_state s n).place (cache_state s n).hand block below.0 h.cache.stands)
       (fetch_goes (cache_state s n).place block) done in
       (left.table, left.directory)
-  call_left mid output (asks_block block at word a small found call) =
+  call_left a mid output (asks_block block at word small found call) =
       let stands = found_stands d s n block h found in
       let below : block < CACHE_BLOCKS = stands.block_below in
       let entry = found_entry d s n block h found in
@@ -167,7 +167,7 @@ module _ (disk : DiskFile) (before now : Files) (s : KernelState) (n : ℕ) (h :
             entry.0 there (stands.entries block entry.0 entry.1) (block_address block + at) number output a word call).table,
         ap (λ (x : Slot). x.directory) (access_slot a s mid n (block_address block + at) word output call),
       )
-  call_left mid output (asks_request at word a small call) =
+  call_left a mid output (asks_request place at word is small call) =
       let number : page_number (REQUEST + at) ≡ request_number = omega (arith, small) in (
         (access_left s mid n uses k request_number request_server table_no_request
             (λ none. absurd (none-some h.request.entry (sym none ∙ h.request.stands))) request_low h.request.entry h.request.stands h.request.bits
@@ -175,11 +175,11 @@ module _ (disk : DiskFile) (before now : Files) (s : KernelState) (n : ℕ) (h :
         ap (λ (x : Slot). x.directory) (access_slot a s mid n (REQUEST + at) word output call),
       )
 
-  pub job_leaves : (after : KernelState) → IsTreeStep disk before now s after n → LeavesRest s after n
-  job_leaves after it = record { table = table_now; rest = it.rest }
+  pub job_leaves : {a : TreeAsk} (after : KernelState) → IsTreeStep a disk before now s after n → LeavesRest s after n
+  job_leaves {a = a} after it = record { table = table_now; rest = it.rest }
     where
       left : Left it.mid
-      left = call_left it.mid it.output it.call
+      left = call_left a it.mid it.output it.call
 
       same : (slot_at after n).directory ≡ (slot_at it.mid n).directory
       same = ap (λ (x : Slot). x.directory) it.rest.slot ∙ sym left.1

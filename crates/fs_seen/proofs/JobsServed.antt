@@ -84,7 +84,7 @@ still_small (asks.HandBack at byte) m small = (small.0, byte_small m.page at byt
 
 -- ---- a job is under way
 
-working_or_finding : (at : ServerStep) → is_working at ≡ true → (at ≡ step.Working) ⊎ (at ≡ step.Finding)
+pub working_or_finding : (at : ServerStep) → is_working at ≡ true → (at ≡ step.Working) ⊎ (at ≡ step.Finding)
 working_or_finding step.Working on = inl refl
 working_or_finding step.Finding on = inr refl
 working_or_finding step.Releasing on = absurd (let contradiction : false ≡ true = on in cc)
@@ -127,7 +127,7 @@ works_on count a it on small h =
     served serving = all_servers_serve count a it serving small h
 
 -- the page of the request is there
-page_at_work : (count : ℕ) (a : AbstractState) (it : Serving) (s : KernelState) (n : ℕ) → is_working it.state.step ≡ true → HasRequested a.server s n →
+pub page_at_work : (count : ℕ) (a : AbstractState) (it : Serving) (s : KernelState) (n : ℕ) → is_working it.state.step ≡ true → HasRequested a.server s n →
     StandsServing count a it → has_request s n ≡ true
 page_at_work count a it s n on requested h = elim (working_or_finding it.state.step on) [
   | inl is ↦
@@ -166,7 +166,7 @@ refusals_kept mid n next = refl
 -- ---- the job goes on
 
 module _ (count : ℕ) (a : AbstractState) (d e : Disk) (s : KernelState) (n : ℕ) (on : is_working (server_at s n).step ≡ true)
-    (requested : has_request s n ≡ true) (over : StandsOver d s n) (bytes : AreDiskBytes e) (h : StandsServing count a (serving_in d s n)) where
+    (requested : has_request s n ≡ true) (over : AllStands d s n) (bytes : AreDiskBytes e) (h : StandsServing count a (serving_in d s n)) where
   abbrev it : Serving
   it = serving_in d s n
 
@@ -174,7 +174,7 @@ module _ (count : ℕ) (a : AbstractState) (d e : Disk) (s : KernelState) (n : �
   small = all_small d s n over
 
   stands_over : (after : KernelState) → LeavesRest s after n → TreeAt e after n → StandsOver e after n
-  stands_over after left tree = over_of e after n tree bytes (table_there s after n left.table over.table)
+  stands_over after left tree = over_of e after n tree bytes (table_there s after n left.table over.stands.table)
 
   stays_there : (after : KernelState) → TreeAt e after n → has_request after n ≡ has_request s n
   stays_there after tree = tree_requested e after n tree ∙ sym requested
@@ -289,15 +289,15 @@ module _ (count : ℕ) (a : AbstractState) (disk : DiskFile) (before now : Files
   there = page_at_work count a (serving_in d s n) s n on requested h
 
   tree_there : TreeAt d s n
-  tree_there = tree_of d s n all.stands there
+  tree_there = tree_of d s n all there
 
   has_worked : (after : KernelState) (done : Progress) → AreDiskBytes e → IsInOrder after → HasWorked (server_at s n) disk before now s after n done →
       HasServed count a e s after n done ⊎ LacksBlock d e s after n done
   has_worked after _ bytes order (goes stepped alone) =
-      inl (goes_further count a d e s n on there all.stands bytes h acted.Going after refl stepped
+      inl (goes_further count a d e s n on there all bytes h acted.Going after refl stepped
       (job_leaves disk before now s n tree_there all.stands.table after alone))
   has_worked after _ bytes order (answers word mid stepped alone is) =
-      has_answered count a d e s n on there all.stands bytes h mid after word (job_leaves disk before now s n tree_there all.stands.table mid alone) order is
+      has_answered count a d e s n on there all bytes h mid after word (job_leaves disk before now s n tree_there all.stands.table mid alone) order is
       (acted.Answer word) refl stepped
 
 pub jobs_serve : JobsServe

@@ -37,5 +37,11 @@ pub mod BetweenRequests
 pub mod AskedNow
 pub mod RepliesNow
 pub mod TableStays
+pub mod TablePages
+pub mod Repaged
 pub mod OthersNow
+pub mod StaysUnopened
+pub mod AskedByPages
 pub mod FirstServes
+pub mod PlansFall
+pub mod ActsSoon

@@ -1,5 +1,5 @@
 -- Where another's step leaves the server's pages, and the abstract state has the same of what the server has, the server serves on.
-use Rattle.std.proofs.Common.{◌≡◌, ◌∙◌, ◌<◌, ℕ, Bool, List, Option, Some, None, length, sym, ap, subst, arith}
+use Rattle.std.proofs.Common.{◌≡◌, ◌∙◌, ◌<◌, ℕ, Bool, true, false, List, Option, Some, None, length, refl, sym, ap, subst, arith}
 use Rattle.std.specs.Prelude.{is_some}
 use Rattle.jos_base.specs.Environments.{Slot, is_live}
 use Rattle.jos_base.specs.KernelState.{KernelState, slot_at}
@@ -12,7 +12,6 @@ use Rattle.lib_os.specs.AbstractState.{AbstractState, Object, OpenFile, Request,
 use Rattle.lib_os.specs.Disk.{Disk}
 use Rattle.lib_os.specs.FileServer.{is_file_open}
 use Rattle.lib_os.specs.InOrder.{IsInOrder}
-use Rattle.lib_os.specs.Rows.{IsPage}
 use Rattle.fs_blocks.specs.CachePlaces.{state_in as cache_at_words}
 use Rattle.fs_cache.proofs.Loads.{number_of, row_below}
 use Rattle.fs_cache.specs.CacheSteps.{row_in}
@@ -30,12 +29,14 @@ use Rattle.fs_server.specs.ServerSteps.{server_at}
 use Rattle.fs_tree.specs.TreeSteps.{memory_in}
 use Rattle.fs_seen.specs.BlockSteps.{SeesAlike}
 use Rattle.fs_seen.specs.ServerMemory.{HasRequested, IsRequestPage, StandsOver, entry_of, request_page, serving_in, view_in}
-use Rattle.fs_seen.specs.ServerWhole.{IsIdle, IsServing, LeavesPages, OthersServe, SameServed, ServesBy}
-use Rattle.fs_seen.proofs.Between.{files_over, same_state, sees_same, table_seen}
+use Rattle.fs_seen.specs.ServerWhole.{IsIdle, IsServing, LeavesPages, OthersLeaveTable, OthersServe, SameServed, ServesBy, keeps_request}
+use Rattle.fs_seen.proofs.Between.{files_over, same_state, sees_paged, sees_same, table_seen}
 use Rattle.fs_seen.proofs.Changes.{block_entry, block_server, request_server, table_no_request, table_server}
+use Rattle.fs_seen.proofs.Repaged.{repaged}
 use Rattle.fs_seen.proofs.SeenAlike.{sees_as}
 use Rattle.fs_seen.proofs.ServesFor.{requested_stays}
-use Rattle.fs_seen.proofs.StaysSo.{Stays, disk_same, same_table, stands_so}
+use Rattle.fs_seen.proofs.StaysSo.{Stays, block_no_request, disk_same, same_table, stands_so}
+use Rattle.fs_seen.proofs.TablePages.{pages_still}
 use Rattle.fs_seen.proofs.TablesAlike.{table_again}
 
 -- ---- for another abstract state
@@ -258,7 +259,8 @@ module _ (a b : AbstractState) (same : SameServed a b) where
 
 -- ---- its pages
 
-module _ (d : Disk) (s after : KernelState) (h : StandsOver d s 0) (in_order : IsInOrder after) (left : LeavesPages s after 0) where
+module _ (d : Disk) (s after : KernelState) (h : StandsOver d s 0) (in_order : IsInOrder after) (server : Server)
+    (left : LeavesPages server s after 0) where
   row_left : (m : ℕ) (x : Entry) → row_in after 0 m ≡ Some x → row_in s 0 m ≡ Some x
   row_left m x is =
       let at = block_entry after.spaces (slot_at after 0).directory m x is in
@@ -270,7 +272,6 @@ module _ (d : Disk) (s after : KernelState) (h : StandsOver d s 0) (in_order : I
       let old = h.request e was in
       record {
         bits = old.bits;
-        whole = subst (λ (page : List ℕ). IsPage page) (sym (left.bytes request_page e request_server was)) old.whole;
         apart = λ m x row. old.apart m x (row_left m x row);
       }
 
@@ -284,17 +285,18 @@ module _ (d : Disk) (s after : KernelState) (h : StandsOver d s 0) (in_order : I
     cache = ap (λ (x : Slot). cache_at_words x.extra) left.slot;
     entries = λ p own ne. left.entries p;
     tables = λ r ne. ap (λ (o : Option Region). is_some o) (left.tables r);
-    bytes = λ p e is there. left.bytes p e (table_server p is) there;
-    blocks = λ m e below there. left.bytes (number_of m) e (block_server m below) there;
+    bytes = λ p e is there. left.bytes p e (table_server p is) (table_no_request p is) there;
+    blocks = λ m e below there. left.bytes (number_of m) e (block_server m below) (block_no_request m) there;
     page = page_left;
     apart = λ p x e is x_is e_is same.
         table_no_request p is (h.table.apart p request_page x e is request_server x_is (sym (left.entries request_page) ∙ e_is) same);
   }
 
-module _ (a b : AbstractState) (d : Disk) (s after : KernelState) (h : IsServing d s 0 a) (in_order : IsInOrder after) (left : LeavesPages s after 0)
-    (same : SameServed a b) (table : (disk : ℕ → ℕ) → TableStands disk a (view_in d after 0) → TableStands disk b (view_in d after 0)) where
+module _ (a b : AbstractState) (d : Disk) (s after : KernelState) (h : IsServing d s 0 a) (in_order : IsInOrder after)
+    (left : LeavesPages a.server s after 0) (same : SameServed a b)
+    (table : (disk : ℕ → ℕ) → TableStands disk a (view_in d after 0) → TableStands disk b (view_in d after 0)) where
   stays : Stays s after 0
-  stays = stays_left d s after h.stands in_order left
+  stays = stays_left d s after h.stands in_order a.server left
 
   pub step_left : (server_at after 0).step ≡ (server_at s 0).step
   step_left = ap (λ (x : Slot). (server_in x.registers x.extra).step) left.slot
@@ -312,19 +314,28 @@ module _ (a b : AbstractState) (d : Disk) (s after : KernelState) (h : IsServing
         (table_now (memory_in d s 0).disk was.table);
   }
 
-  sees_now : SeesAlike (view_in d s 0) (view_in d after 0)
-  sees_now =
-      sees_same d s after 0 h.stands stays left.counts (left.entries request_page) (λ e is. left.bytes request_page e request_server is)
-      (ap (λ (x : Slot). x.rendezvous) left.slot)
+  message : (slot_at after 0).rendezvous ≡ (slot_at s 0).rendezvous
+  message = ap (λ (x : Slot). x.rendezvous) left.slot
+
+  sees_now : keeps_request a.server ≡ true → SeesAlike (view_in d s 0) (view_in d after 0)
+  sees_now keeps = sees_same d s after 0 h.stands stays left.counts (left.entries request_page) (left.request keeps) message
 
   abbrev there : Slot → Serving
   there x = record { state = server_in x.registers x.extra; job = places.state_in x.registers x.extra; view = view_in d after 0 }
 
+  -- it stands where it stood, over what is seen now
+  still_seen : (keeps : Bool) → keeps_request a.server ≡ keeps → StandsServing d.count a (serving_in d s 0) →
+      StandsServing d.count a (there (slot_at s 0))
+  still_seen true keeps was = sees_as d.count a (serving_in d s 0) (view_in d after 0) (sees_now keeps) was
+  still_seen false free was =
+      let page = (memory_in d after 0).page in
+      sees_as d.count a (over (serving_in d s 0) (record { disk = (memory_in d s 0).disk; page = page })) (view_in d after 0)
+      (sees_paged d s after 0 stays left.counts message) (repaged d.count a (serving_in d s 0) page free was)
+
   serving_now : StandsServing d.count a (serving_in d s 0) → StandsServing d.count b (serving_in d after 0)
   serving_now was =
       let seen : StandsServing d.count a (serving_in d after 0) =
-      subst (λ (x : Slot). StandsServing d.count a (there x)) (sym left.slot)
-      (sees_as d.count a (serving_in d s 0) (view_in d after 0) sees_now was) in
+      subst (λ (x : Slot). StandsServing d.count a (there x)) (sym left.slot) (still_seen (keeps_request a.server) refl was) in
       let now = table seen.before.disk seen.table in
       record {
         before = seen.before;
@@ -352,5 +363,9 @@ pub others_serve : OthersServe
 others_serve a b d s after h in_order left same table = record {
   serving = others_now a b d s after h in_order left same table;
   at_step = step_left a b d s after h in_order left same table;
-  table = same_table s after 0 (stays_left d s after h.stands in_order left);
+  table = same_table s after 0 (stays_left d s after h.stands in_order a.server left);
 }
+
+pub others_leave_table : OthersLeaveTable
+others_leave_table server s after n left =
+    pages_still s after n (λ p is. left.entries p) (λ p e is there. left.bytes p e (table_server p is) (table_no_request p is) there)

@@ -26,21 +26,30 @@ use Rattle.lib_os.specs.UserCalls.{user_byte}
 use Rattle.fs_cache.specs.CacheStands.{IsBlockEntry, cached_in}
 use Rattle.fs_cache.specs.CacheSteps.{row_in}
 use Rattle.fs_runs.specs.TreeRuns.{AreSmall}
-use Rattle.fs_tree.specs.TreeSteps.{TreeAt, memory_in, request_bytes}
+use Rattle.fs_tree.specs.TreeSteps.{HasRequest, TreeAt, memory_in, request_bytes}
 use Rattle.fs_tree.proofs.TiesBlocks.{request_holds, request_low, request_number}
-use Rattle.fs_seen.specs.ServerMemory.{AreDiskBytes, HasFileTable, IsRequestPage, StandsOver, entry_of, has_request}
+use Rattle.fs_seen.specs.ServerMemory.{AreDiskBytes, HasFileTable, HasWholeRequest, IsRequestPage, StandsOver, entry_of, has_request, request_page}
+use Rattle.fs_seen.specs.ServerSees.{AllStands}
 
 -- ---- with the page of a request
 
-pub tree_of : (d : Disk) (s : KernelState) (n : ℕ) → StandsOver d s n → has_request s n ≡ true → TreeAt d s n
+pub request_of : (d : Disk) (s : KernelState) (n : ℕ) → AllStands d s n → (e : Entry) → entry_of s n request_number ≡ Some e → HasRequest s n
+request_of d s n h e is =
+    let page = h.stands.request e is in
+    record { entry = e; stands = is; bits = page.bits; whole = h.request e is; apart = page.apart }
+
+pub tree_of : (d : Disk) (s : KernelState) (n : ℕ) → AllStands d s n → has_request s n ≡ true → TreeAt d s n
 tree_of d s n h there =
     let found = some_is (entry_of s n request_number) there in
-    let page = h.request found.0 found.1 in
-    record {
-      cache = h.cache;
-      request = record { entry = found.0; stands = found.1; bits = page.bits; whole = page.whole; apart = page.apart };
-      count = h.count;
-    }
+    record { cache = h.stands.cache; request = request_of d s n h found.0 found.1; count = h.stands.count }
+
+-- it has the bytes of one where its frame has, or where there is none
+pub whole_where : (s : KernelState) (n : ℕ) (e : Entry) → entry_of s n request_page ≡ Some e → IsPage (s.spaces.pages e.frame) → HasWholeRequest s n
+whole_where s n e at whole x is = subst (λ (y : Entry). IsPage (s.spaces.pages y.frame)) (same_Some e x (sym at ∙ is)) whole
+
+pub whole_none : (s : KernelState) (n : ℕ) → has_request s n ≡ false → HasWholeRequest s n
+whole_none s n none e is =
+    absurd (let contradiction : true ≡ false = sym (ap (λ (o : Option Entry). is_some o) is) ∙ none in cc)
 
 pub over_of : (d : Disk) (s : KernelState) (n : ℕ) → TreeAt d s n → AreDiskBytes d → HasFileTable s n → StandsOver d s n
 over_of d s n h bytes table = record {
@@ -49,7 +58,7 @@ over_of d s n h bytes table = record {
   bytes = bytes;
   request = λ e is.
       subst (λ (x : Entry). IsRequestPage s n x) (same_Some h.request.entry e (sym h.request.stands ∙ is))
-      (record { bits = h.request.bits; whole = h.request.whole; apart = h.request.apart });
+      (record { bits = h.request.bits; apart = h.request.apart });
   table = table;
 }
 
@@ -86,7 +95,6 @@ request_alike s mid n rows h (page_there x e was now bits frame bytes) y is =
     subst (λ (z : Entry). IsRequestPage mid n z) (same_Some e y (sym now ∙ is))
     (record {
       bits = bits old.bits;
-      whole = subst (λ (page : List ℕ). IsPage page) (sym bytes) old.whole;
       apart = λ b z z_is frames. old.apart b z (sym (rows b) ∙ z_is) (frames ∙ frame);
     })
 request_alike s mid n rows h (no_page was now) y is = absurd (none-some y (sym now ∙ is))
@@ -158,13 +166,13 @@ byte_small s n va low small = by_reach (reach_in s.spaces (slot_at s n).director
     by_entry None at location is = absurd (no_location _ location is)
     by_entry (Some e) at location is = by_test e (small e at) _ location (allows e.perm Read) is
 
-module _ (d : Disk) (s : KernelState) (n : ℕ) (h : StandsOver d s n) where
+module _ (d : Disk) (s : KernelState) (n : ℕ) (h : AllStands d s n) where
   value_small : (m k : ℕ) → slice_index (block_value d (cached_in s n) m) k < 256
   value_small m k = by_page ((cached_in s n).page m) refl
     where
       by_page : (o : Option (List ℕ)) → (cached_in s n).page m ≡ o → slice_index (unwrap_or o (d.block m)) k < 256
-      by_page None at = h.bytes m k
-      by_page (Some page) at = (h.cache.stands.cache.whole m page at).small k
+      by_page None at = h.stands.bytes m k
+      by_page (Some page) at = (h.stands.cache.stands.cache.whole m page at).small k
 
   disk_small : (at : ℕ) → (memory_in d s n).disk at < 256
   disk_small at = by_test (nat_lt (at / BLKSIZE) d.count)
@@ -182,7 +190,7 @@ module _ (d : Disk) (s : KernelState) (n : ℕ) (h : StandsOver d s n) where
           let below : at < PGSIZE = grind (arith, nat_tests) in
           let number : page_number (REQUEST + at) ≡ request_number = omega (arith, below) in
           byte_small s n (REQUEST + at) (subst (λ (p : ℕ). p < page_limit) (sym number) request_low)
-          (λ e is. (h.request e (sym (ap (entry_of s n) number) ∙ is)).whole.small)
+          (λ e is. (h.request e (sym (ap (entry_of s n) number) ∙ is)).small)
 
   -- all that is seen of the disk and of the request are bytes
   pub all_small : AreSmall (memory_in d s n)

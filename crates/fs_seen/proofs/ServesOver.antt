@@ -56,7 +56,7 @@ module _ (count : ℕ) (a : AbstractState) (it : Serving) (next : ServerNext) (b
   called_so st step.Flushing is goes = absurd (let contradiction : false ≡ true = is in cc)
 
 -- such a step is one from a request up to the reply
-call_serves : (at : ServerStep) → makes_call at ≡ true → is_serving at ≡ true
+pub call_serves : (at : ServerStep) → makes_call at ≡ true → is_serving at ≡ true
 call_serves step.ReadingKind is = refl
 call_serves step.ReadingClient is = refl
 call_serves step.ReadingFile is = refl
@@ -88,7 +88,7 @@ call_serves step.Replying is = is
 call_serves step.Pausing is = is
 
 -- it is quiet, or takes a page
-quiet_or_taking : (at : ServerStep) → makes_call at ≡ true → (is_quiet at ≡ true) ⊎ (at ≡ step.TakingPage)
+pub quiet_or_taking : (at : ServerStep) → makes_call at ≡ true → (is_quiet at ≡ true) ⊎ (at ≡ step.TakingPage)
 quiet_or_taking step.TakingPage is = inr refl
 quiet_or_taking step.ReadingKind is = inl refl
 quiet_or_taking step.ReadingClient is = inl refl
@@ -120,7 +120,7 @@ quiet_or_taking step.Replying is = inl is
 quiet_or_taking step.Pausing is = inl refl
 
 -- what is seen of the server is what the server by itself does
-seen_serves : (count : ℕ) (a : AbstractState) (d : Disk) (s after : KernelState) (done : Progress) → makes_call (server_at s 0).step ≡ true →
+pub seen_serves : (count : ℕ) (a : AbstractState) (d : Disk) (s after : KernelState) (done : Progress) → makes_call (server_at s 0).step ≡ true →
     AreSmall (serving_in d s 0).view.memory → StandsServing count a (serving_in d s 0) → IsSeen d s after 0 done → HasServed count a d s after 0 done
 seen_serves count a d s after done is small h seen =
     let goes = all_servers_serve count a (serving_in d s 0) (call_serves (server_at s 0).step is) small h in
@@ -134,7 +134,7 @@ seen_serves count a d s after done is small h seen =
 
 pub calls_serve : CallsServe
 calls_serve count a d s after output done is requested stands h order called =
-    let small = all_small d s 0 stands.stands in
+    let small = all_small d s 0 stands in
     elim (quiet_or_taking (server_at s 0).step is) [
       | inl quiet ↦
           inl (seen_serves count a d s after done is small h

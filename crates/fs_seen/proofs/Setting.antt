@@ -135,6 +135,12 @@ pub record HasGoneOn (d : Disk) (mid after : KernelState) (n : ℕ) (next : Serv
   pub request_stays : has_request after n ≡ has_request mid n
   pub stands_as : ServesAlike (going_to next job (view_in d mid n)) (serving_in d after n)
 
+-- the server stands at the step to which it goes
+pub record StandsNext (after : KernelState) (n : ℕ) (next : ServerNext) : Type 0 where
+  pub at_step : (server_at after n).step ≡ next.state.step
+  pub kind : (server_at after n).kind ≡ next.state.kind
+  pub number : (server_at after n).number ≡ next.state.number
+
 module _ (mid : KernelState) (n : ℕ) (next : ServerNext) where
   abbrev regs : Regs
   regs = registers_begun next.begins (registers_with (slot_at mid n).registers next.state)
@@ -152,6 +158,18 @@ module _ (mid : KernelState) (n : ℕ) (next : ServerNext) where
   -- before it went on it was in order
   pub was_in_order : (after : KernelState) → after ≡ server.gone_on mid n next → IsInOrder after → IsInOrder mid
   was_in_order after is h = in_order_back mid n slot refl refl (subst (λ (k : KernelState). IsInOrder k) (is ∙ gone_is) h)
+
+  -- where the server stands then
+  pub gone_stands : GoesWell next → length (slot_at mid n).extra ≡ 12 → (after : KernelState) → after ≡ server.gone_on mid n next →
+      StandsNext after n next
+  gone_stands well long after is =
+      let so = stands_in (slot_at mid n).registers (slot_at mid n).extra next.state well.below long next.begins in
+      let there : slot_at after n ≡ slot = ap (λ (k : KernelState). slot_at k n) (is ∙ gone_is) ∙ slot_put mid n slot in
+      record {
+        at_step = ap (λ (x : Slot). (server_in x.registers x.extra).step) there ∙ so.at_step;
+        kind = ap (λ (x : Slot). (server_in x.registers x.extra).kind) there ∙ so.kind;
+        number = ap (λ (x : Slot). (server_in x.registers x.extra).number) there ∙ so.number;
+      }
 
   module _ (d : Disk) (well : GoesWell next) (h : StandsOver d mid n) (job : TreeState)
       (in_order : IsInOrder (with_slot_at mid n slot)) where

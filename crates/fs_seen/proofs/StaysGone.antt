@@ -14,7 +14,6 @@ use Rattle.lib_os.specs.declared.numbers.TheConstants.{CACHE_BLOCKS, MAXOPEN}
 use Rattle.lib_os.specs.BlockCache.{block_row, own_addresses}
 use Rattle.lib_os.specs.Disk.{Disk}
 use Rattle.lib_os.specs.InOrder.{HasOneUse, IsInOrder}
-use Rattle.lib_os.specs.Rows.{IsPage}
 use Rattle.lib_os.proofs.Slots.{slot_put}
 use Rattle.lib_os.proofs.SlotsSet.{both_set}
 use Rattle.fs_blocks.specs.CachePlaces.{state_in as cache_at_words}
@@ -74,7 +73,6 @@ module _ (s mid : KernelState) (n : ℕ) (next : ServerNext) (none : next.begins
       let old = k.page e (sym (same_entry request_page) ∙ is) in
       record {
         bits = old.bits;
-        whole = old.whole;
         apart = λ b x row. old.apart b x (ap (λ (q : ℕ). block_row mid.spaces q own_addresses b) (sym same_space) ∙ row);
       }
 
@@ -131,7 +129,6 @@ module _ (d : Disk) (s mid : KernelState) (n : ℕ) (h : StandsOver d s n) (k : 
       let old = h.request e (sym (still_entry request_page) ∙ is) in
       record {
         bits = old.bits;
-        whole = subst (λ (t : SpacesState). IsPage (t.pages e.frame)) (sym k.spaces) old.whole;
         apart = λ b x row. old.apart b x (sym (λ i. block_row (k.spaces i) (k.directory i) own_addresses b) ∙ row);
       }
 

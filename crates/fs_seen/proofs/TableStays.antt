@@ -17,7 +17,7 @@ use Rattle.fs_cache.specs.CacheSteps.{HasGone, cache_state, caller, flush_state}
 use Rattle.fs_cache.proofs.CacheBegins.{flush_goes, flush_stands}
 use Rattle.fs_cache.proofs.CacheLaw.{server_of}
 use Rattle.fs_cache.proofs.Interfaces.{view_in as cache_seen}
-use Rattle.fs_tree.specs.TreeSteps.{memory_in}
+use Rattle.fs_tree.specs.TreeSteps.{TreeAt, memory_in}
 use Rattle.fs_requests.specs.declared.plan.ServerNext.{ServerNext}
 use Rattle.fs_requests.specs.declared.state.ServerState.{ServerState}
 use Rattle.fs_requests.specs.declared.state.ServerStep.{ServerStep}
@@ -26,15 +26,18 @@ use Rattle.fs_requests.specs.ServerPlans.{next_at}
 use Rattle.fs_requests.specs.ServerWords.{registers_with, words_with}
 use Rattle.fs_serving.specs.ServerViews.{Calls, IsSeenBehind, Serving, View, called, word_of}
 use Rattle.fs_server.specs.ServerSteps as server
-use Rattle.fs_server.specs.ServerSteps.{Flushes, HasFlushed, ends, goes, registers_begun, server_at, words_begun}
-use Rattle.fs_seen.specs.ServerMemory.{StandsOver, bytes_by, entry_of, place_page, records_page, serving_in, view_in}
+use Rattle.fs_server.specs.ServerSteps.{Flushes, HasFlushed, HasWorked, answers, ends, goes, registers_begun, server_at, words_begun}
+use Rattle.fs_seen.specs.ServerMemory.{HasFileTable, StandsOver, bytes_by, entry_of, place_page, records_page, serving_in, view_in}
 use Rattle.fs_seen.specs.ServerSees.{is_quiet}
-use Rattle.fs_seen.specs.ServerWhole.{CallsLeaveTable, FlushesLeaveTable, SameTable, stores_nothing}
+use Rattle.fs_seen.specs.ServerWhole.{CallsLeaveTable, FlushesLeaveTable, JobsLeaveTable, SameTable, stores_nothing}
 use Rattle.fs_seen.proofs.Alike.{place_alike}
 use Rattle.fs_seen.proofs.CacheLeaves.{CacheLeaves, step_leaves}
 use Rattle.fs_seen.proofs.CallsSeen.{calls_are_seen}
+use Rattle.fs_seen.proofs.JobsLeave.{job_leaves}
+use Rattle.fs_seen.proofs.JobsServed.{page_at_work}
 use Rattle.fs_seen.proofs.Needs.{has_needs, reads_page}
-use Rattle.fs_seen.proofs.TableLeft.{sees_left}
+use Rattle.fs_seen.proofs.Over.{tree_of}
+use Rattle.fs_seen.proofs.TableLeft.{LeavesRest, rendezvous_still, sees_left}
 
 -- ---- its own calls
 
@@ -150,6 +153,33 @@ module _ (disk : DiskFile) (before : Files) (s : KernelState) (h : StandsOver (d
   flushed_table after _ (goes flushes) = flush_table _ after flushes
   flushed_table after _ (ends mid flushes gone_is) =
       table_then s mid after 0 (flush_table _ mid flushes) (gone_table mid 0 (next_at (server_at s 0) 0) after gone_is)
+
+-- ---- a job
+
+-- what is left of the pages of the table is seen
+table_seen : (s after : KernelState) (n : ℕ) (d : Disk) → LeavesRest s after n → SameTable s after n
+table_seen s after n d left =
+    let sees = sees_left s after n left.table d d (memory_in d after n) refl (rendezvous_still s after n left.rest) in
+    record {
+      homes = λ number. ap (λ (f : ℕ → ℕ). f number) sees.homes;
+      pages = λ number. ap (λ (f : ℕ → Option (ℕ → ℕ)). f number) sees.pages;
+    }
+
+module _ (disk : DiskFile) (before now : Files) (s : KernelState) (tree : TreeAt (disk_in before disk) s 0) (table : HasFileTable s 0) where
+  worked_table : (after : KernelState) (done : Progress) → HasWorked (server_at s 0) disk before now s after 0 done → SameTable s after 0
+  worked_table after _ (goes stepped made) =
+      table_seen s after 0 (disk_in before disk) (job_leaves disk before now s 0 tree table after made)
+  worked_table after _ (answers word mid stepped made gone_is) =
+      table_then s mid after 0 (table_seen s mid 0 (disk_in before disk) (job_leaves disk before now s 0 tree table mid made))
+      (gone_table mid 0 (next_at (server_at s 0) word) after gone_is)
+
+pub jobs_leave_table : JobsLeaveTable
+jobs_leave_table count a disk before now s after done on requested all h worked =
+    worked_table disk before now s
+    (tree_of (disk_in before disk) s 0 all (page_at_work count a (serving_in (disk_in before disk) s 0) s 0 on requested h))
+    all.stands.table after done worked
+
+-- ---- the law of a flush
 
 pub flushes_leave_table : FlushesLeaveTable
 flushes_leave_table disk before s after files output done at h in_order is flushed =

@@ -269,7 +269,7 @@ refused_behind d s n h = record {
     };
     count = h.count;
     bytes = h.bytes;
-    request = λ e is. (let old = h.request e is in record { bits = old.bits; whole = old.whole; apart = old.apart });
+    request = λ e is. (let old = h.request e is in record { bits = old.bits; apart = old.apart });
     table = record {
       records = h.table.records;
       pages = λ p e is there. (let old = h.table.pages p e is there in record { allowed = old.allowed; whole = old.whole });

@@ -49,7 +49,7 @@ pub record LacksBlock (d e : Disk) (s after : KernelState) (n : ℕ) (done : Pro
 -- Where the server stands over a disk of as many blocks, the page of the request is there for the job on files, and what that does next is lawful.
 abbrev pub JobsAreLawful : Type 0
 JobsAreLawful = (a : AbstractState) (d : Disk) (s : KernelState) (n : ℕ) → is_working (server_at s n).step ≡ true → HasRequested a.server s n →
-    StandsOver d s n → StandsServing d.count a (serving_in d s n) → TreeAt d s n × IsLawful d s n
+    AllStands d s n → StandsServing d.count a (serving_in d s n) → TreeAt d s n × IsLawful d s n
 
 -- The server, which is in slot 0, serves by a step of the job on files as the abstract one does, which is one of the server's calls. A page may not
 -- be had for a block.

@@ -2,3 +2,4 @@ pub mod ServerMemory
 pub mod ServerSees
 pub mod BlockSteps
 pub mod ServerWhole
+pub mod ServerSoon

@@ -96,7 +96,6 @@ pub record HasFileTable (s : KernelState) (n : ℕ) : Type 0 where
 -- The page of a request may be written, and is no block's.
 pub record IsRequestPage (s : KernelState) (n : ℕ) (e : Entry) : Type 0 where
   pub bits : IsBlockEntry e
-  pub whole : IsPage (s.spaces.pages e.frame)
   pub apart : (b : ℕ) (x : Entry) → row_in s n b ≡ Some x → x.frame ≢ e.frame
 
 -- what the disk holds is bytes
@@ -111,6 +110,10 @@ pub record StandsOver (d : Disk) (s : KernelState) (n : ℕ) : Type 0 where
   pub bytes : AreDiskBytes d
   pub request : (e : Entry) → entry_of s n request_page ≡ Some e → IsRequestPage s n e
   pub table : HasFileTable s n
+
+-- The page of a request, if one is there, has the bytes of a page. (Behind the act it is its client's alone, who may do with it what it likes.)
+abbrev pub HasWholeRequest : KernelState → ℕ → Type 0
+HasWholeRequest s n = (e : Entry) → entry_of s n request_page ≡ Some e → IsPage (s.spaces.pages e.frame)
 
 -- ---- who sends a page
 

@@ -19,7 +19,7 @@ use Rattle.fs_requests.specs.ServerPlans.{call_at, next_at}
 use Rattle.fs_serving.specs.ServerRuns.{Follows, StandsServing}
 use Rattle.fs_serving.specs.ServerViews.{Calls, Serving, View, gone_on}
 use Rattle.fs_server.specs.ServerSteps.{HasCalled, IsReply, server_at}
-use Rattle.fs_seen.specs.ServerMemory.{HasRequested, HasWords, StandsOver, has_request, serving_in, view_in}
+use Rattle.fs_seen.specs.ServerMemory.{HasRequested, HasWholeRequest, HasWords, StandsOver, has_request, serving_in, view_in}
 
 -- ---- what is the same of two
 
@@ -90,10 +90,12 @@ reads_request _ = false
 abbrev pub ReadsPage : KernelState → ℕ → Type 0
 ReadsPage s n = reads_request (server_at s n).step ≡ true → has_request s n ≡ true
 
--- The kernel's state is in order, the cache stands, and so do the table and the page of a request; and what is kept is words.
+-- The kernel's state is in order, the cache stands, and so do the table and the page of a request, which has the bytes of one; and what is kept is
+-- words.
 pub record AllStands (d : Disk) (s : KernelState) (n : ℕ) : Type 0 where
   pub stands : StandsOver d s n
   pub words : HasWords s n
+  pub request : HasWholeRequest s n
 
 -- ---- what is so behind one
 

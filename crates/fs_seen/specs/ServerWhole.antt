@@ -1,27 +1,27 @@
 -- That the file server serves from one request to the next: while it waits it stands over the disk and its table, a request that comes is one of the
 -- abstract server's, it replies, and gives the page of the request back. What is kept of it at each moment is `IsServing`.
-use Rattle.std.specs.Prelude.{◌≡◌, ◌≢◌, ◌<◌, ◌≤◌, ℕ, ◌+◌, ◌/◌, ◌%◌, nat_lt, Bool, true, false, is_some, List, length, Option, Some, None}
-use Rattle.std.specs.Prelude.{if◌then◌else◌}
+use Rattle.std.specs.Prelude.{◌≡◌, ◌≢◌, ◌<◌, ◌≤◌, ℕ, ◌+◌, ◌/◌, ◌%◌, nat_lt, Bool, true, false, is_some, List, [], length, slice_index}
+use Rattle.std.specs.Prelude.{Option, Some, None, if◌then◌else◌}
 use Rattle.jos_host.specs.Files.{Files}
 use Rattle.jos_host.specs.Frames.{Around}
-use Rattle.jos_base.specs.declared.numbers.TheConstants.{E_IPC_NOT_RECV, NENV, PTE_P, PTE_U, PTE_W, UTOP}
+use Rattle.jos_base.specs.declared.numbers.TheConstants.{E_IPC_NOT_RECV, NENV, PGSIZE, PTE_P, PTE_U, PTE_W, UTOP}
 use Rattle.jos_base.specs.Environments.{is_live}
 use Rattle.jos_base.specs.KernelState.{KernelState, slot_at}
 use Rattle.jos_base.specs.Reach.{Entry}
-use Rattle.jos_base.specs.SpacesState.{reference_count, zero_page}
+use Rattle.jos_base.specs.SpacesState.{inserted, reference_count, zero_page}
 use Rattle.jos_base.specs.Words.{negated}
 use Rattle.lib_os.specs.declared.numbers.TheConstants.{MAXOPEN, REQUEST}
 use Rattle.lib_os.specs.declared.progress.Progress.{Progress}
 use Rattle.lib_os.specs.declared.progress.Progress.TheVariants as progress
 use Rattle.lib_os.specs.declared.request.RequestKind.{RequestKind}
 use Rattle.lib_os.specs.Requests as requests
-use Rattle.lib_os.specs.AbstractState.{AbstractState, OpenFile, Request, Server, file, acted, idle, leaving}
+use Rattle.lib_os.specs.AbstractState.{AbstractState, OpenFile, Request, Server, file, acted, busy, idle, leaving, looking}
 use Rattle.lib_os.specs.Descriptors.{is_held}
 use Rattle.lib_os.specs.Disk.{Disk, DiskFile, byte_in_blocks, disk_in}
 use Rattle.lib_os.specs.FileServer.{is_file_open, request_begun, server_step}
 use Rattle.lib_os.specs.InOrder.{IsInOrder}
 use Rattle.lib_os.specs.LibraryPages.{region_index}
-use Rattle.lib_os.specs.LibrarySteps.{with_word}
+use Rattle.lib_os.specs.LibrarySteps.{request_perm, with_message_in, with_word}
 use Rattle.lib_os.specs.MadeCalls.{is_server_page}
 use Rattle.lib_os.specs.StandsFor.{AllConsoles}
 use Rattle.lib_os.specs.UserCalls.{Output, is_file_server}
@@ -34,10 +34,10 @@ use Rattle.fs_requests.specs.declared.state.ServerStep.TheVariants as step
 use Rattle.fs_requests.specs.ServerPlans.{call_at, next_at, replying}
 use Rattle.fs_serving.specs.ServerRuns.{AsksFor, HasFiles, StandsServing, TableStands, client_of}
 use Rattle.fs_serving.specs.ServerViews.{View}
-use Rattle.fs_server.specs.ServerSteps.{HasFlushed, gone_on, server_at}
-use Rattle.fs_seen.specs.ServerMemory.{AreDiskBytes, HasRequested, IsRequestPage, StandsOver, bytes_by, entry_of, has_request, home_in, is_table_page, place_entry}
-use Rattle.fs_seen.specs.ServerMemory.{place_page, records_page, request_page, serving_in, view_in}
-use Rattle.fs_seen.specs.ServerSees.{AllStands, HasCalledAt, HasServed, is_quiet}
+use Rattle.fs_server.specs.ServerSteps.{HasFlushed, HasWorked, gone_on, server_at}
+use Rattle.fs_seen.specs.ServerMemory.{AreDiskBytes, HasRequested, IsRequestPage, StandsOver, bytes_by, entry_of, has_request, home_in}
+use Rattle.fs_seen.specs.ServerMemory.{is_table_page, place_entry, place_page, records_page, request_page, serving_in, view_in}
+use Rattle.fs_seen.specs.ServerSees.{AllStands, HasCalledAt, HasServed, is_quiet, is_working}
 
 -- ---- at each moment
 
@@ -104,6 +104,12 @@ FlushesLeaveTable = (disk : DiskFile) (before : Files) (s after : KernelState) (
     (server_at s 0).step ≡ step.Flushing → StandsOver (disk_in before disk) s 0 → IsInOrder after → files.before ≡ Some before →
     HasFlushed (server_at s 0) disk s after 0 files output done → SameTable s after 0
 
+-- And so does a step of a job.
+abbrev pub JobsLeaveTable : Type 0
+JobsLeaveTable = (count : ℕ) (a : AbstractState) (disk : DiskFile) (before now : Files) (s after : KernelState) (done : Progress) →
+    is_working (server_at s 0).step ≡ true → HasRequested a.server s 0 → AllStands (disk_in before disk) s 0 →
+    StandsServing count a (serving_in (disk_in before disk) s 0) → HasWorked (server_at s 0) disk before now s after 0 done → SameTable s after 0
+
 -- It serves on at this step, and the table is as it was.
 pub record ServesOn (d : Disk) (s after : KernelState) (a : AbstractState) (at : ServerStep) : Type 0 where
   pub serving : IsServing d after 0 a
@@ -149,6 +155,7 @@ abbrev pub ReceivesServe : Type 0
 ReceivesServe = (a : AbstractState) (d : Disk) (s after : KernelState) (output : Output) (done : Progress) →
     (server_at s 0).step ≡ step.Receiving → IsServing d s 0 a → IsInOrder after → HasCalledAt s after 0 output done →
     (done ≡ progress.Visible) × (server_step a ≡ Some (record a { server = idle })) × ServesOn d s after (record a { server = idle }) step.ReadingKind
+    × (has_request after 0 ≡ has_request s 0)
 
 -- ---- a request comes
 
@@ -172,6 +179,20 @@ pub record IsAsked (s after : KernelState) (n : ℕ) : Type 0 where
 abbrev pub AskedByWord : Type 0
 AskedByWord = (d : Disk) (s after : KernelState) (n sender value : ℕ) → StandsOver d s n → slot_at after n ≡ with_word (slot_at s n) sender value →
     after.spaces ≡ s.spaces → IsAsked s after n
+
+-- The page of a frame has come with the message, and is that of the request.
+pub record IsAskedBy (s after : KernelState) (n frame : ℕ) : Type 0 where
+  pub asked : IsAsked s after n
+  pub entry : entry_of after n request_page ≡ Some (record { frame = frame; perm = request_perm })
+  pub bytes : (at : ℕ) → at < PGSIZE → request_bytes after n at ≡ slice_index (s.spaces.pages frame) at
+  pub page : after.spaces.pages frame ≡ s.spaces.pages frame
+
+-- So it is where a page came that stands in some space, in a frame that no page of the server's has, but perhaps that of a request before.
+abbrev pub AskedByPage : Type 0
+AskedByPage = (d : Disk) (s after : KernelState) (n sender value perm dir p : ℕ) (own : Entry) → StandsOver d s n → IsInOrder after →
+    slot_at after n ≡ with_message_in (slot_at s n) sender value perm → s.spaces.entries dir p ≡ Some own →
+    inserted s.spaces (slot_at s n).directory request_page (record { frame = own.frame; perm = request_perm }) ≡ Some after.spaces →
+    ((q : ℕ) (y : Entry) → is_server_page q ≡ true → entry_of s n q ≡ Some y → y.frame ≡ own.frame → q ≡ request_page) → IsAskedBy s after n own.frame
 
 -- It is asked while it waits: it serves the request that its page and its message tell.
 abbrev pub AskedServes : Type 0
@@ -215,12 +236,25 @@ PausesServe = (a : AbstractState) (d : Disk) (s after : KernelState) (output : O
 
 -- ---- a step of another
 
--- Another's step has left the server's slot, its entries and tables, the bytes of its pages, and how often the frame of a place's page is mapped.
-pub record LeavesPages (s after : KernelState) (n : ℕ) : Type 0 where
+-- The bytes of the request count until the act is made, and those that are handed back until the reply.
+abbrev pub keeps_request : Server → Bool
+keeps_request (looking client request place) = true
+keeps_request (busy client request place) = true
+keeps_request (acted client answer [] object) = false
+keeps_request (acted client answer bytes object) = true
+keeps_request leaving = false
+keeps_request idle = false
+
+-- Another's step has left the server's slot, its entries and tables, the bytes of its pages, and how often the frame of a place's page is mapped. The
+-- bytes of the page of a request are left as long as they count.
+pub record LeavesPages (server : Server) (s after : KernelState) (n : ℕ) : Type 0 where
   pub slot : slot_at after n ≡ slot_at s n
   pub entries : (p : ℕ) → entry_of after n p ≡ entry_of s n p
   pub tables : (r : ℕ) → after.spaces.regions (slot_at s n).directory r ≡ s.spaces.regions (slot_at s n).directory r
-  pub bytes : (p : ℕ) (e : Entry) → is_server_page p ≡ true → entry_of s n p ≡ Some e → after.spaces.pages e.frame ≡ s.spaces.pages e.frame
+  pub bytes : (p : ℕ) (e : Entry) → is_server_page p ≡ true → p ≢ request_page → entry_of s n p ≡ Some e →
+      after.spaces.pages e.frame ≡ s.spaces.pages e.frame
+  pub request : keeps_request server ≡ true → (e : Entry) → entry_of s n request_page ≡ Some e →
+      after.spaces.pages e.frame ≡ s.spaces.pages e.frame
   pub counts : (number : ℕ) (e : Entry) → number < MAXOPEN → entry_of s n (place_page number) ≡ Some e →
       reference_count after.spaces e.frame ≡ reference_count s.spaces e.frame
 
@@ -235,10 +269,14 @@ pub record SameServed (a b : AbstractState) : Type 0 where
 
 -- It serves on where the table stands for that abstract state.
 abbrev pub OthersServe : Type 0
-OthersServe = (a b : AbstractState) (d : Disk) (s after : KernelState) → IsServing d s 0 a → IsInOrder after → LeavesPages s after 0 →
+OthersServe = (a b : AbstractState) (d : Disk) (s after : KernelState) → IsServing d s 0 a → IsInOrder after → LeavesPages a.server s after 0 →
     SameServed a b →
     ((disk : ℕ → ℕ) → TableStands disk a (view_in d after 0) → TableStands disk b (view_in d after 0)) →
     ServesOn d s after b (server_at s 0).step
+
+-- So its table is as it was.
+abbrev pub OthersLeaveTable : Type 0
+OthersLeaveTable = (server : Server) (s after : KernelState) (n : ℕ) → LeavesPages server s after n → SameTable s after n
 
 -- ---- where nothing was ever opened
 

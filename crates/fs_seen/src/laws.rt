@@ -2,8 +2,9 @@
 
 ghost use Rattle.fs_seen.specs.BlockSteps.{FlushesServe, JobsAreLawful, JobsServe};
 ghost use Rattle.fs_seen.specs.ServerSees.{CallsAreSeen, CallsGoOn, CallsServe, PagesAreTaken};
-ghost use Rattle.fs_seen.specs.ServerWhole.{AskedByWord, AskedServes, CallsLeaveTable, FlushesLeaveTable};
-ghost use Rattle.fs_seen.specs.ServerWhole.{OthersServe, PausesServe, ReceivesServe, ReleasesServe, RepliesServe};
+ghost use Rattle.fs_seen.specs.ServerSoon.{CallsActSoon, FlushesActSoon, JobsActSoon, ServersActWithin};
+ghost use Rattle.fs_seen.specs.ServerWhole.{AskedByPage, AskedByWord, AskedServes, CallsLeaveTable, FlushesLeaveTable, JobsLeaveTable};
+ghost use Rattle.fs_seen.specs.ServerWhole.{OthersLeaveTable, OthersServe, PausesServe, ReceivesServe, ReleasesServe, RepliesServe};
 ghost use Rattle.fs_seen.specs.ServerWhole.{RepliesWithWord, ServedIsKept, ServersStand, StartsServe, UnopenedAlike};
 ghost use Rattle.fs_seen.specs.ServerWhole.{UnopenedStays, UnopenedTables, UnopenedViews, WaitsServe};
 
@@ -73,6 +74,12 @@ pub fn server_flushes_leave_the_table()
     ensures { FlushesLeaveTable }
 {}
 
+/// So does a step of its job on files.
+#[tactic(auto, using(crate::proofs::TableStays::jobs_leave_table))]
+pub fn server_jobs_leave_the_table()
+    ensures { JobsLeaveTable }
+{}
+
 /// At its start it serves for an abstract state that has the files of the disk.
 #[tactic(auto, using(crate::proofs::FirstServes::starts_serve))]
 pub fn server_starts()
@@ -101,6 +108,12 @@ pub fn server_is_asked()
 #[tactic(auto, using(crate::proofs::AskedNow::asked_by_word))]
 pub fn server_is_asked_by_a_word()
     ensures { AskedByWord }
+{}
+
+/// And a page that comes with the message, which is that of the request then.
+#[tactic(auto, using(crate::proofs::AskedByPages::asked_by_page))]
+pub fn server_is_asked_by_a_page()
+    ensures { AskedByPage }
 {}
 
 /// Where nothing was opened its reply is a word alone.
@@ -133,6 +146,12 @@ pub fn server_is_left_alone()
     ensures { OthersServe }
 {}
 
+/// Its table is as it was then.
+#[tactic(auto, using(crate::proofs::OthersNow::others_leave_table))]
+pub fn servers_table_is_left_alone()
+    ensures { OthersLeaveTable }
+{}
+
 /// Where the page of the records holds zeros, and no place has a page, nothing was opened.
 #[tactic(auto, using(crate::proofs::Unopened::unopened_views))]
 pub fn unopened_tables_are_empty()
@@ -155,4 +174,28 @@ pub fn unopened_tables_stand()
 #[tactic(auto, using(crate::proofs::Unopened::unopened_alike))]
 pub fn unopened_states_are_alike()
     ensures { UnopenedAlike }
+{}
+
+/// A server that is not idle makes its act within a number of its own steps, which is small.
+#[tactic(auto, using(crate::proofs::ActsSoon::servers_act_within))]
+pub fn server_acts_within_few_steps()
+    ensures { ServersActWithin }
+{}
+
+/// A call of its own lowers that number, or a page was refused.
+#[tactic(auto, using(crate::proofs::ActsSoon::calls_act_soon))]
+pub fn server_calls_act_soon()
+    ensures { CallsActSoon }
+{}
+
+/// And so does a step of its job on files.
+#[tactic(auto, using(crate::proofs::ActsSoon::jobs_act_soon))]
+pub fn server_jobs_act_soon()
+    ensures { JobsActSoon }
+{}
+
+/// And one of a flush.
+#[tactic(auto, using(crate::proofs::ActsSoon::flushes_act_soon))]
+pub fn server_flushes_act_soon()
+    ensures { FlushesActSoon }
 {}

@@ -1,6 +1,6 @@
 -- A step of the file server: one call of the kernel, or a step of the job on files or of a flush, which are one call each; and where the server
 -- goes by what came of it.
-use Rattle.std.specs.Prelude.{◌≡◌, ℕ, List, Option, Some, None, Result, Ok, Err}
+use Rattle.std.specs.Prelude.{◌≡◌, ℕ, List, [], Option, Some, None, Result, Ok, Err}
 use Rattle.jos_host.specs.declared.host.Failed.{Failed}
 use Rattle.jos_host.specs.Files.{Files}
 use Rattle.jos_host.specs.Frames.{Around, from_to}
@@ -14,7 +14,7 @@ use Rattle.lib_os.specs.declared.user_os.Stop.TheVariants as stop
 use Rattle.lib_os.specs.Disk.{DiskFile, disk_in}
 use Rattle.lib_os.specs.LibrarySteps.{IsStopped}
 use Rattle.lib_os.specs.UserCalls as user
-use Rattle.lib_os.specs.UserCalls.{IsCallStep, IsStep, Output, answer_of}
+use Rattle.lib_os.specs.UserCalls.{IsCallStep, IsStep, Output, Prints, PrintsPart, answer_of}
 use Rattle.fs_cache.specs.declared.steps.Flushed.{Flushed}
 use Rattle.fs_cache.specs.declared.steps.Flushed.TheVariants as flushed
 use Rattle.fs_cache.specs.CacheSteps.{FlushTold, IsFlushStep, KeepsCache, caller}
@@ -23,7 +23,8 @@ use Rattle.fs_places.specs.TreePlaces as places
 use Rattle.fs_runs.specs.TreeRuns.{begun_with}
 use Rattle.fs_tree.specs.declared.steps.Acted.TheVariants as acted
 use Rattle.fs_tree.specs.TreeMakes.{IsTreeStep}
-use Rattle.fs_tree.specs.TreeSteps.{HasStepped, IsLawful, TreeAt}
+use Rattle.fs_runs.specs.TreePlans as tree
+use Rattle.fs_tree.specs.TreeSteps.{HasStepped, IsLawful, TreeAt, job_in}
 use Rattle.fs_requests.specs.declared.plan.ServerAsk.{ServerAsk}
 use Rattle.fs_requests.specs.declared.plan.ServerAsk.TheVariants as ask
 use Rattle.fs_requests.specs.declared.plan.ServerCall.{ServerCall}
@@ -79,10 +80,11 @@ IsCalled it state (Err _) n states output = IsReply it states.before n (Err stop
 
 -- The job goes on; or it has answered, and the server goes on by that. Its step is one of the job's calls (`fs_tree`).
 pub data HasWorked (state : ServerState) (disk : DiskFile) (before now : Files) (s after : KernelState) (n : ℕ) : Progress → Type 0 where
-  goes : HasStepped (disk_in before disk) (disk_in now disk) s after n acted.Going → IsTreeStep disk before now s after n →
+  goes : HasStepped (disk_in before disk) (disk_in now disk) s after n acted.Going →
+      IsTreeStep (tree.ask_at (job_in s n)) disk before now s after n →
       HasWorked state disk before now s after n progress.Hidden
   answers : (word : ℕ) (mid : KernelState) → HasStepped (disk_in before disk) (disk_in now disk) s mid n (acted.Answer word) →
-      IsTreeStep disk before now s mid n → after ≡ gone_on mid n (next_at state word) →
+      IsTreeStep (tree.ask_at (job_in s n)) disk before now s mid n → after ≡ gone_on mid n (next_at state word) →
       HasWorked state disk before now s after n (next_at state word).seen
 
 abbrev pub WorksWhereTold : ServerState → Result Progress Failed → DiskFile → ℕ → Around KernelState → Around (Option Files) → Type 0
@@ -90,6 +92,13 @@ WorksWhereTold state (Ok done) disk n states files =
     (before : Files) → files.before ≡ Some before → TreeAt (disk_in before disk) states.before n → IsLawful (disk_in before disk) states.before n →
     (after : Files) × (files.after ≡ Some after) × HasWorked state disk before after states.before states.after n done
 WorksWhereTold state (Err _) disk n states files = Unit {0}
+
+-- Where the host tells its files, the job's next step is lawful, and all stands, nothing is printed, whether or not the host fails.
+abbrev pub WorksQuietly : Result Progress Failed → DiskFile → ℕ → KernelState → Option Files → Output → Type 0
+WorksQuietly (Ok done) disk n s files output =
+    (before : Files) → files ≡ Some before → TreeAt (disk_in before disk) s n → IsLawful (disk_in before disk) s n → Prints output []
+WorksQuietly (Err _) disk n s files output =
+    (before : Files) → files ≡ Some before → TreeAt (disk_in before disk) s n → IsLawful (disk_in before disk) s n → PrintsPart output []
 
 -- ---- a step of a flush
 
@@ -115,7 +124,8 @@ IsFlushed state (Err failed) disk n states files output =
 
 abbrev pub ServesBy : ServerAsk → ServerState → Result Progress Failed → DiskFile → ℕ → Around KernelState → Around (Option Files) → Output → Type 0
 ServesBy (ask.Call it) state result disk n states files output = IsCalled it state result n states output × (files.after ≡ files.before)
-ServesBy ask.Work state result disk n states files output = WorksWhereTold state result disk n states files
+ServesBy ask.Work state result disk n states files output =
+    WorksWhereTold state result disk n states files × WorksQuietly result disk n states.before files.before output
 ServesBy ask.Flush state result disk n states files output = IsFlushed state result disk n states files output
 
 abbrev pub Serves : Result Progress Failed → DiskFile → ℕ → Around KernelState → Around (Option Files) → Output → Type 0

@@ -110,7 +110,8 @@ fn make_call<O: UserOs, H: Host>(
     }
 }
 
-/// Makes a step of the job on files, and goes on when that answers. It is one call (`made`).
+/// Makes a step of the job on files, and goes on when that answers. It is one call (`made`). Where the host tells its files and the job's next step is
+/// lawful nothing is printed, whether or not the host fails (`quiet`).
 fn work<O: UserOs, H: Host>(
     os: &mut O,
     host: &mut H,
@@ -120,6 +121,7 @@ fn work<O: UserOs, H: Host>(
     requires few { O.calls os.old < 2 ^ 32 - 1 }
     requires whole { HasBlocks (H.files host.old) (O.disk os.old) }
     ensures told { steps.WorksWhereTold state result (O.disk os.old) (O.slot os.old) (around O.state os.old os.new) (around H.files host.old host.new) }
+    ensures quiet { steps.WorksQuietly result (O.disk os.old) (O.slot os.old) (O.state os.old) (H.files host.old) (output H.console O.written (from_to host.old host.new) (from_to os.old os.new)) }
     ensures made { OnOk result (MakesServersCall (around O.state os.old os.new) (O.slot os.old) (O.disk os.old) (around H.files host.old host.new) (output H.console O.written (from_to host.old host.new) (from_to os.old os.new))) }
     ensures disk_only { TouchesDisk (O.disk os.old) (around H.files host.old host.new) (around H.asked host.old host.new) }
     ensures failed { OnErr result (PrintsPartOfSome (output H.console O.written (from_to host.old host.new) (from_to os.old os.new))) }

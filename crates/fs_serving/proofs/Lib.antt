@@ -13,3 +13,4 @@ pub mod Removing
 pub mod Finding
 pub mod Served
 pub mod ServedWhole
+pub mod JobsLeft

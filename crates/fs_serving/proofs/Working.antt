@@ -17,6 +17,7 @@ use Rattle.fs_acts.specs.BlockActs.{growth, led_to, make_record, no_record, open
 use Rattle.fs_acts.specs.BlockActs.{puts_of, remove_led, resizing, size_plan, too_long, turned_down, written}
 use Rattle.fs_jobs.specs.declared.place.Job.TheVariants as job
 use Rattle.fs_jobs.specs.declared.place.TreeState.{TreeState}
+use Rattle.fs_runs.specs.JobSteps.{job_steps_max}
 use Rattle.fs_runs.specs.TreeRuns.{AreSmall, Ends, HasActed, HasPath, IsOnItsWay, Memory, begun_with, found_place}
 use Rattle.fs_runs.proofs.JobsWhole.{all_finds_are_looks}
 use Rattle.fs_runs.proofs.OpensFound.{opens_lead}
@@ -206,7 +207,7 @@ module _ (count : ℕ) (a : AbstractState) (it : Serving) (before : Memory) (fil
           regular = regular;
           named = named;
         })
-        (record { left = found.0; ends = runs });
+        (record { left = found.0; soon = found.1; ends = runs });
   }
     where
       m : Memory
@@ -238,7 +239,7 @@ module _ (count : ℕ) (a : AbstractState) (it : Serving) (before : Memory) (fil
       done : ActIsDone count a it.view (open_path path mode) 0 before m
       done = acts_are_done count a it.view (open_path path mode) 0 before m has_path.no_nul files table acted
 
-      found : (n : ℕ) × Ends count (found_place m.disk (led_to m.disk path)) m n (begun_with job.Find) m
+      found : (n : ℕ) × (n ≤ job_steps_max count) × Ends count (found_place m.disk (led_to m.disk path)) m n (begun_with job.Find) m
       found =
           all_finds_are_looks count path m (record { disk = done.files.disk; count_is = done.files.count_is; small = small })
           (path-stays (is_file_open a) path mode 0 before m acted has_path)
@@ -249,7 +250,7 @@ module _ (count : ℕ) (a : AbstractState) (it : Serving) (before : Memory) (fil
           ∙ ap (λ (b : Bool). if b then negated E_INVAL else home) regular
 
       runs : Ends count home m found.0 (begun_with job.Find) m
-      runs = subst (λ (n : ℕ). Ends count n m found.0 (begun_with job.Find) m) home_is found.1
+      runs = subst (λ (n : ℕ). Ends count n m found.0 (begun_with job.Find) m) home_is found.2
 
   -- bytes were moved, or not
   has-moved : (word : ℕ) (k : RequestKind) (f : FileAct) (name : ℕ) (place : Option ℕ) → IsBusy a it before place k (act f (Some name)) → k ≢ kind.Open →
@@ -322,7 +323,7 @@ module _ (count : ℕ) (a : AbstractState) (it : Serving) (before : Memory) (fil
 -- ---- the step
 
 -- the job goes on
-further : (count : ℕ) (a : AbstractState) (it : Serving) (before : Memory) (is : IsWorking count a it before) (next : TreeState) →
+unfoldable pub further : (count : ℕ) (a : AbstractState) (it : Serving) (before : Memory) (is : IsWorking count a it before) (next : TreeState) →
     IsOnItsWay count is.is_open is.f before next (memory_worked it) → IsWorking count a (record (worked it) { job = next }) before
 further count a it before is next way = record {
   k = is.k;

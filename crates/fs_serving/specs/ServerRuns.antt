@@ -3,7 +3,7 @@
 -- (MIT 6.828, lab 5: fs/serv.c. Which of the server's steps is the abstract one is this system's own: the last store of what is opened, read,
 -- written or sought; the count that shows that a place is held, or that a file which is to be removed is open; and for all else a step that does
 -- nothing more.)
-use Rattle.std.specs.Prelude.{◌≡◌, ◌≢◌, ◌<◌, ◌≤◌, ◌⊎◌, ℕ, ◌+◌, ◌*◌, ◌/◌, ◌%◌, ◌^◌, nat_le, Bool, true, false, is_some, List, length, slice_index}
+use Rattle.std.specs.Prelude.{◌≡◌, ◌≢◌, ◌<◌, ◌≤◌, ◌⊎◌, ℕ, ◌+◌, ◌*◌, ◌/◌, ◌%◌, ◌^◌, suc, nat_le, Bool, true, false, is_some, List, length, slice_index}
 use Rattle.std.specs.Prelude.{Option, Some, None}
 use Rattle.jos_base.specs.declared.numbers.TheConstants.{NENV, PGSIZE}
 use Rattle.jos_base.specs.Words.{word_at}
@@ -16,6 +16,7 @@ use Rattle.fs_acts.specs.BlockActs.{a_record, led_to, place_at}
 use Rattle.fs_jobs.specs.declared.asks.TreeNext.TheVariants.{Answer, GoOn}
 use Rattle.fs_jobs.specs.declared.place.TreeState.{TreeState}
 use Rattle.fs_jobs.specs.TreeBounds.{is_bounded}
+use Rattle.fs_runs.specs.JobSteps.{job_steps_max}
 use Rattle.fs_runs.specs.TreePlans as tree
 use Rattle.fs_runs.specs.TreeRuns.{AreSmall, HasActed, HasPath, IsInside, IsOnItsWay, IsRunning, Memory, bytes_given, found_place, memory_after, reply_of}
 use Rattle.lib_os.specs.declared.numbers.TheConstants.{DEVICE_FILE, FD_DEVICE, FD_FILE, FD_MODE, FD_OFFSET, MAXOPEN}
@@ -393,3 +394,35 @@ GoesOnBy ask.Flush count a it = let next = next_at it.state 0 in Follows count a
 abbrev pub ServersServe : Type 0
 ServersServe = (count : ℕ) (a : AbstractState) (it : Serving) → is_serving it.state.step ≡ true → AreSmall it.view.memory →
     StandsServing count a it → GoesOnBy (ask_at it.state) count a it
+
+-- ---- how long a job lasts
+
+-- the steps at which one is under way
+abbrev pub has_job : ServerStep → Bool
+has_job step.Working = true
+has_job step.Finding = true
+has_job _ = false
+
+-- how many steps it has left
+abbrev pub found_left : (count : ℕ) (a : AbstractState) (it : Serving) (before : Memory) → IsFound count a it before → ℕ
+found_left count a it before (opened path mode home is run) = run.left
+found_left count a it before (removed is) = is.running.left
+
+abbrev pub left_at : (at : ServerStep) (count : ℕ) (a : AbstractState) (it : Serving) (before : Memory) → StandsAtStep at count a it before → ℕ
+left_at step.Working count a it before is = is.on_its_way.left
+left_at step.Finding count a it before is = found_left count a it before is
+left_at _ count a it before is = 0
+
+abbrev pub job_left : (count : ℕ) (a : AbstractState) (it : Serving) → StandsServing count a it → ℕ
+job_left count a it stands = left_at it.state.step count a it stands.before stands.at
+
+-- A job that goes on.
+abbrev pub job_on : Serving → TreeState → Serving
+job_on it next = record (worked it) { job = next }
+
+-- The blocks of the disk bound how many these are, and where the job goes on it is one fewer.
+abbrev pub JobsEndSoon : Type 0
+JobsEndSoon = (count : ℕ) (a : AbstractState) (it : Serving) (stands : StandsServing count a it) → has_job it.state.step ≡ true →
+    (job_left count a it stands ≤ job_steps_max count)
+    × ((next : TreeState) → tree.next_at it.job (word_worked it) ≡ GoOn next →
+    (further : StandsServing count a (job_on it next)) × (suc (job_left count a (job_on it next) further) ≡ job_left count a it stands))

@@ -7,4 +7,4 @@
 
 mod laws;
 
-pub use laws::servers_serve;
+pub use laws::{jobs_end_soon, servers_serve};

@@ -23,7 +23,8 @@ use Rattle.lib_os.specs.UserCalls.{user_byte}
 use Rattle.fs_blocks.specs.declared.place.CachePlace.{CachePlace}
 use Rattle.fs_blocks.specs.declared.place.CachePlace.TheVariants as at
 use Rattle.fs_cache.specs.CacheStands.{CacheAt, CacheStands, CacheView, IsBlockEntry, cache_view, cached_at, cached_in}
-use Rattle.fs_cache.specs.CacheSteps.{cache_state, row_in}
+use Rattle.fs_cache.specs.CacheSteps.{cache_state, cached_count, row_in, used_count}
+use Rattle.fs_cache.proofs.FallsCounts.{cached_as_many, used_one_more}
 use Rattle.fs_cache.proofs.Loads.{number_of, row_below, row_past}
 use Rattle.fs_cache.proofs.MovesBearing.{bears}
 use Rattle.lib_os.specs.declared.numbers.TheConstants.{REQUEST}
@@ -214,12 +215,18 @@ request_same s mid n h k same = λ i q. by_place q (nat_lt q PGSIZE) refl i
         ∙ ap (λ (page : List ℕ). slice_index page q) same
         ∙ sym (request_holds s n h.entry h.stands h.bits q below)
 
+-- as many blocks are cached, and one page more may have been used
+pub record CountsOn (s mid : KernelState) (n : ℕ) : Type 0 where
+  pub cached : cached_count (row_in mid n) ≡ cached_count (row_in s n)
+  pub used : used_count (row_in mid n) ≤ used_count (row_in s n) + 1
+
 -- what is so behind an access to a block
 pub record BlockLaw (d : Disk) (s mid : KernelState) (n b : ℕ) (bytes : List ℕ) : Type 0 where
   pub stands : TreeAt d mid n
   pub there : block_value d (cached_in mid n) b ≡ bytes
   pub beside : (m : ℕ) → m ≢ b → block_value d (cached_in mid n) m ≡ block_value d (cached_in s n) m
   pub request : request_bytes mid n ≡ request_bytes s n
+  pub counts : CountsOn s mid n
 
 module _ (d : Disk) (s : KernelState) (n b : ℕ) (h : TreeAt d s n) (found : (cache_state s n).place ≡ at.Found b) where
   abbrev pub found_stands : CacheStands d (cache_view s.spaces (slot_at s n).directory) (at.Found b) (cache_state s n).hand
@@ -290,6 +297,10 @@ module _ (d : Disk) (s : KernelState) (n b : ℕ) (h : TreeAt d s n) (found : (c
           ∙ value_beside d (cache_view s.spaces dir) (cache_view t dir) b hand e bytes holds stands seen m ne
           ∙ ap (λ (p : CachePlace). block_value d (cached_at (cache_view s.spaces dir) p) m) (sym found);
       request = request_same s (with_spaces s t) n h.request has_request request_pages;
+      counts = record {
+        cached = cached_as_many (row_in s n) (row_in (with_spaces s t) n) b seen.rest (ap is_some seen.set ∙ sym (ap is_some stands));
+        used = used_one_more (row_in s n) (row_in (with_spaces s t) n) b seen.rest;
+      };
     }
 
   pub block_law : (mid : KernelState) (bytes : List ℕ) → IsPage bytes → IsInOrder mid → HasAccessed s mid n (number_of b) e bytes →

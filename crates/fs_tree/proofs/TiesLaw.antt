@@ -1,9 +1,10 @@
 -- From a call that a job's step makes to what the step tells.
-use Rattle.std.proofs.Common.{◌≡◌, ◌∙◌, ◌+◌, ◌-◌, ◌*◌, ◌/◌, ◌%◌, ◌<◌, ◌≤◌, ◌^◌, ℕ, true, false, List, [], ◌∷◌, ◌++◌, Option, Some, None, Result, Ok, Err}
+use Rattle.std.proofs.Common.{◌≡◌, ◌∙◌, ◌⊎◌, inl, inr, ◌+◌, ◌-◌, ◌*◌, ◌/◌, ◌%◌, ◌<◌, ◌≤◌, ◌^◌, ℕ, true, false, List, [], ◌∷◌, ◌++◌, Option, Some, None, Result, Ok, Err}
 use Rattle.std.proofs.Common.{refl, sym, ap, subst, arith}
-use Rattle.std.specs.Prelude.{min}
+use Rattle.std.specs.Prelude.{drop, min}
 use Rattle.std.specs.Option.{option_map}
 use Rattle.std.specs.Int.{w32, to_le_bytes}
+use Rattle.jos_host.specs.declared.host.Failed.{Failed}
 use Rattle.jos_host.specs.Files.{Files}
 use Rattle.jos_host.specs.Frames.{Around, from_to}
 use Rattle.jos_base.specs.declared.memory.Access.{Access}
@@ -11,7 +12,7 @@ use Rattle.jos_base.specs.declared.memory.Access.TheVariants.{Read, Write}
 use Rattle.jos_base.specs.declared.memory.PageFault.{PageFault}
 use Rattle.jos_base.specs.declared.numbers.TheConstants.{E_NO_MEM, PGSIZE}
 use Rattle.jos_base.specs.declared.registers.Regs.{Regs}
-use Rattle.jos_base.specs.Environments.{Environments, is_live}
+use Rattle.jos_base.specs.Environments.{Environments, Slot, is_live}
 use Rattle.jos_base.specs.KernelState.{KernelState, slot_at, with_extra, with_registers}
 use Rattle.jos_base.specs.Reach.{FrameOffset}
 use Rattle.jos_base.specs.SystemCalls.{handled}
@@ -20,20 +21,26 @@ use Rattle.jos_base.specs.Words.{negated}
 use Rattle.fs_layout.specs.declared.numbers.TheConstants.{BLKSIZE, MAXBLOCKS}
 use Rattle.lib_os.specs.declared.numbers.TheConstants.{CACHE_BLOCKS}
 use Rattle.lib_os.specs.declared.user_os.Stop.{Stop}
+use Rattle.lib_os.specs.declared.user_os.Stop.TheVariants as stop
 use Rattle.lib_os.specs.BlockCache.{block_address}
 use Rattle.lib_os.specs.Disk.{Disk, DiskFile, disk_in}
 use Rattle.lib_os.specs.InOrder.{IsInOrder}
-use Rattle.lib_os.specs.UserCalls.{CallStep, IsStep, Output, Prints, accessing, faulting, giving, gone, got, to_handler, load, load_byte, store, store_byte}
+use Rattle.lib_os.specs.Rows.{EntryRow}
+use Rattle.lib_os.specs.MadeCalls.{SetsWords}
+use Rattle.lib_os.specs.UserCalls.{CallStep, IsStep, Output, Prints, PrintsPart, accessing, faulting, giving, gone, got, to_handler, load, load_byte, store, store_byte}
 use Rattle.lib_os.specs.UserCalls.{user_byte, user_word, with_bytes_put, with_user_byte}
 use Rattle.lib_os.proofs.BytesPut.{put_is}
-use Rattle.lib_os.proofs.SlotsSet.{set_live}
+use Rattle.lib_os.proofs.CallsMade.{sets_twice}
+use Rattle.lib_os.proofs.Slots.{slot_put}
+use Rattle.lib_os.proofs.SlotsSet.{both_set, set_live}
 use Rattle.fs_blocks.specs.declared.place.CachePlace.TheVariants as cached_place
 use Rattle.fs_blocks.specs.declared.place.CacheState.{CacheState}
 use Rattle.fs_blocks.specs.declared.plan.Told.{Told}
 use Rattle.fs_cache.specs.declared.steps.Cached.TheVariants as cached
-use Rattle.fs_blocks.specs.CachePlaces.{with_state}
+use Rattle.fs_blocks.specs.CachePlaces.{state_in as cache_in, with_state}
 use Rattle.fs_blocks.specs.CachePlans.{ask_at as asked_at, next_at as cache_next}
-use Rattle.fs_cache.specs.CacheSteps.{Caller, FetchTold, HasGone, IsBlockStep, KeepsCacheWhereDone, as_cached, by_word, cache_state, fetch_state, stopped}
+use Rattle.fs_cache.specs.CacheSteps.{Caller, FetchTold, HasGone, IsBlockStep, KeepsCacheWhereDone, as_cached, by_word, cache_state, cached_count, fetch_state, left_in, row_in, stopped}
+use Rattle.fs_cache.specs.CacheSteps.{used_count, wait_left}
 use Rattle.fs_cache.proofs.CacheBegins.{own_ask}
 use Rattle.fs_cache.proofs.Callers.{caller_stays}
 use Rattle.fs_jobs.specs.declared.asks.TreeAsk.{TreeAsk}
@@ -49,13 +56,17 @@ use Rattle.fs_jobs.specs.TreeBounds.{is_bounded}
 use Rattle.fs_tree.specs.TreeMakes.{CallsWhereInside, CallsWhereTold, DoesWhereTold, HasDone, IsAccess, IsOfDisk, IsOfRequest, IsStored, IsTreeStep, LeavesWhereInside}
 use Rattle.fs_tree.specs.TreeMakes.{asks_block, asks_request, fetches, going, no_page, word}
 use Rattle.fs_places.specs.TreePlaces.{registers_with, state_in, words_with}
+use Rattle.fs_places.proofs.TreeWords.{last_four}
 use Rattle.fs_runs.specs.TreePlans.{ask_at, next_at}
 use Rattle.fs_runs.specs.TreeRuns.{IsInside, memory_after, reply_of}
-use Rattle.fs_tree.specs.TreeSteps.{IsLawful, IsWaiting, KeepsRest, QuietWhereTold, RestWhereTold, StepsWhereTold, TreeAt, answers, goes, job_in, lacks, memory_in, waits}
+use Rattle.fs_tree.specs.TreeSteps.{IsLawful, IsWaiting, KeepsRest, LeavesCache, QuietWhereTold, RestWhereTold, StepsWhereTold, TreeAt}
+use Rattle.fs_tree.specs.TreeSteps.{access_left, answers}
+use Rattle.fs_tree.specs.TreeSteps.{block_left, goes, job_in, lacks, memory_in, waits}
 use Rattle.fs_jobs.specs.TreeTests.{low_byte}
+use Rattle.fs_tree.proofs.AccessMade.{job_sets}
 use Rattle.fs_tree.proofs.TiesMemory.{HasMade, load_byte_made, load_made, store_byte_made, store_made}
 use Rattle.fs_tree.proofs.TiesRequest.{hand_back_made, request_made}
-use Rattle.fs_tree.proofs.TiesSteps.{step_leaves, step_waits}
+use Rattle.fs_tree.proofs.TiesSteps.{step_failed, step_leaves, step_waits}
 use Rattle.fs_tree.proofs.TiesWords.{rest_same, rest_set, state_set}
 
 -- ---- what an access leaves that gives its word
@@ -129,6 +140,10 @@ pub access_rest : (a : TreeAsk) (s mid : KernelState) (n va w : ℕ) (output : O
     Prints output [] × KeepsRest s mid n
 access_rest a s mid n va w output call =
     let left = access_leaves a s mid n va w output call in (left.1, rest_same s mid n left.0)
+
+-- Nothing is a part of nothing.
+pub no_part : (output : Output) → Prints output [] → PrintsPart output []
+no_part output p = (0, omega arith, p.gains)
 
 -- Where nothing was printed before, nothing was in all.
 pub quiet_from : (output : Output) (console : Option (List ℕ)) (count : ℕ) → output.console.before ≡ console → output.count.before ≡ count →
@@ -221,6 +236,11 @@ word_done d s mid n a w makes =
     let same : ◌≡◌ {A = Result ℕ Stop} (Ok w) (Ok (reply_of a (memory_in d s n))) = makes.0 in
     let it : ◌≡◌ {A = ℕ} w (reply_of a (memory_in d s n)) = cc in
     word w it makes.1.stands makes.1.memory
+    (record {
+      place = ap (λ (x : Slot). (cache_in x.extra).place) makes.1.slot;
+      cached = makes.1.counts.cached;
+      used = makes.1.counts.used;
+    })
 
 -- the number of a block within the disk is its own
 own_block : (d : Disk) (at : ℕ) → d.count ≤ MAXBLOCKS → at / BLKSIZE < d.count → at / BLKSIZE % CACHE_BLOCKS ≡ at / BLKSIZE
@@ -262,15 +282,22 @@ module _ (a : TreeAsk) (at : ℕ) (c : Caller) (is : IsOfDisk a at) (mid : Kerne
   ready_leaves files why whole call before told h inside =
       let d = disk_in before c.disk in absurd (not_made d c.state mid c.slot a why (ready_made d h inside (Err why) call))
 
+  pub ready_failed : (files : Option Files) (failed : Failed) (whole : Output) → IsAccess a (va + at % BLKSIZE) c.state c.slot (Err stop.Failed) mid output →
+      LeavesWhereInside a (Err failed) c.disk c.slot (from_to c.state mid) files whole
+  ready_failed files failed whole call before told h inside =
+      let d = disk_in before c.disk in absurd (not_made d c.state mid c.slot a stop.Failed (ready_made d h inside (Err stop.Failed) call))
+
   pub ready_calls : (files : Around (Option Files)) (x : Done) (w : ℕ) → IsAccess a (va + at % BLKSIZE) c.state c.slot (Ok w) mid output →
       CallsWhereInside a (Ok x) c.disk c.slot (from_to c.state mid) files
   ready_calls files x w call before now told behind h inside = record {
     mid = mid;
     output = output;
-    call = asks_block (at / BLKSIZE % CACHE_BLOCKS) (at % BLKSIZE) w a (omega arith) found
+    call = asks_block (at / BLKSIZE % CACHE_BLOCKS) (at % BLKSIZE) w (omega arith) found
         (subst (λ (k : ℕ). IsAccess a (k + at % BLKSIZE) c.state c.slot (Ok w) mid output) address call);
     spaces = refl;
     rest = (access_rest a c.state mid c.slot (va + at % BLKSIZE) w output call).1;
+    left = inl refl;
+    cache = refl;
   }
 
   pub ready_never_calls : (files : Around (Option Files)) (why : Stop) → IsAccess a (va + at % BLKSIZE) c.state c.slot (Err why) mid output →
@@ -303,29 +330,55 @@ module _ (a : TreeAsk) (at : ℕ) (c : Caller) (is : IsOfRequest a at) (mid : Ke
       LeavesWhereInside a (Ok done.Going) c.disk c.slot (from_to c.state mid) files.before output
   request_leaves why call before told h inside = absurd (never_stopped (disk_in before c.disk) h inside why call)
 
+  pub request_failed : (failed : Failed) → IsAccess a (REQUEST + at % PGSIZE) c.state c.slot (Err stop.Failed) mid output →
+      LeavesWhereInside a (Err failed) c.disk c.slot (from_to c.state mid) files.before output
+  request_failed failed call before told h inside = absurd (never_stopped (disk_in before c.disk) h inside stop.Failed call)
+
   pub request_calls : (x : Done) (w : ℕ) → IsAccess a (REQUEST + at % PGSIZE) c.state c.slot (Ok w) mid output →
       CallsWhereInside a (Ok x) c.disk c.slot (from_to c.state mid) files
   request_calls x w call before now told behind h inside = record {
     mid = mid;
     output = output;
-    call = asks_request (at % PGSIZE) w a (omega arith) call;
+    call = asks_request at (at % PGSIZE) w is (omega arith) call;
     spaces = refl;
     rest = (access_rest a c.state mid c.slot (REQUEST + at % PGSIZE) w output call).1;
+    left = inl refl;
+    cache = refl;
   }
 
   pub request_never_calls : (why : Stop) → IsAccess a (REQUEST + at % PGSIZE) c.state c.slot (Err why) mid output →
       CallsWhereInside a (Ok done.Going) c.disk c.slot (from_to c.state mid) files
   request_never_calls why call before now told behind h inside = absurd (never_stopped (disk_in before c.disk) h inside why call)
 
+-- the wait for a block is that of what asks for it
+comes_nearer : (a : TreeAsk) (at block : ℕ) (s after : KernelState) (n : ℕ) → IsOfDisk a at → block ≡ at / BLKSIZE % CACHE_BLOCKS →
+    left_in (wait_left block) (cache_state after n).place after n < left_in (wait_left block) (cache_state s n).place s n →
+    access_left a after n < access_left a s n
+comes_nearer a at block s after n of number fell =
+    by a of
+    (subst (λ (b : ℕ). left_in (wait_left b) (cache_state after n).place after n < left_in (wait_left b) (cache_state s n).place s n) number fell)
+  where
+    by : (x : TreeAsk) → IsOfDisk x at → block_left at after n < block_left at s n → access_left x after n < access_left x s n
+    by (ask.Load place) is less = subst (λ (q : ℕ). block_left q after n < block_left q s n) (sym is) less
+    by (ask.LoadByte place) is less = subst (λ (q : ℕ). block_left q after n < block_left q s n) (sym is) less
+    by (ask.Store place value) is less = subst (λ (q : ℕ). block_left q after n < block_left q s n) (sym is) less
+    by (ask.StoreByte place byte) is less = subst (λ (q : ℕ). block_left q after n < block_left q s n) (sym is) less
+    by (ask.Request place) is less = absurd is
+    by (ask.HandBack place byte) is less = absurd is
+
 -- the cache has made a step
 module _ (a : TreeAsk) (block : ℕ) (c : Caller) (below : block < CACHE_BLOCKS) (files : Around (Option Files)) (after : KernelState)
     (output : Output) where
-  pub cache_going : IsBlockStep block c (Ok cached.Going) files after output →
+  pub cache_going : (at : ℕ) → IsOfDisk a at → block ≡ at / BLKSIZE % CACHE_BLOCKS → IsBlockStep block c (Ok cached.Going) files after output →
       KeepsCacheWhereDone (Ok cached.Going) c.disk c.slot (from_to c.state after) files →
+      FetchTold block (Ok cached.Going) c.disk c.slot (from_to c.state after) files.before →
       DoesWhereTold a (Ok done.Going) c.disk c.slot (from_to c.state after) files
-  cache_going made keeps before is h inside =
-      let waited = step_waits c block below before h made.0 output files after is made.2 keeps in
-      (waited.0, waited.1, going waited.2)
+  cache_going at of number made keeps tells before is h inside =
+      let waited = step_waits c block below before h made.0 output files after is made.2 keeps in (
+        waited.0,
+        waited.1,
+        going waited.2 (comes_nearer a at block c.state after c.slot of number (tells before is h.cache).1),
+      )
 
   pub cache_lacks : IsBlockStep block c (Ok cached.NoPage) files after output →
       KeepsCacheWhereDone (Ok cached.NoPage) c.disk c.slot (from_to c.state after) files →
@@ -339,16 +392,27 @@ module _ (a : TreeAsk) (block : ℕ) (c : Caller) (below : block < CACHE_BLOCKS)
       LeavesWhereInside a (Ok x) c.disk c.slot (from_to c.state after) files.before output
   cache_leaves step x stepped before is h inside = step_leaves c block below before h step output files after is stepped
 
-  pub cache_calls : (step : Told) (x : Done) → HasGone (fetch_state c.state c.slot block) c files step after output →
-      CallsWhereInside a (Ok x) c.disk c.slot (from_to c.state after) files
-  cache_calls step x stepped before now is told h inside = record {
+  pub cache_calls : (at : ℕ) → IsOfDisk a at → block ≡ at / BLKSIZE % CACHE_BLOCKS → (step : Told) (x : Done) →
+      HasGone (fetch_state c.state c.slot block) c files step after output → CallsWhereInside a (Ok x) c.disk c.slot (from_to c.state after) files
+  cache_calls at of number step x stepped before now is told h inside = record {
     mid = after;
     output = output;
-    call = fetches block step below
+    call = fetches block step (
+      below,
+      (let within = place_inside a at c.disk.blocks of inside in
+          subst (λ (b : ℕ). b < c.disk.blocks) (sym (number ∙ own_block (disk_in before c.disk) at h.count within)) within),
+    )
         (subst (λ (f : Around (Option Files)). HasGone (fetch_state c.state c.slot block) c f step after output) (λ i. from_to (is i) (told i)) stepped);
     spaces = refl;
     rest = (step_leaves c block below before h step output files after is stepped).1;
+    left = inl refl;
+    cache = refl;
   }
+
+  -- where the host failed in it, nothing is printed
+  pub cache_failed : (failed : Failed) → IsBlockStep block c (Err failed) files after output →
+      LeavesWhereInside a (Err failed) c.disk c.slot (from_to c.state after) files.before output
+  cache_failed failed it before is h inside = no_part output (step_failed c block below before h output files after is it.0)
 
 -- where it had no page for the block, its environment lives
 pub lacking_lives : (block : ℕ) (c : Caller) (files : Around (Option Files)) (step : Told) (after : KernelState) (output : Output) →
@@ -370,11 +434,12 @@ pub known_state : (s : KernelState) (n : ℕ) (state : TreeState) (regs : Regs) 
 known_state s n state regs words is regs_are words_are = is ∙ (λ i. state_in (regs_are i) (words_are i))
 
 as_word : {d e : Disk} {s mid : KernelState} {n : ℕ} {a : TreeAsk} {w : ℕ} → HasDone d e s mid n a (done.Word w) →
-    (w ≡ reply_of a (memory_in d s n)) × TreeAt e mid n × (memory_in e mid n ≡ memory_after a (memory_in d s n))
-as_word (word w is stands memory) = (is, stands, memory)
+    (w ≡ reply_of a (memory_in d s n)) × TreeAt e mid n × (memory_in e mid n ≡ memory_after a (memory_in d s n)) × LeavesCache s mid n
+as_word (word w is stands memory cache) = (is, stands, memory, cache)
 
-as_waiting : {d e : Disk} {s mid : KernelState} {n : ℕ} {a : TreeAsk} → HasDone d e s mid n a done.Going → IsWaiting d e s mid n
-as_waiting (going waiting) = waiting
+as_waiting : {d e : Disk} {s mid : KernelState} {n : ℕ} {a : TreeAsk} → HasDone d e s mid n a done.Going →
+    IsWaiting d e s mid n × (access_left a mid n < access_left a s n)
+as_waiting (going waiting nearer) = (waiting, nearer)
 
 as_lacking : {d e : Disk} {s mid : KernelState} {n : ℕ} {a : TreeAsk} → HasDone d e s mid n a done.NoPage →
     IsWaiting d e s mid n × (s.refusals < 2 ^ 64 - 1 → s.refusals < mid.refusals)
@@ -408,28 +473,55 @@ module _ (disk : DiskFile) (n : ℕ) (s mid : KernelState) (files : Around (Opti
         RestWhereTold (Ok acts) disk n (from_to s after) files.before
     set_leaves_rest next after set before is h lawful = rest_set s mid n (leaves before is h (inside before lawful)).1 next after set
 
+  -- where the host failed in it
+  pub step_failed_quietly : (output : Output) (failed : Failed) → LeavesWhereInside a (Err failed) disk n (from_to s mid) files.before output →
+      QuietWhereTold (Err failed) disk n (from_to s mid) files.before output
+  step_failed_quietly output failed leaves before is h lawful = leaves before is h (inside before lawful)
+
   -- which call it makes
   module _ (x : Done) (calls : CallsWhereInside a (Ok x) disk n (from_to s mid) files) (acts : Acted) where
     pub step_calls : CallsWhereTold (Ok acts) disk n (from_to s mid) files
-    step_calls before now is told h lawful = calls before now is told h (inside before lawful)
+    step_calls before now is told h lawful =
+        subst (λ (b : TreeAsk). IsTreeStep b disk before now s mid n) asks (calls before now is told h (inside before lawful))
 
     pub set_calls : (next : TreeState) (after : KernelState) →
         after ≡ with_extra (with_registers mid n (registers_with (slot_at mid n).registers next)) n (words_with (slot_at mid n).extra next) →
         CallsWhereTold (Ok acts) disk n (from_to s after) files
     set_calls next after set before now is told h lawful =
-        let it : IsTreeStep disk before now s mid n = calls before now is told h (inside before lawful) in
+        let it : IsTreeStep (ask_at (job_in s n)) disk before now s mid n =
+        subst (λ (b : TreeAsk). IsTreeStep b disk before now s mid n) asks (calls before now is told h (inside before lawful)) in
         record {
           mid = it.mid;
           output = it.output;
           call = it.call;
           spaces = ap (λ (k : KernelState). k.spaces) set ∙ it.spaces;
           rest = rest_set s mid n it.rest next after set;
+          left = inr (behind it.mid it.left);
+          cache = kept ∙ it.cache;
         }
+      where
+        sets : SetsWords mid after n
+        sets = job_sets mid after n next set
+
+        slot : Slot
+        slot = slot_at mid n
+
+        kept : drop 8 (slot_at after n).extra ≡ drop 8 slot.extra
+        kept =
+            ap (λ (k : KernelState). drop 8 (slot_at k n).extra) (set ∙ both_set mid n (registers_with slot.registers next) (words_with slot.extra next))
+            ∙ ap (λ (x : Slot). drop 8 x.extra)
+            (slot_put mid n (record slot { registers = registers_with slot.registers next; extra = words_with slot.extra next }))
+            ∙ last_four slot.extra next
+
+        behind : (k : KernelState) → (mid ≡ k) ⊎ SetsWords k mid n → SetsWords k after n
+        behind k (inl same) = subst (λ (x : KernelState). SetsWords x after n) same sets
+        behind k (inr before) = sets_twice k mid after n before sets
 
   pub step_going : DoesWhereTold a (Ok done.Going) disk n (from_to s mid) files → StepsWhereTold (Ok acted.Going) disk n (from_to s mid) files
   step_going does before is h lawful =
       let came = own done.Going does before is h lawful in
-      (came.0, came.1, waits (as_waiting came.2))
+      let both = as_waiting came.2 in
+      (came.0, came.1, waits (record { stands = both.0.stands; job = both.0.job; memory = both.0.memory; nearer = both.1 }))
 
   pub step_lacks : DoesWhereTold a (Ok done.NoPage) disk n (from_to s mid) files →
       StepsWhereTold (Ok (acted.Answer (negated E_NO_MEM))) disk n (from_to s mid) files
@@ -445,7 +537,7 @@ module _ (disk : DiskFile) (n : ℕ) (s mid : KernelState) (files : Around (Opti
         let three = as_word came.2 in (
           came.0,
           came.1,
-          answers answer (record { stands = three.1; memory = three.2 }) (ap (next_at (job_in s n)) (sym three.0) ∙ ends),
+          answers answer (record { cache = three.3; stands = three.1; memory = three.2 }) (ap (next_at (job_in s n)) (sym three.0) ∙ ends),
         )
 
     pub step_goes_on : (next : TreeState) (after : KernelState) → next_at (job_in s n) w ≡ GoOn next → IsInOrder after →
@@ -457,7 +549,16 @@ module _ (disk : DiskFile) (n : ℕ) (s mid : KernelState) (files : Around (Opti
         let it = state_set (disk_in came.0 disk) mid n next three.1 after in_order set in (
           came.0,
           came.1,
-          goes next (record { stands = it.stands; memory = it.memory ∙ three.2 }) (ap (next_at (job_in s n)) (sym three.0) ∙ on) it.job,
+          goes next
+              (record {
+                cache = record {
+                  place = (λ i. (it.cache i).place) ∙ three.3.place;
+                  cached = ap cached_count it.row ∙ three.3.cached;
+                  used = subst (λ (row : EntryRow). used_count row ≤ used_count (row_in s n) + 1) (sym it.row) three.3.used;
+                };
+                stands = it.stands;
+                memory = it.memory ∙ three.2;
+              }) (ap (next_at (job_in s n)) (sym three.0) ∙ on) it.job,
         )
 
 -- a state that no job comes to

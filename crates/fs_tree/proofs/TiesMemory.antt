@@ -32,7 +32,7 @@ use Rattle.fs_runs.specs.TreeRuns.{memory_after, reply_of}
 use Rattle.fs_tree.specs.TreeSteps.{TreeAt, disk_bytes, memory_in}
 use Rattle.fs_jobs.specs.TreeTests.{low_byte}
 use Rattle.fs_tree.proofs.TiesPages.{HasAccessed, byte_loaded, byte_stored, word_loaded, word_stored}
-use Rattle.fs_tree.proofs.TiesBlocks.{block_law, found_entry, found_stands, found_value}
+use Rattle.fs_tree.proofs.TiesBlocks.{CountsOn, block_law, found_entry, found_stands, found_value}
 
 -- ---- lists
 
@@ -156,6 +156,7 @@ pub record HasMade (d : Disk) (s mid : KernelState) (n : ℕ) (a : TreeAsk) : Ty
   pub stands : TreeAt d mid n
   pub memory : memory_in d mid n ≡ memory_after a (memory_in d s n)
   pub slot : slot_at mid n ≡ slot_at s n
+  pub counts : CountsOn s mid n
 
 module _ (d : Disk) (s : KernelState) (n at : ℕ) (h : TreeAt d s n) (below : at / BLKSIZE < d.count)
     (found : (cache_state s n).place ≡ cached_place.Found (at / BLKSIZE)) where
@@ -214,6 +215,7 @@ module _ (d : Disk) (s : KernelState) (n at : ℕ) (h : TreeAt d s n) (below : a
           stands = law.stands;
           memory = (λ i. record { disk = disk i; page = law.request i }) ∙ sym same;
           slot = λ i. slot_at (accessed.is i) n;
+          counts = law.counts;
         }
 
     -- a store
@@ -232,6 +234,7 @@ module _ (d : Disk) (s : KernelState) (n at : ℕ) (h : TreeAt d s n) (below : a
           stands = law.stands;
           memory = (λ i. record { disk = now i; page = law.request i }) ∙ sym same;
           slot = λ i. slot_at (accessed.is i) n;
+          counts = law.counts;
         }
 
     module _ (output : Output) where

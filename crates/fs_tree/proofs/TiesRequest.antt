@@ -26,7 +26,7 @@ use Rattle.lib_os.proofs.PageBytes.{bytes_more, bytes_none}
 use Rattle.fs_blocks.specs.declared.place.CachePlace.{CachePlace}
 use Rattle.fs_blocks.specs.declared.place.CachePlace.TheVariants as at
 use Rattle.fs_cache.specs.CacheStands.{CacheAt, CacheStands, CacheView, HoldsAt, HoldsBlock, IsBoths, IsGiven, cache_view, cached_at, cached_in, filling_at}
-use Rattle.fs_cache.specs.CacheSteps.{cache_state, row_in}
+use Rattle.fs_cache.specs.CacheSteps.{cache_state, cached_count, row_in, used_count}
 use Rattle.fs_cache.proofs.Loads.{number_of, row_below, row_past}
 use Rattle.fs_jobs.specs.declared.asks.TreeAsk.{TreeAsk}
 use Rattle.fs_jobs.specs.declared.asks.TreeAsk.TheVariants as ask
@@ -35,7 +35,7 @@ use Rattle.fs_runs.specs.TreeRuns.{memory_after, reply_of}
 use Rattle.fs_tree.specs.TreeSteps.{HasRequest, TreeAt, disk_bytes, memory_in, request_bytes}
 use Rattle.fs_jobs.specs.TreeTests.{low_byte}
 use Rattle.fs_tree.proofs.TiesPages.{HasAccessed, PageAccessed, byte_loaded, byte_stored}
-use Rattle.fs_tree.proofs.TiesBlocks.{request_holds, request_low, request_number, request_same}
+use Rattle.fs_tree.proofs.TiesBlocks.{CountsOn, request_holds, request_low, request_number, request_same}
 use Rattle.fs_tree.proofs.TiesMemory.{HasMade}
 
 -- ---- frames beside the blocks'
@@ -168,6 +168,15 @@ module _ (d : Disk) (s : KernelState) (n : ℕ) (h : TreeAt d s n) where
         ap (λ (v : CacheView). cached_at v (cache_state s n).place) (view_is s.spaces t dir entry bytes a)
         ∙ cached_same d (cache_view s.spaces dir) t.pages beside (cache_state s n).place
 
+    counts_on : CountsOn s (with_spaces s t) n
+    counts_on = record {
+      cached = λ i. cached_count (λ m. row_same s.spaces t dir entry bytes a m i);
+      used = as_many (used_count (row_in (with_spaces s t) n)) (used_count (row_in s n)) (λ i. used_count (λ m. row_same s.spaces t dir entry bytes a m i));
+    }
+      where
+        as_many : (x y : ℕ) → x ≡ y → x ≤ y + 1
+        as_many x y is = omega (arith, is)
+
     abbrev has_request : HasRequest (with_spaces s t) n
     has_request = record {
       entry = a.entry;
@@ -224,6 +233,7 @@ module _ (d : Disk) (s : KernelState) (n : ℕ) (h : TreeAt d s n) where
         subst (λ (k : KernelState). HasMade d s k n a) (sym accessed.is)
         (record {
           stands = stands_behind page h.request.whole accessed.spaces order accessed.accessed;
+          counts = counts_on page h.request.whole accessed.spaces order accessed.accessed;
           memory = read_memory page h.request.whole accessed.spaces order accessed.accessed refl ∙ sym same;
           slot = refl;
         })
@@ -236,6 +246,7 @@ module _ (d : Disk) (s : KernelState) (n : ℕ) (h : TreeAt d s n) where
         subst (λ (k : KernelState). HasMade d s k n a) (sym accessed.is)
         (record {
           stands = stands_behind bytes whole accessed.spaces order accessed.accessed;
+          counts = counts_on bytes whole accessed.spaces order accessed.accessed;
           memory = write_memory bytes whole accessed.spaces order accessed.accessed at value below put ∙ sym same;
           slot = refl;
         })

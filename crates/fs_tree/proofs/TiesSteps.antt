@@ -23,7 +23,7 @@ use Rattle.fs_blocks.specs.declared.place.CacheState.{CacheState}
 use Rattle.fs_blocks.specs.declared.plan.CacheAsk.TheVariants as asked
 use Rattle.fs_blocks.specs.declared.plan.Told.{Told}
 use Rattle.fs_blocks.specs.CachePlaces.{with_state}
-use Rattle.fs_blocks.specs.CachePlans.{ask_by, ask_map, block_of, fetching, next_by}
+use Rattle.fs_blocks.specs.CachePlans.{ask_at, ask_by, ask_map, block_of, fetching, next_by}
 use Rattle.fs_cache.specs.CacheStands.{CacheStands, HoldsBlock, cached_in, was_used}
 use Rattle.fs_cache.specs.CacheSteps.{Caller, HasGone, IsReply, KeepsCache, by_word, stopped, cache_state, fetch_state, gone_on}
 use Rattle.fs_cache.proofs.CacheBegins.{fetch_fetches, fetch_stands}
@@ -77,6 +77,29 @@ module _ (d : Disk) (c : Caller) (server : IsServer c.state c.slot) (files : Opt
   not_stopped (at.FlushPage b) hand why s goes other reply = goes
   not_stopped (at.FlushWriting b) hand why s goes other reply = goes
   not_stopped (at.FlushSettling b) hand why s goes other reply = goes
+
+  -- and where the host fails in one, nothing is printed
+  failed_quietly : (place : CachePlace) (hand : ℕ) → CacheStands d (view_in c.state c.slot) place hand → IsFetching place →
+      IsReply (ask_by place hand) c files (Err stop.Failed) mid output → Prints output []
+  failed_quietly at.Resting hand s goes reply = absurd goes
+  failed_quietly (at.Found b) hand s goes reply = absurd goes
+  failed_quietly (at.LookingRegion b) hand s goes reply = absurd ((loads_give c files b mid output stop.Failed server s.block_below).0 reply)
+  failed_quietly (at.LookingPage b) hand s goes reply = absurd ((loads_give c files b mid output stop.Failed server s.block_below).1 s.at reply)
+  failed_quietly (at.Taking b) hand s goes reply = absurd reply
+  failed_quietly (at.Filling b) hand s goes reply = reply.1
+  failed_quietly (at.Settling b) hand s goes reply = absurd reply
+  failed_quietly (at.HandRegion b left) hand s goes reply = absurd ((loads_give c files hand mid output stop.Failed server s.hand_below).0 reply)
+  failed_quietly (at.HandPage b left) hand s goes reply = absurd ((loads_give c files hand mid output stop.Failed server s.hand_below).1 s.at.1 reply)
+  failed_quietly (at.WritingBack b) hand s goes reply = reply.1
+  failed_quietly (at.Passing b) hand s goes reply = absurd reply
+  failed_quietly (at.Moving b) hand s goes reply = absurd reply
+  failed_quietly (at.Leaving b) hand s goes reply = absurd reply
+  failed_quietly (at.Freeing b) hand s goes reply = absurd reply
+  failed_quietly (at.TakingLast b) hand s goes reply = absurd reply
+  failed_quietly (at.FlushRegion b) hand s goes reply = absurd goes
+  failed_quietly (at.FlushPage b) hand s goes reply = absurd goes
+  failed_quietly (at.FlushWriting b) hand s goes reply = absurd goes
+  failed_quietly (at.FlushSettling b) hand s goes reply = absurd goes
 
   module _ (h : HasRequest c.state c.slot) (word : ℕ) where
     abbrev Kept : Type 0
@@ -165,6 +188,18 @@ values_same d e c k count keeps =
     by_test q true on =
         let below : q / BLKSIZE < d.count = grind (arith, nat_tests) in
         ap (λ (page : List ℕ). slice_index page (q % BLKSIZE)) (keeps (q / BLKSIZE) below)
+
+module _ (c : Caller) (block : ℕ) (below : block < CACHE_BLOCKS) (before : Files) (h : TreeAt (disk_in before c.disk) c.state c.slot)
+    (output : Output) where
+  -- where the host failed in it
+  pub step_failed : (files : Around (Option Files)) (after : KernelState) → files.before ≡ Some before →
+      IsReply (ask_at (fetch_state c.state c.slot block)) c files.before (Err stop.Failed) after output → Prints output []
+  step_failed files after is reply =
+      let place : CachePlace = fetching (cache_state c.state c.slot).place block in
+      let hand : ℕ = (cache_state c.state c.slot).hand in
+      failed_quietly (disk_in before c.disk) c (server_of (disk_in before c.disk) c.state c.slot h.cache) files.before after output place hand
+      (fetch_stands (disk_in before c.disk) (view_in c.state c.slot) (cache_state c.state c.slot).place hand block below h.cache.stands)
+      (fetch_fetches (cache_state c.state c.slot).place block) reply
 
 module _ (c : Caller) (block : ℕ) (below : block < CACHE_BLOCKS) (before : Files) (h : TreeAt (disk_in before c.disk) c.state c.slot) (tells : Told)
     (output : Output) where

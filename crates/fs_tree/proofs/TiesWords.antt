@@ -17,6 +17,7 @@ use Rattle.lib_os.proofs.SlotsSet.{both_set}
 use Rattle.fs_blocks.specs.declared.place.CacheState.{CacheState}
 use Rattle.fs_blocks.specs.CachePlaces.{place_in, state_in as cache_in}
 use Rattle.fs_cache.specs.CacheStands.{CacheAt, CacheStands, cache_view, cached_at, cached_in}
+use Rattle.fs_cache.specs.CacheSteps.{row_in}
 use Rattle.fs_jobs.specs.declared.place.TreeState.{TreeState}
 use Rattle.fs_places.specs.TreePlaces.{registers_with, state_in, words_with}
 use Rattle.fs_tree.specs.TreeSteps.{HasRequest, KeepsRest, TreeAt, disk_bytes, job_in, job_registers, memory_in, request_bytes, with_job_of}
@@ -89,6 +90,8 @@ pub record HasSet (d : Disk) (s after : KernelState) (n : ℕ) (state : TreeStat
   pub stands : TreeAt d after n
   pub memory : memory_in d after n ≡ memory_in d s n
   pub job : job_in after n ≡ state
+  pub cache : cache_in (slot_at after n).extra ≡ cache_in (slot_at s n).extra
+  pub row : row_in after n ≡ row_in s n
 
 module _ (d : Disk) (s : KernelState) (n : ℕ) (state : TreeState) (h : TreeAt d s n) where
   abbrev words : List ℕ
@@ -110,6 +113,8 @@ module _ (d : Disk) (s : KernelState) (n : ℕ) (state : TreeState) (h : TreeAt 
         job =
             ap (λ (x : Slot). state_in x.registers x.extra) (slot_put s n slot)
             ∙ state_told (slot_at s n).registers (slot_at s n).extra state;
+        cache = ap (λ (x : Slot). cache_in x.extra) (slot_put s n slot) ∙ cache;
+        row = ap (λ (x : Slot). block_row s.spaces x.directory own_addresses) (slot_put s n slot);
       }
 
   -- as the code sets it

@@ -1,6 +1,6 @@
 -- A step of a job in the environment that serves files: the block that it wants comes nearer, or the job makes its step over what the cache
 -- has of the disk.
-use Rattle.std.specs.Prelude.{◌≡◌, ◌≢◌, ◌<◌, ◌≤◌, ℕ, ◌+◌, ◌/◌, ◌^◌, ◌-◌, nat_lt, true, [], Option, Some, Result, Ok, Err, if◌then◌else◌}
+use Rattle.std.specs.Prelude.{◌≡◌, ◌≢◌, ◌<◌, ◌≤◌, ℕ, ◌+◌, ◌/◌, ◌%◌, ◌^◌, ◌-◌, nat_lt, true, [], Option, Some, Result, Ok, Err, if◌then◌else◌}
 use Rattle.jos_host.specs.declared.host.Failed.{Failed}
 use Rattle.jos_host.specs.Files.{Files}
 use Rattle.jos_host.specs.Frames.{Around}
@@ -14,14 +14,16 @@ use Rattle.fs_layout.specs.declared.numbers.TheConstants.{BLKSIZE, MAXBLOCKS}
 use Rattle.lib_os.specs.BlockCache.{CachedBlocks, block_value}
 use Rattle.lib_os.specs.Disk.{Disk, DiskFile, byte_in_blocks, disk_in}
 use Rattle.lib_os.specs.Rows.{IsPage}
-use Rattle.lib_os.specs.UserCalls.{Output, Prints, user_byte}
+use Rattle.lib_os.specs.UserCalls.{Output, Prints, PrintsPart, user_byte}
 use Rattle.fs_cache.specs.CacheStands.{CacheAt, IsBlockEntry, cached_in}
-use Rattle.fs_cache.specs.CacheSteps.{row_in}
+use Rattle.fs_cache.specs.CacheSteps.{cache_state, cached_count, left_in, other_left, row_in, used_count, wait_left}
+use Rattle.fs_jobs.specs.declared.asks.TreeAsk.{TreeAsk}
+use Rattle.fs_jobs.specs.declared.asks.TreeAsk.TheVariants as ask
 use Rattle.fs_jobs.specs.declared.asks.TreeNext.TheVariants.{Answer, GoOn}
 use Rattle.fs_jobs.specs.declared.place.TreeState.{TreeState}
 use Rattle.fs_tree.specs.declared.steps.Acted.{Acted}
 use Rattle.fs_tree.specs.declared.steps.Acted.TheVariants as acted
-use Rattle.lib_os.specs.declared.numbers.TheConstants.{REQUEST}
+use Rattle.lib_os.specs.declared.numbers.TheConstants.{CACHE_BLOCKS, REQUEST}
 use Rattle.fs_jobs.specs.TreeBounds.{is_bounded}
 use Rattle.fs_places.specs.TreePlaces.{state_in}
 use Rattle.fs_runs.specs.TreePlans.{ask_at, next_at}
@@ -84,8 +86,34 @@ pub record IsWaiting (d e : Disk) (s after : KernelState) (n : ℕ) : Type 0 whe
   pub job : job_in after n ≡ job_in s n
   pub memory : memory_in e after n ≡ memory_in d s n
 
+-- how many steps may come until the block has its page of which this is asked; what is asked of the page of the request waits for none
+abbrev pub block_left : ℕ → KernelState → ℕ → ℕ
+block_left at s n = left_in (wait_left (at / BLKSIZE % CACHE_BLOCKS)) (cache_state s n).place s n
+
+abbrev pub access_left : TreeAsk → KernelState → ℕ → ℕ
+access_left (ask.Load at) s n = block_left at s n
+access_left (ask.LoadByte at) s n = block_left at s n
+access_left (ask.Store at word) s n = block_left at s n
+access_left (ask.StoreByte at byte) s n = block_left at s n
+access_left (ask.Request at) s n = left_in other_left (cache_state s n).place s n
+access_left (ask.HandBack at byte) s n = left_in other_left (cache_state s n).place s n
+
+-- it has made one towards the block that the job wants
+pub record ComesNearer (d e : Disk) (s after : KernelState) (n : ℕ) : Type 0 where
+  pub stands : TreeAt e after n
+  pub job : job_in after n ≡ job_in s n
+  pub memory : memory_in e after n ≡ memory_in d s n
+  pub nearer : access_left (ask_at (job_in s n)) after n < access_left (ask_at (job_in s n)) s n
+
+-- the cache stands where it stood, and one page more may have been used
+pub record LeavesCache (s after : KernelState) (n : ℕ) : Type 0 where
+  pub place : (cache_state after n).place ≡ (cache_state s n).place
+  pub cached : cached_count (row_in after n) ≡ cached_count (row_in s n)
+  pub used : used_count (row_in after n) ≤ used_count (row_in s n) + 1
+
 -- the job has made its step
 pub record HasMoved (d e : Disk) (s after : KernelState) (n : ℕ) : Type 0 where
+  pub cache : LeavesCache s after n
   pub stands : TreeAt e after n
   pub memory : memory_in e after n ≡ memory_after (ask_at (job_in s n)) (memory_in d s n)
 
@@ -93,7 +121,7 @@ abbrev pub reply_in : Disk → KernelState → ℕ → ℕ
 reply_in d s n = reply_of (ask_at (job_in s n)) (memory_in d s n)
 
 pub data HasStepped (d e : Disk) (s after : KernelState) (n : ℕ) : Acted → Type 0 where
-  waits : IsWaiting d e s after n → HasStepped d e s after n acted.Going
+  waits : ComesNearer d e s after n → HasStepped d e s after n acted.Going
   goes : (next : TreeState) → HasMoved d e s after n → next_at (job_in s n) (reply_in d s n) ≡ GoOn next → job_in after n ≡ next →
       HasStepped d e s after n acted.Going
   answers : (word : ℕ) → HasMoved d e s after n → next_at (job_in s n) (reply_in d s n) ≡ Answer word → HasStepped d e s after n (acted.Answer word)
@@ -107,11 +135,13 @@ StepsWhereTold (Ok told) disk n states files =
     (after : Files) × (files.after ≡ Some after) × HasStepped (disk_in before disk) (disk_in after disk) states.before states.after n told
 StepsWhereTold (Err _) disk n states files = Unit {0}
 
--- Where the host tells its files, the job's next step is lawful, and all stands, nothing is printed.
+-- Where the host tells its files, the job's next step is lawful, and all stands, nothing is printed, whether or not the host fails.
 abbrev pub QuietWhereTold : Result Acted Failed → DiskFile → ℕ → Around KernelState → Option Files → Output → Type 0
 QuietWhereTold (Ok told) disk n states files output =
     (before : Files) → files ≡ Some before → TreeAt (disk_in before disk) states.before n → IsLawful (disk_in before disk) states.before n → Prints output []
-QuietWhereTold (Err _) disk n states files output = Unit {0}
+QuietWhereTold (Err _) disk n states files output =
+    (before : Files) → files ≡ Some before → TreeAt (disk_in before disk) states.before n → IsLawful (disk_in before disk) states.before n →
+    PrintsPart output []
 
 -- the same, of the rest of its slot, and of the other slots
 abbrev pub RestWhereTold : Result Acted Failed → DiskFile → ℕ → Around KernelState → Option Files → Type 0

@@ -1,8 +1,9 @@
 -- What the program answers to `run`, by its words, the files that they name and the console's input. Refusals are tried in
 -- the order in which they stand. The program is the file that stands at its path on the disk, and the disk is that of the file
 -- server of its run. What comes of the run itself is told by the turns of its report: the console has what the abstract system
--- prints in them, which begins with the files of the disk. (This system's own.)
-use Rattle.std.specs.Prelude.{◌≡◌, ℕ, ◌⊎◌, List, [], ◌∷◌, Option, Some, None, Ok, Err}
+-- prints in them, which begins with the files of the disk. Behind them the file server makes the act that it is busy with, and the
+-- disk has the files of the abstract system then. (This system's own.)
+use Rattle.std.specs.Prelude.{◌≡◌, ℕ, ◌⊎◌, List, [], Option, Some, None, Ok, Err}
 use Rattle.jos_base.specs.Words.{◌>>=◌}
 use Rattle.jos_elf.specs.Parsed as image
 use Rattle.fs_image.specs.DiskHeld.{HeldDisk}

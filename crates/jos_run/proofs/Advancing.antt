@@ -24,10 +24,10 @@ use Rattle.lib_os.specs.AbstractState.{AbstractSlot, AbstractState, Born, Server
 use Rattle.lib_os.specs.LibrarySteps.{Stands, NothingRefused, KeepsTurn, MayGiveUp}
 use Rattle.lib_os.specs.Places.{place_of}
 use Rattle.lib_os.specs.LibraryPages.{View}
-use Rattle.lib_os.specs.StandsInHandler.{CopiesOrEnds, copies, ends, StandsBeneath, at_program, in_delivery}
+use Rattle.lib_os.specs.StandsInHandler.{CopiesOrEnds, copies, ends, StandsBeneath, at_program, in_delivery, may_follow}
 use Rattle.lib_os.specs.Rows.{EntryRow, Names}
 use Rattle.lib_os.specs.StandsFor.{AwaitsOrHas, StandsFor, StandsAt, StandsAtStep, IsStatusFor, awaits, has_reply, WaitsOrHas, waits, has, view_of}
-use Rattle.lib_os.specs.StandsFor.{StandsAtDevice, StandsBefore, descriptor_given}
+use Rattle.lib_os.specs.StandsFor.{IsGatheringPath, StandsAtDevice, StandsBefore, descriptor_given}
 use Rattle.lib_os.proofs.SlotsStand.{born_at}
 use Rattle.jos_run.specs.AbstractTurns.{turn_begun, is_yielding, may_end, stands_waiting, waits_to_reply}
 use Rattle.jos_run.specs.LibraryRuns.{IsBetween, IsInTurn, visible_steps}
@@ -58,6 +58,7 @@ silent_before : (so : Type 0) (v : View) (k : Slot) (b : Born) (s : Service) (do
 silent_before so v k b (service.Read fd va len) done word h = h.0.silent
 silent_before so v k b (service.Stat fd va) done word h = h.0.silent
 silent_before so v k b (service.Write fd va len) done word h = h.0.silent
+silent_before so v k b (service.Remove path) done word h = h.0.silent
 silent_before so v k b _ done word h = absurd h
 
 silent_beneath : (row : EntryRow) (k : Slot) (b : Born) → StandsBeneath row k b → k.rendezvous.receiving ≡ false
@@ -65,6 +66,14 @@ silent_beneath row k b (at_program h) = h.silent
 silent_beneath row k b (in_delivery (service.Read fd va len) done word at h) = h.0.silent
 silent_beneath row k b (in_delivery (service.Stat fd va) done word at h) = h.0.silent
 silent_beneath row k b (in_delivery _ done word at h) = absurd h.0
+
+silent_gathering : (t : Bool) (v : View) (k : Slot) (b : Born) (path done : ℕ) → IsGatheringPath t v k b path done → k.rendezvous.receiving ≡ false
+silent_gathering true v k b path done h = h.0.silent
+silent_gathering false v k b path done h = h.is_in.silent
+
+silent_reply : (k : Slot) (b : Born) (s : Service) → AwaitsOrHas k b s → b.blocked ≡ false → k.rendezvous.receiving ≡ false
+silent_reply k b s (awaits so) awake = absurd (let contradiction : true ≡ false = sym so.blocked ∙ awake in cc)
+silent_reply k b s (has_reply so) awake = so.silent
 
 silent_step : (v : View) (k : Slot) (b : Born) (s : Service) (stands : Step) → StandsAtStep v k b s stands → b.blocked ≡ false →
     k.rendezvous.receiving ≡ false
@@ -86,11 +95,7 @@ silent_step v k b (service.Receive va from) (step.ReadingPerm id value sender) h
 silent_step v k b service.Sync (step.Asking id) h awake = h.1.silent
 silent_step v k b service.Sync (step.Pausing id) h awake = h.1.silent
 silent_step v k b service.Sync (step.Awaiting id) h awake = h.1.silent
-silent_step v k b service.Sync (step.ReadingReply id) h awake = by_reply h.1
-  where
-    by_reply : AwaitsOrHas k b service.Sync → k.rendezvous.receiving ≡ false
-    by_reply (awaits so) = absurd (let contradiction : true ≡ false = sym so.blocked ∙ awake in cc)
-    by_reply (has_reply so) = so.silent
+silent_step v k b service.Sync (step.ReadingReply id) h awake = silent_reply k b service.Sync h.1 awake
 silent_step v k b service.Fork (step.ForkRegion id region) h awake = h.0.silent
 silent_step v k b service.Fork (step.ForkEntry id page) h awake = h.0.silent
 silent_step v k b service.Fork (step.MapChild id page perm) h awake = h.0.silent
@@ -124,6 +129,15 @@ silent_step v k b (service.Write fd va len) (step.Gathering done) h awake = h.0.
 silent_step v k b (service.Write fd va len) (step.Keeping done word left) h awake = h.is_in.silent
 silent_step v k b (service.Write fd va len) step.Printing h awake = h.is_in.silent
 silent_step v k b (service.Write fd va len) step.Releasing h awake = h.silent
+silent_step v k b (service.Remove path) step.TakingPage h awake = h.0.silent
+silent_step v k b (service.Remove path) (step.Gathering done) h awake = silent_gathering (may_follow path done) v k b path done h
+silent_step v k b (service.Remove path) (step.Keeping done word left) h awake = h.is_in.silent
+silent_step v k b (service.Remove path) step.Identifying h awake = h.is_in.silent
+silent_step v k b (service.Remove path) (step.Asking id) h awake = h.1.is_in.silent
+silent_step v k b (service.Remove path) (step.Pausing id) h awake = h.1.is_in.silent
+silent_step v k b (service.Remove path) (step.Awaiting id) h awake = h.1.silent
+silent_step v k b (service.Remove path) (step.Clearing id) h awake = silent_reply k b (service.Remove path) h.1 awake
+silent_step v k b (service.Remove path) (step.ReadingReply id) h awake = h.1.silent
 silent_step v k b _ _ h awake = absurd h
 
 silent_at : (v : View) (k : Slot) (b : Born) (p : Place) → StandsAt p v k b → b.blocked ≡ false → k.rendezvous.receiving ≡ false
@@ -237,12 +251,12 @@ stepped {n = n} bytes other h done keeps none_refused last runs turn hidden =
 pub server_stepped : {schedule : List ℕ} {first : AbstractState} {turns : List Turn} {n visible : ℕ} {w after : World}
     {written : List ℕ} (bytes : List ℕ) →
     n ≡ 0 → IsInTurn schedule first turns n visible w written → (done : Progress) → KeepsWhole done n w after bytes → NothingRefused w.state after.state →
-    after.state.last ≡ Some n → is_running (slot_at w.state n).status ≡ true → ServerLeaves done w.state after.state → (hidden : ℕ) →
+    after.state.last ≡ Some n → is_running (slot_at w.state n).status ≡ true → ServerLeaves w.disk done w.state after.state → (hidden : ℕ) →
     Comes schedule first turns n (visible + visible_steps done) hidden after (written ++ bytes)
 server_stepped {n = n} {w = w} {after = after} bytes zero h done keeps none_refused last runs left hidden =
     comes bytes h done keeps none_refused last runs
     (λ ready. subst (λ (m : ℕ). MayEndBy done h.now m) (sym zero) (server_may h.now FIRST_ENV_ID h.stands.0.1.first done
-    (left.turn w.disk h.now h.stands.0 h.stands.1 (ap (λ (m : ℕ). is_running (slot_at w.state m).status) (sym zero) ∙ runs)
+    (left.turn h.now h.stands.0 h.stands.1 (ap (λ (m : ℕ). is_running (slot_at w.state m).status) (sym zero) ∙ runs)
     (ap (λ (m : ℕ). is_runnable (slot_at after.state m).status) (sym zero) ∙ ready)))) hidden
 
 -- ---- the turn behind the step

@@ -1,136 +1,167 @@
--- Where the kernel's state stands for an abstract one beside a disk that is told, the files are those of the disk: the file server has cached no
--- block, so what it sees of the disk is what the blocks hold; and at no step of a sync has it put anything.
-use Rattle.std.proofs.Common.{◌≡◌, ◌∙◌, ◌*◌, ◌/◌, ◌%◌, ◌<◌, ◌≤◌, inl, inr, ℕ, Bool, true, false, List, Option, None, refl, sym, ap, subst}
+-- Where the kernel's state stands for an abstract one beside a disk that is told, the file server acts where it has a request whose act is not made.
+-- Where it has none the files are those of the disk as its cache holds it; so they are those of a disk that holds what the cache held.
+use Rattle.std.proofs.Common.{◌≡◌, ◌∙◌, ◌*◌, ◌/◌, ◌%◌, ◌<◌, ◌≤◌, ◌&&◌, inl, inr, ℕ, Bool, true, false, List, Option, Some, None, refl, sym, ap, subst}
 use Rattle.std.proofs.Common.{if◌then◌else◌, arith}
 use Rattle.std.proofs.lemmas.Bool.{cases_lt}
-use Rattle.std.specs.Option.{option_map}
+use Rattle.std.proofs.lemmas.Bool.Decides.{nat_tests}
 use Rattle.std.specs.Prelude.{nat_lt, slice_index, unwrap_or}
+use Rattle.jos_base.specs.declared.environment.Status.{Status}
+use Rattle.jos_base.specs.declared.environment.Status.TheVariants.{Free, Dying, NotRunnable, Runnable, Running}
 use Rattle.jos_base.specs.KernelState.{KernelState, slot_at}
-use Rattle.jos_base.specs.Reach.{Entry}
-use Rattle.jos_base.specs.Words.{is_exactly}
 use Rattle.fs_layout.specs.declared.numbers.TheConstants.{BLKSIZE}
 use Rattle.fs_layout.specs.DiskFiles.{IsDiskImage, file_system_of}
 use Rattle.fs_layout.specs.DiskImage.{block_count}
-use Rattle.fs_layout.specs.FileTree.{FileAct, FileSystem, sync_files}
-use Rattle.fs_acts.specs.BlockActs.{plan_of, puts_in_turn, puts_of, written}
+use Rattle.fs_layout.specs.FileTree.{FileSystem, open_path, read_file, remove_path, set_file_size, stat_file, sync_files, write_file}
 use Rattle.fs_acts.specs.BlockLaws.{SameWithin}
 use Rattle.fs_acts.proofs.Disks.{blocks-decide}
-use Rattle.lib_os.specs.declared.numbers.TheConstants.{CACHE_BLOCKS}
 use Rattle.lib_os.specs.AbstractState.{AbstractState, Request, Server, act, acted, busy, idle, leaving, looking, seek}
-use Rattle.lib_os.specs.BlockCache.{block_row, block_value, own_addresses}
+use Rattle.lib_os.specs.BlockCache.{IsCache, block_value}
 use Rattle.lib_os.specs.Disk.{Disk, byte_in_blocks}
-use Rattle.lib_os.specs.FileServer.{is_file_open}
-use Rattle.fs_cache.specs.CacheStands.{cached_in, filling_at}
-use Rattle.fs_cache.specs.CacheSteps.{cache_state}
-use Rattle.fs_cache.proofs.Loads.{number_of, row_below, row_past}
+use Rattle.lib_os.specs.FileServer.{request_begun}
+use Rattle.lib_os.specs.StandsFor.{IsServerStatus, IsStatusFor}
+use Rattle.fs_cache.specs.CacheStands.{cached_in}
 use Rattle.fs_runs.specs.TreeRuns.{Memory}
 use Rattle.fs_tree.specs.TreeSteps.{disk_bytes, memory_in}
 use Rattle.fs_requests.specs.declared.state.ServerStep.{ServerStep}
 use Rattle.fs_requests.specs.declared.state.ServerStep.TheVariants as step
-use Rattle.fs_serving.specs.ServerRuns.{HasFiles, IsDone, StandsAtStep, StandsServing}
+use Rattle.fs_serving.specs.ServerRuns.{HasFiles, IsFound, IsStoring, StandsAtStep, StandsServing, is_serving, moved, opened, removed, sought}
+use Rattle.fs_serving.specs.ServerViews.{Serving}
 use Rattle.fs_server.specs.ServerSteps.{server_at}
-use Rattle.fs_seen.specs.ServerMemory.{serving_in}
-use Rattle.fs_seen.specs.ServerWhole.{ServesBy, bytes_on}
+use Rattle.fs_seen.specs.ServerMemory.{AreDiskBytes, serving_in}
+use Rattle.fs_seen.specs.ServerWhole.{IsServing, ServesBy}
 use Rattle.fs_seen.proofs.Between.{files_over}
+use Rattle.jos_run.specs.AbstractTurns.{is_acting}
 use Rattle.jos_run.specs.RunLaws.{FilesStand}
-use Rattle.jos_run.specs.ServerStands.{HasRecordsAlone, IsBuiltRequest, ServerStands}
+use Rattle.jos_run.specs.RunReports.{TellsFiles}
+use Rattle.jos_run.specs.RunSteps.{HoldsCache, acts_in}
+use Rattle.jos_run.specs.ServerStands.{StandsWhole}
 use Rattle.jos_run.specs.Start.{HoldsFiles}
-use Rattle.jos_run.proofs.DiskBegins.{bytes_within}
-use Rattle.jos_run.proofs.ServerNow.{busy_sync, no_find, no_moved, no_open, no_store}
+use Rattle.jos_run.specs.Steps.{is_awake, is_servers}
+use Rattle.jos_run.specs.Worlds.{beside}
 
--- ---- no block is cached
+-- ---- by its step
 
-module _ (d : Disk) (s : KernelState) (h : HasRecordsAlone s) where
-  abbrev dir : ℕ
-  dir = (slot_at s 0).directory
+begun_acts : (client : ℕ) (request : Request) → is_acting (request_begun client request) ≡ true
+begun_acts client (act (open_path path mode) object) = refl
+begun_acts client (act (read_file way offset len) object) = refl
+begun_acts client (act (write_file way offset bytes) object) = refl
+begun_acts client (act (set_file_size way size) object) = refl
+begun_acts client (act (stat_file way) object) = refl
+begun_acts client (act (remove_path path) object) = refl
+begun_acts client (act sync_files object) = refl
+begun_acts client (seek name offset) = refl
 
-  row_none : (b : ℕ) → block_row s.spaces dir own_addresses b ≡ None
-  row_none b = elim (cases_lt b CACHE_BLOCKS) [
-    | inl below ↦ row_below s.spaces dir b below ∙ h.alone (number_of b) (λ same. omega (arith, same))
-    | inr past ↦ let beyond : CACHE_BLOCKS ≤ b = grind (arith, past) in row_past s.spaces dir b beyond
-  ]
+module _ (count : ℕ) (a : AbstractState) (it : Serving) (before : Memory) where
+  acts_as : (x : Server) → a.server ≡ x → is_acting x ≡ true → is_acting a.server ≡ true
+  acts_as x same acts = ap is_acting same ∙ acts
 
-  page_none : (b : ℕ) → (cached_in s 0).page b ≡ None
-  page_none b = by_test (is_exactly b (filling_at (cache_state s 0).place))
-    where
-      by_test : (t : Bool) →
-          (if t then None else option_map (λ (e : Entry). s.spaces.pages e.frame) (block_row s.spaces dir own_addresses b)) ≡ None
-      by_test true = refl
-      by_test false = ap (λ (o : Option Entry). option_map (λ (e : Entry). s.spaces.pages e.frame) o) (row_none b)
+  rests_as : (x : Server) → a.server ≡ x → is_acting x ≡ false → is_acting a.server ≡ false
+  rests_as x same rests = ap is_acting same ∙ rests
 
-  value_is : (b : ℕ) → block_value d (cached_in s 0) b ≡ d.block b
-  value_is b = ap (λ (o : Option (List ℕ)). unwrap_or o (d.block b)) (page_none b)
+  acts_storing : IsStoring a it before → is_acting a.server ≡ true
+  acts_storing (opened so) = acts_as _ so.opened.opening.is_busy.server refl
+  acts_storing (moved so at) = acts_as _ so.is_busy.server refl
+  acts_storing (sought name so number at none memory) = acts_as _ so.server refl
 
-  -- what it sees of the disk is what the blocks hold
-  disk_is : disk_bytes d (cached_in s 0) ≡ bytes_on d
-  disk_is = λ i at. if nat_lt (at / BLKSIZE) d.count then slice_index (value_is (at / BLKSIZE) i) (at % BLKSIZE) else 0
+  acts_found : IsFound count a it before → is_acting a.server ≡ true
+  acts_found (opened path mode home so running) = acts_as _ so.opening.is_busy.server refl
+  acts_found (removed so) = acts_as _ so.is_busy.server refl
 
--- ---- nothing is put
+  -- it is busy with a request from the step in which that is read to that of its act
+  acts_at : (at : ServerStep) → StandsAtStep at count a it before → is_acting a.server ≡ is_serving at
+  acts_at step.Releasing h = rests_as leaving h.0 refl
+  acts_at step.Receiving h = rests_as leaving h.0 refl
+  acts_at step.ReadingKind h = acts_as _ h.2.server (begun_acts _ h.2.request)
+  acts_at step.ReadingClient h = acts_as _ h.2.server (begun_acts _ h.2.request)
+  acts_at step.ReadingFile h = acts_as _ h.is_busy.server refl
+  acts_at step.ReadingOffset h = acts_as _ h.0.is_busy.server refl
+  acts_at step.ReadingCount h = acts_as _ h.0.is_busy.server refl
+  acts_at step.ReadingRecord h = acts_as _ h.0.is_busy.server refl
+  acts_at step.LookingRecord h = acts_as _ h.server refl
+  acts_at step.LookingEntry h = acts_as _ h.0.server refl
+  acts_at step.LookingHolders h = acts_as _ h.0.server refl
+  acts_at step.TakingPage h = acts_as _ h.2.is_busy.server refl
+  acts_at step.ReadingMode h = acts_as _ h.2.is_busy.server refl
+  acts_at step.Working h = acts_as _ h.is_busy.server refl
+  acts_at step.Finding h = acts_found h
+  acts_at step.StoringRecord h = acts_as _ h.opened.opening.is_busy.server refl
+  acts_at step.StoringDevice h = acts_as _ h.opened.opening.is_busy.server refl
+  acts_at step.ReadingModeAgain h = acts_as _ h.opened.opening.is_busy.server refl
+  acts_at step.StoringMode h = acts_as _ h.opened.opening.is_busy.server refl
+  acts_at step.StoringFile h = acts_as _ h.opened.opening.is_busy.server refl
+  acts_at step.Advancing h = acts_as _ h.is_busy.server refl
+  acts_at step.StoringOffset h = acts_storing h
+  acts_at step.CheckingRecord h = acts_as _ h.is_busy.server refl
+  acts_at step.CheckingEntry h = acts_as _ h.0.is_busy.server refl
+  acts_at step.CheckingHolders h = acts_as _ h.0.is_busy.server refl
+  acts_at step.Flushing h = acts_as _ h.0.server refl
+  acts_at step.Acting h = acts_as _ h.is_busy.server refl
+  acts_at step.Replying h = rests_as _ h.server refl
+  acts_at step.Pausing h = rests_as _ h.server refl
 
-abbrev act_of : Request → FileAct
-act_of (act f object) = f
-act_of (seek name at) = sync_files
-
--- a sync puts nothing
-sync_puts : (is_open : List ℕ → Bool) (byte : ℕ → ℕ) → written (puts_of is_open byte sync_files) byte ≡ byte
-unfolding plan_of puts_in_turn written
-sync_puts is_open byte = refl
-
-module _ (s : KernelState) (a : AbstractState) (d : Disk) (before : Memory) (built : IsBuiltRequest a.server) where
   abbrev Unchanged : Type 0
-  Unchanged = disk_bytes d (cached_in s 0) ≡ before.disk
+  Unchanged = it.view.memory.disk ≡ before.disk
 
-  unchanged : memory_in d s 0 ≡ before → Unchanged
+  unchanged : it.view.memory ≡ before → Unchanged
   unchanged same = ap (λ (m : Memory). m.disk) same
 
-  done_unchanged : IsDone a (serving_in d s 0) before → Unchanged
-  done_unchanged h =
-      let is : h.f ≡ sync_files = ap act_of (busy_sync s a d before built h.is_busy).request_is in
-      h.has_acted.disk
-      ∙ ap (λ (f : FileAct). written (puts_of (is_file_open a) before.disk f) before.disk) is
-      ∙ sync_puts (is_file_open a) before.disk
+  -- and where it is not, the disk that it sees is that over which its request began
+  disk_at : (at : ServerStep) → is_serving at ≡ false → StandsAtStep at count a it before → Unchanged
+  disk_at step.Releasing rests h = h.1
+  disk_at step.Receiving rests h = h.1
+  disk_at step.Replying rests h = unchanged h.memory
+  disk_at step.Pausing rests h = unchanged h.memory
+  disk_at _ rests h = absurd (let contradiction : true ≡ false = rests in cc)
 
-  -- the disk that it sees is that over which its request began
-  disk_at : (x : ServerStep) → StandsAtStep x d.count a (serving_in d s 0) before → Unchanged
-  disk_at step.Releasing h = h.1
-  disk_at step.Receiving h = h.1
-  disk_at step.ReadingKind h = unchanged h.2.memory
-  disk_at step.ReadingClient h = unchanged h.2.memory
-  disk_at step.ReadingFile h = unchanged h.memory
-  disk_at step.ReadingOffset h = unchanged h.0.memory
-  disk_at step.ReadingCount h = unchanged h.0.memory
-  disk_at step.ReadingRecord h = unchanged h.0.memory
-  disk_at step.LookingRecord h = unchanged h.memory
-  disk_at step.LookingEntry h = unchanged h.0.memory
-  disk_at step.LookingHolders h = unchanged h.0.memory
-  disk_at step.TakingPage h = no_open s a d before built h.2
-  disk_at step.ReadingMode h = no_open s a d before built h.2
-  disk_at step.Working h = absurd (h.no_sync (busy_sync s a d before built h.is_busy).kind_is)
-  disk_at step.Finding h = no_find s a d before built h
-  disk_at step.StoringRecord h = no_open s a d before built h.opened.opening
-  disk_at step.StoringDevice h = no_open s a d before built h.opened.opening
-  disk_at step.ReadingModeAgain h = no_open s a d before built h.opened.opening
-  disk_at step.StoringMode h = no_open s a d before built h.opened.opening
-  disk_at step.StoringFile h = no_open s a d before built h.opened.opening
-  disk_at step.Advancing h = no_moved s a d before built h
-  disk_at step.StoringOffset h = no_store s a d before built h
-  disk_at step.CheckingRecord h = unchanged h.memory
-  disk_at step.CheckingEntry h = unchanged h.0.memory
-  disk_at step.CheckingHolders h = unchanged h.0.memory
-  disk_at step.Flushing h = unchanged h.1
-  disk_at step.Acting h = done_unchanged h
-  disk_at step.Replying h = unchanged h.memory
-  disk_at step.Pausing h = unchanged h.memory
+-- ---- whether it acts
+
+and_false : (t : Bool) → (t && false) ≡ false
+and_false true = refl
+and_false false = refl
+
+module _ (d : Disk) (s : KernelState) (a : AbstractState) (h : IsServing d s 0 a) (status : IsServerStatus a.server (slot_at s 0)) where
+  serves_first : is_servers s 0 ≡ true
+  serves_first = h.stands.cache.server
+
+  acts_by : (awake serving : Bool) → is_awake (slot_at s 0).status ≡ awake → is_serving (server_at s 0).step ≡ serving →
+      acts_in s ≡ (awake && serving)
+  acts_by awake serving wakes at = λ i. serves_first i && wakes i && at i
+
+  awake_so : (x : Status) → IsStatusFor x false → is_awake x ≡ true
+  awake_so Runnable is = refl
+  awake_so Running is = refl
+  awake_so Free is = absurd is
+  awake_so Dying is = absurd is
+  awake_so NotRunnable is = absurd is
+
+  pub acts_alike : acts_in s ≡ is_acting a.server
+  acts_alike = by_server a.server refl h.serves status
+    where
+      stands : StandsServing d.count a (serving_in d s 0) → IsStatusFor (slot_at s 0).status false → acts_in s ≡ is_acting a.server
+      stands it runs =
+          acts_by true (is_acting a.server) (awake_so (slot_at s 0).status runs)
+          (sym (acts_at d.count a (serving_in d s 0) it.before (server_at s 0).step it.at))
+
+      by_server : (x : Server) → a.server ≡ x → ServesBy x d s 0 a → IsServerStatus x (slot_at s 0) → acts_in s ≡ is_acting a.server
+      by_server leaving same it runs = stands it runs.0
+      by_server idle same it waits =
+          acts_by false (is_serving (server_at s 0).step) (ap is_awake waits.status) refl ∙ sym (ap is_acting same)
+      by_server (looking client request place) same it runs = stands it runs.0
+      by_server (busy client request place) same it runs = stands it runs.0
+      by_server (acted client answer bytes object) same it runs = stands it runs.0
 
 -- ---- the files
 
-module _ (d : Disk) (s : KernelState) (a : AbstractState) (h : ServerStands d s a) where
+module _ (d : Disk) (s : KernelState) (a : AbstractState) (h : IsServing d s 0 a) (rests : is_acting a.server ≡ false) where
   -- those of the disk that is seen
   files_seen : HasFiles d.count (memory_in d s 0) a.files
-  files_seen = by_server a.server h.serving.serves
+  files_seen = by_server a.server h.serves
     where
       over : StandsServing d.count a (serving_in d s 0) → HasFiles d.count (memory_in d s 0) a.files
-      over it = files_over d.count it.before (memory_in d s 0) a.files (disk_at s a d it.before h.built (server_at s 0).step it.at) it.files
+      over it =
+          let at = (server_at s 0).step in
+          let still : is_serving at ≡ false = sym (acts_at d.count a (serving_in d s 0) it.before at it.at) ∙ rests in
+          files_over d.count it.before (memory_in d s 0) a.files (disk_at d.count a (serving_in d s 0) it.before at still it.at) it.files
 
       by_server : (x : Server) → ServesBy x d s 0 a → HasFiles d.count (memory_in d s 0) a.files
       by_server leaving it = over it
@@ -139,26 +170,68 @@ module _ (d : Disk) (s : KernelState) (a : AbstractState) (h : ServerStands d s 
       by_server (busy client request place) it = over it
       by_server (acted client answer bytes object) it = over it
 
-  files_on_disk : HasFiles d.count (record { disk = bytes_on d; page = λ at. 0 }) a.files
-  files_on_disk =
-      files_over d.count (memory_in d s 0) (record { disk = bytes_on d; page = λ at. 0 }) a.files (sym (disk_is d s h.records)) files_seen
-
-  same_within : SameWithin (block_count (bytes_on d)) (bytes_on d) (byte_in_blocks d.block)
-  same_within at within = sym (bytes_within d at (subst (λ (n : ℕ). at < BLKSIZE * n) files_on_disk.count_is within))
-
-  image_so : IsDiskImage (BLKSIZE * d.count) (byte_in_blocks d.block)
-  image_so = (blocks-decide (BLKSIZE * d.count) (bytes_on d) (byte_in_blocks d.block) files_on_disk.disk same_within).0
-
-  same_files : file_system_of (byte_in_blocks d.block) ≡ file_system_of (bytes_on d)
-  same_files = (blocks-decide (BLKSIZE * d.count) (bytes_on d) (byte_in_blocks d.block) files_on_disk.disk same_within).1
-
-  count_so : block_count (byte_in_blocks d.block) ≡ d.count
-  unfolding file_system_of
-  count_so = ap (λ (f : FileSystem). f.blocks) same_files ∙ files_on_disk.count_is
-
-  held_files : HoldsFiles d a.files
-  held_files = record { image = image_so; count = count_so; bytes = h.serving.stands.bytes; are = same_files ∙ files_on_disk.are }
-
 -- the law
 pub files_stand : FilesStand
-files_stand d s a whole = held_files d s a whole.1
+files_stand d s a whole rests = files_seen d s a whole.1.serving rests
+
+-- and whether it acts is told by the kernel's state
+pub acting_stands : (d : Disk) (s : KernelState) (a : AbstractState) → StandsWhole (beside s (Some d)) a → acts_in s ≡ is_acting a.server
+acting_stands d s a whole = acts_alike d s a whole.1.serving whole.0.1.server.status
+
+-- ---- of a disk that holds what the cache held
+
+module _ (d e : Disk) (s : KernelState) (files : FileSystem) (holds : HoldsCache d e (cached_in s 0)) (small : AreDiskBytes d)
+    (cache : IsCache d (cached_in s 0)) (seen : HasFiles d.count (memory_in d s 0) files) where
+  abbrev seen_bytes : ℕ → ℕ
+  seen_bytes = disk_bytes d (cached_in s 0)
+
+  written_within : (at : ℕ) → at < BLKSIZE * d.count → seen_bytes at ≡ byte_in_blocks e.block at
+  written_within at within =
+      let below : at / BLKSIZE < d.count = omega (arith, within) in
+      let test : nat_lt (at / BLKSIZE) d.count ≡ true = grind (arith, nat_tests, below) in
+      ap (λ (t : Bool). if t then slice_index (block_value d (cached_in s 0) (at / BLKSIZE)) (at % BLKSIZE) else 0) test
+      ∙ ap (λ (bytes : List ℕ). slice_index bytes (at % BLKSIZE)) (sym (holds.blocks (at / BLKSIZE) below))
+
+  same_within : SameWithin (block_count seen_bytes) seen_bytes (byte_in_blocks e.block)
+  same_within at within = written_within at (subst (λ (n : ℕ). at < BLKSIZE * n) seen.count_is within)
+
+  image_so : IsDiskImage (BLKSIZE * d.count) (byte_in_blocks e.block)
+  image_so = (blocks-decide (BLKSIZE * d.count) seen_bytes (byte_in_blocks e.block) seen.disk same_within).0
+
+  same_files : file_system_of (byte_in_blocks e.block) ≡ file_system_of seen_bytes
+  same_files = (blocks-decide (BLKSIZE * d.count) seen_bytes (byte_in_blocks e.block) seen.disk same_within).1
+
+  count_so : block_count (byte_in_blocks e.block) ≡ d.count
+  unfolding file_system_of
+  count_so = ap (λ (f : FileSystem). f.blocks) same_files ∙ seen.count_is
+
+  -- what a block holds is bytes
+  value_small : (n k : ℕ) → slice_index (block_value d (cached_in s 0) n) k < 256
+  value_small n k = by_page ((cached_in s 0).page n) refl
+    where
+      by_page : (o : Option (List ℕ)) → (cached_in s 0).page n ≡ o → slice_index (unwrap_or o (d.block n)) k < 256
+      by_page None is = small n k
+      by_page (Some bytes) is = (cache.whole n bytes is).small k
+
+  bytes_so : AreDiskBytes e
+  bytes_so n k = elim (cases_lt n d.count) [
+    | inl below ↦ subst (λ (bytes : List ℕ). slice_index bytes k < 256) (sym (holds.blocks n below)) (value_small n k)
+    | inr past ↦
+        let beyond : d.count ≤ n = grind (arith, past) in
+        subst (λ (bytes : List ℕ). slice_index bytes k < 256) (sym (holds.beyond n beyond)) (small n k)
+  ]
+
+  held_files : HoldsFiles e files
+  held_files = record {
+    image = subst (λ (n : ℕ). IsDiskImage (BLKSIZE * n) (byte_in_blocks e.block)) (sym holds.count) image_so;
+    count = count_so ∙ sym holds.count;
+    bytes = bytes_so;
+    are = same_files ∙ seen.are;
+  }
+
+-- So where the cache was written back, the disk has the files of the abstract system.
+pub files_written : (d e : Disk) (s : KernelState) (a : AbstractState) → StandsWhole (beside s (Some d)) a → is_acting a.server ≡ false →
+    HoldsCache d e (cached_in s 0) → TellsFiles (Some e) a.files
+files_written d e s a whole rests holds =
+    let over = whole.1.serving.stands in
+    held_files d e s a.files holds over.bytes over.cache.stands.cache (files_stand d s a whole rests)

@@ -230,6 +230,6 @@ guest_leaves s after n done is =
       uses = subst (λ (t : KernelState). KeepsUses n s t) (sym is) (λ in_order live each. guest_uses s n in_order live each);
       places = places_kept s after n others;
       numbers = numbers_kept s after n others (copies_kept s after n h.waits);
-      working = working_kept s after n (copies_kept s after n h.waits);
+      working = working_kept s after n others (copies_kept s after n h.waits);
       server = subst (λ (t : KernelState). KeepsServer n s t) (sym is) (guest_server s n);
     }

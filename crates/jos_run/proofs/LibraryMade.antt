@@ -20,6 +20,7 @@ use Rattle.jos_run.specs.StepsAtOnce.{MakesSteps}
 use Rattle.jos_run.specs.Worlds.{World, beside}
 use Rattle.jos_run.proofs.ServerLeavings.{server_call_leaves}
 use Rattle.jos_run.proofs.ProgramSteps.{leaves_as, raises_as, whole_step}
+use Rattle.jos_run.proofs.RequestsCalm.{RequestsCalmly}
 
 -- ---- a step alone, by what it has come to
 
@@ -42,7 +43,7 @@ module _ (v w : World) (n : ℕ) (output : Output) (did : Result Progress Failed
   rest_it (Err failed) told rest = tt
 
   made_alone : (last : Result StepOutcome Failed) → step_progress last ≡ did → IfOk last (λ stepped. stepped.trap ≡ trap) →
-      IsWholeStep did n v w output → IfOk did (λ done. LeavesRest s after) → LeavesAs (is_servers s n) did n s after →
+      IsWholeStep did n v w output → IfOk did (λ done. LeavesRest s after) → LeavesAs (is_servers s n) v.disk did n s after →
       MakesSteps n 0 last v w output
   made_alone last told with_trap step rest leaves = record {
     reached = s;
@@ -50,7 +51,7 @@ module _ (v w : World) (n : ℕ) (output : Output) (did : Result Progress Failed
     is_guest = λ some. absurd (omega (arith, some));
     step = subst (λ (r : Result Progress Failed). IsWholeStep r n v w output) (sym told) step;
     rest = rest_it last told rest;
-    leaves = subst (λ (r : Result Progress Failed). LeavesAs (is_servers s n) r n s after) (sym told) leaves;
+    leaves = subst (λ (r : Result Progress Failed). LeavesAs (is_servers s n) v.disk r n s after) (sym told) leaves;
     raises = raises_it last with_trap;
   }
 
@@ -58,23 +59,19 @@ module _ (v w : World) (n : ℕ) (output : Output) (did : Result Progress Failed
 
 module _ (disk : Option Disk) (s after : KernelState) (n : ℕ) (output : Output) (user : is_servers s n ≡ false) (awake : is_awake (slot_at s n).status ≡ true)
     (trap : Option TrapLine) (raised : Raises (place_of (slot_at s n)) n s trap after) where
-  step_whole : (did : Result Progress Failed) → IsLibraryStep did n s after output → Leaves did n s after →
-      IsWholeStep did n (beside s disk) (beside after disk) output
-  step_whole (Ok done) step leaves = whole_step disk s after n output user awake (Ok done) (leaves.server, leaves.places) step
-  step_whole (Err failed) step leaves = whole_step disk s after n output user awake (Err failed) tt step
-
   step_rest : (did : Result Progress Failed) → Leaves did n s after → IfOk did (λ done. LeavesRest s after)
   step_rest (Ok done) leaves = leaves.rest
   step_rest (Err failed) leaves = tt
 
   pub library_made : (did : Result Progress Failed) (last : Result StepOutcome Failed) → step_progress last ≡ did →
       IfOk last (λ stepped. stepped.trap ≡ trap) → IsLibraryStep did n s after output → Leaves did n s after → Lowers did n s after →
-      GivesUp did (slot_at s n) (slot_at after n) → IfOk did (λ done. TakesByPlace n s after) →
+      GivesUp did (slot_at s n) (slot_at after n) → IfOk did (λ done. TakesByPlace n s after) → IfOk did (λ done. RequestsCalmly n s after) →
       MakesSteps n 0 last (beside s disk) (beside after disk) output
-  library_made did last told with_trap step leaves lowers gives_up takes =
-      made_alone (beside s disk) (beside after disk) n output did trap (raises_as (is_servers s n) s after n trap user raised) last told with_trap (step_whole did step leaves)
+  library_made did last told with_trap step leaves lowers gives_up takes calm =
+      made_alone (beside s disk) (beside after disk) n output did trap (raises_as (is_servers s n) s after n trap user raised) last told with_trap
+      (whole_step disk s after n output user awake did leaves calm step)
       (step_rest did leaves)
-      (leaves_as (is_servers s n) did s after n user (record { each = leaves; lowers = lowers; gives_up = gives_up; takes = takes }))
+      (leaves_as (is_servers s n) disk did s after n user (record { each = leaves; lowers = lowers; gives_up = gives_up; takes = takes }))
 
 -- ---- of the file server
 
@@ -86,10 +83,10 @@ module _ (before behind : Option Disk) (s after : KernelState) (n : ℕ) (output
       by_test true is = refl
       by_test false is = absurd (let contradiction : false ≡ true = is in cc)
 
-  served_as : (did : Result Progress Failed) → (n ≡ 0 → LeavesServed did s after) → LeavesAs (is_servers s n) did n s after
+  served_as : (did : Result Progress Failed) → (n ≡ 0 → LeavesServed before did s after) → LeavesAs (is_servers s n) before did n s after
   served_as did served = by_test (is_servers s n) server
     where
-      by_test : (c : Bool) → c ≡ true → LeavesAs c did n s after
+      by_test : (c : Bool) → c ≡ true → LeavesAs c before did n s after
       by_test true is = served
       by_test false is = absurd (let contradiction : false ≡ true = is in cc)
 
@@ -101,6 +98,6 @@ module _ (before behind : Option Disk) (s after : KernelState) (n : ℕ) (output
 
   pub server_made : (did : Result Progress Failed) (last : Result StepOutcome Failed) → step_progress last ≡ did →
       IfOk last (λ stepped. stepped.trap ≡ None) → IsWholeStep did n (beside s before) (beside after behind) output →
-      IfOk did (λ done. LeavesRest s after) → (n ≡ 0 → LeavesServed did s after) → MakesSteps n 0 last (beside s before) (beside after behind) output
+      IfOk did (λ done. LeavesRest s after) → (n ≡ 0 → LeavesServed before did s after) → MakesSteps n 0 last (beside s before) (beside after behind) output
   server_made did last told no_trap step rest served =
       made_alone (beside s before) (beside after behind) n output did None raises_none last told no_trap step rest (served_as did served)

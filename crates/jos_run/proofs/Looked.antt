@@ -2,9 +2,10 @@
 use Rattle.std.proofs.Common.{◌≡◌, ◌∙◌, ◌/◌, ℕ, Bool, false, List, refl, ap}
 use Rattle.std.specs.Prelude.{Option, Some, None, is_some, nat_eq, bit_and}
 use Rattle.std.specs.Option.{option_map}
-use Rattle.jos_base.specs.declared.numbers.TheConstants.{PGSIZE}
+use Rattle.jos_base.specs.declared.numbers.TheConstants.{PGSIZE, PTE_D}
 use Rattle.jos_base.specs.Reach.{Entry}
-use Rattle.jos_base.specs.Words.{page_number}
+use Rattle.jos_base.specs.Words.{has_bit, page_number}
+use Rattle.lib_os.specs.BlockCache.{is_dirty}
 use Rattle.lib_os.specs.LibrarySteps.{is_to_copy}
 use Rattle.lib_os.specs.Rows.{lasting, rows_of}
 use Rattle.jos_base.specs.Environments.{Environments, Slot}
@@ -38,6 +39,15 @@ entry_copied : (o : Option Entry) → copied_by (option_map (λ (e : Entry). e.p
 entry_copied None = refl
 entry_copied (Some e) = refl
 
+-- whether a page is dirty
+abbrev pub dirty_by : Option ℕ → Bool
+dirty_by None = false
+dirty_by (Some perm) = has_bit perm PTE_D
+
+entry_dirty : (o : Option Entry) → dirty_by (option_map (λ (e : Entry). e.perm) o) ≡ is_dirty o
+entry_dirty None = refl
+entry_dirty (Some e) = refl
+
 entry_there : (o : Option Entry) → is_some (option_map (λ (e : Entry). e.perm) o) ≡ is_some (option_map lasting o)
 entry_there None = refl
 entry_there (Some e) = refl
@@ -62,3 +72,12 @@ module _ (machine : Parts) {system : System} (is : system ≡ machine.system) wh
       ap copied_by told ∙ entry_copied ((spaces_of system).entries _ (va / PGSIZE))
       ∙ (λ i. is_to_copy (rows_of (spaces_of system) (there (left_of machine.input) i) (page_number va)))
       ∙ (λ i. let s = state_of (is i) (left_of machine.input) in is_to_copy (rows_of s.spaces (slot_at s n).directory (page_number va)))
+
+  pub dirty_looked : (n va : ℕ) {directory : ℕ} (found : Option ℕ) →
+      found ≡ option_map (λ (e : Entry). e.perm) ((spaces_of system).entries directory (va / PGSIZE)) →
+      ((input : List ℕ) → directory ≡ (slot_at (state_of system input) n).directory) →
+      dirty_by found ≡ is_dirty ((kernel_state machine).spaces.entries (slot_at (kernel_state machine) n).directory (page_number va))
+  dirty_looked n va found told there =
+      ap dirty_by told ∙ entry_dirty ((spaces_of system).entries _ (va / PGSIZE))
+      ∙ (λ i. is_dirty ((spaces_of system).entries (there (left_of machine.input) i) (page_number va)))
+      ∙ (λ i. let s = state_of (is i) (left_of machine.input) in is_dirty (s.spaces.entries (slot_at s n).directory (page_number va)))

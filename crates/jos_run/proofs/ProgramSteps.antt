@@ -1,5 +1,6 @@
 -- A step of a program is one that the library promises.
-use Rattle.std.proofs.Common.{◌≡◌, ◌≢◌, ◌∙◌, ◌<◌, ◌++◌, inl, inr, ℕ, Bool, true, false, Option, Some, Result, Ok, Err, refl, sym, ap, subst}
+use Rattle.std.proofs.Common.{◌≡◌, ◌≢◌, ◌∙◌, ◌<◌, ◌==◌, ◌++◌, inl, inr, ℕ, Bool, true, false, List, Option, Some, Result, Ok, Err, refl, sym, ap, subst, arith}
+use Rattle.std.proofs.lemmas.Bool.Decides.{nat_tests}
 use Rattle.std.proofs.lemmas.Bool.{false≢true}
 use Rattle.std.specs.Prelude.{IfOk}
 use Rattle.jos_host.specs.declared.host.Failed.{Failed}
@@ -18,17 +19,18 @@ use Rattle.lib_os.specs.AbstractState.{AbstractState, Born, AbstractSlot, free, 
 use Rattle.lib_os.specs.Disk.{Disk}
 use Rattle.lib_os.specs.InOrder.{IsInOrder}
 use Rattle.lib_os.specs.AbstractRun.{abs_step}
-use Rattle.lib_os.specs.LibrarySteps.{Stands, GoesOn, IsLibraryStep, KeepsPlaces, KeepsServer, Lowers, hidden_left}
+use Rattle.lib_os.specs.LibrarySteps.{Stands, GoesOn, IsLibraryStep, Leaves, Lowers, hidden_left}
 use Rattle.lib_os.specs.Places.{place_of}
 use Rattle.lib_os.specs.Rows.{Names}
 use Rattle.lib_os.specs.StandsFor.{StandsFor, StandsForSlot}
 use Rattle.lib_os.specs.UserCalls.{Output, is_file_server}
 use Rattle.jos_run.specs.Guest.{Follows}
 use Rattle.jos_run.specs.GuestSteps.{guest_instruction, is_handed_over}
-use Rattle.jos_run.specs.ServerStands.{IsWholeStep}
+use Rattle.jos_run.specs.ServerStands.{IsWholeStep, WouldFollow}
 use Rattle.jos_run.specs.Worlds.{beside}
 use Rattle.jos_run.specs.Steps.{is_awake, is_servers, LeavesAs, LeavesByPlace, Raises, RaisesAs}
 use Rattle.jos_run.proofs.Choices.{serving_first}
+use Rattle.jos_run.proofs.RequestsCalm.{RequestsCalmly}
 use Rattle.jos_run.proofs.WholeStands.{others_slot, whole_kept}
 use Rattle.jos_run.proofs.GuestStands.{IsCopied, SmallAtFault, copying_at, instruction_end, instruction_step}
 use Rattle.jos_run.proofs.GuestStands.{guest_copied, guest_goes_on, guest_stands}
@@ -57,13 +59,24 @@ awake_born names s a h n other awake = by_slot (a.slots n) refl (h.slots n)
     by_slot (born b) is k = (b, is)
     by_slot (serving id) is k = absurd (other (sym (serving_first h n id k)))
 
--- A step of another than the file server that keeps what the library's steps promise keeps the whole, where it leaves the file server what it has.
+-- what a failed call of another leaves
+not_first : (n : ℕ) (a : AbstractState) (written : List ℕ) → n ≢ 0 →
+    (b : AbstractState) × (abs_step a n ≡ Some b) × (b.console ≡ a.console ++ written) → WouldFollow (n == 0) n a written
+not_first n a written other would =
+    let test : false ≡ (n == 0) = grind (arith, nat_tests) in subst (λ (t : Bool). WouldFollow t n a written) test would
+
+-- A step of another than the file server that keeps what the library's steps promise keeps the whole, where it leaves the others what they have, and
+-- spaces as a request leaves them.
 pub whole_step : (disk : Option Disk) (s after : KernelState) (n : ℕ) (output : Output) → is_servers s n ≡ false →
-    is_awake (slot_at s n).status ≡ true → (did : Result Progress Failed) → IfOk did (λ done. KeepsServer n s after × KeepsPlaces n s after) →
+    is_awake (slot_at s n).status ≡ true → (did : Result Progress Failed) → Leaves did n s after → IfOk did (λ done. RequestsCalmly n s after) →
     IsLibraryStep did n s after output → IsWholeStep did n (beside s disk) (beside after disk) output
-whole_step disk s after n output user awake (Ok done) left h =
-    (h.0, h.1, whole_kept disk n s after done h.0 user (λ names a stands other. awake_born names s a stands n other awake) left.0 left.1 h.2)
-whole_step disk s after n output user awake (Err failed) left h = (h.0, h.1, λ a stands. h.2 a stands.0)
+whole_step disk s after n output user awake (Ok done) left calm h = (
+  h.0,
+  h.1,
+  whole_kept disk n s after done h.0 user awake (λ names a stands other. awake_born names s a stands n other awake) left calm h.2,
+)
+whole_step disk s after n output user awake (Err failed) left calm h =
+    (h.0, h.1, λ a stands. not_first n a h.0 (others_slot stands.0.1 n user) (h.2 a stands.0))
 
 module _ (s after : KernelState) (n : ℕ) (output : Output) (user : is_servers s n ≡ false) (awake : is_awake (slot_at s n).status ≡ true)
     (is_guest : place_of (slot_at s n) ≡ place.Guest) (small : SmallAtFault (slot_at s n).registers (instruction_step s n).event)
@@ -129,10 +142,10 @@ raises_as true s after n trap is h = absurd (let contradiction : true ≡ false 
 raises_as false s after n trap is h = h
 
 -- and leaves what it leaves by its place
-pub leaves_as : (is : Bool) (did : Result Progress Failed) (s after : KernelState) (n : ℕ) → is ≡ false → LeavesByPlace did n s after →
-    LeavesAs is did n s after
-leaves_as true did s after n is h = absurd (let contradiction : true ≡ false = is in cc)
-leaves_as false did s after n is h = h
+pub leaves_as : (is : Bool) (over : Option Disk) (did : Result Progress Failed) (s after : KernelState) (n : ℕ) → is ≡ false →
+    LeavesByPlace did n s after → LeavesAs is over did n s after
+leaves_as true over did s after n is h = absurd (let contradiction : true ≡ false = is in cc)
+leaves_as false over did s after n is h = h
 
 -- A program raises the trap of its instruction.
 pub guest_raises : (s after : KernelState) (n : ℕ) (trap : Option TrapLine) → place_of (slot_at s n) ≡ place.Guest →

@@ -1,10 +1,9 @@
 -- A program that is booted runs, and what is told of its run is so.
-use Rattle.std.proofs.Common.{◌≡◌, ℕ, List, [], Option, Some, None, Ok, Err, refl, sym, subst}
+use Rattle.std.proofs.Common.{◌≡◌, ◌∙◌, ℕ, List, [], Option, Some, None, Ok, Err, refl, sym, subst}
 use Rattle.std.specs.Prelude.{IsSome}
 use Rattle.circular_buffer.specs.Buffer.{buffer}
 use Rattle.jos_host.specs.declared.host.Failed.{Failed}
 use Rattle.jos_host.specs.Frames.{Around, from_to}
-use Rattle.jos_host.specs.Gains.{Gains}
 use Rattle.jos_base.specs.KernelState.{KernelState}
 use Rattle.jos_elf.specs.Parsed.{Layout}
 use Rattle.jos_kernel.specs.declared.kernel.BootFault.{BootFault}
@@ -22,36 +21,45 @@ use Rattle.jos_run.specs.Boot.{booted_within}
 use Rattle.jos_run.specs.declared.programs.RunEnd.{RunEnd}
 use Rattle.jos_run.specs.declared.programs.RunEnd.TheVariants.{Ended, HostFault}
 use Rattle.jos_run.specs.RunEnds.{Job, AnswersFor, BeginsWith, CanBegin, IsEndOf, RunsFrom, begun, given_job}
+use Rattle.jos_run.specs.Closing.{ClosesRun, IsClosedSo, IsCutClosing}
 use Rattle.jos_run.specs.ServerStands.{StandsWhole}
 use Rattle.jos_run.specs.Start.{HoldsFiles, start_state}
 use Rattle.jos_run.specs.RunReports.{IsTold, IsToldCutOff}
 use Rattle.jos_run.specs.RunSteps.{HasGone}
 use Rattle.jos_run.specs.Running.{state_of, turns_so_far, Holds, Runs, HasRunToEnd, report_of, cut_off_of}
 use Rattle.jos_run.specs.Worlds.{World, beside}
-use Rattle.jos_run.proofs.RunEnds.{told_whole, told_cut_off}
+use Rattle.jos_run.proofs.RunEnds.{closed_cut_off, closed_whole, told_cut_off}
 
-pub ended_told : {budget : ℕ} {r t : LibraryRun} {d e : Option Disk} {a b : Option (List ℕ)} (end : End) (report : Reported) (schedule : List ℕ)
-    (most : ℕ) (s : KernelState) (traps : List TrapLine) → HasRunToEnd budget (Ok end) (from_to r t) (from_to d e) (from_to a b) → r.book.steps ≡ 0 →
-    r.book.trace ≡ buffer [] most → turns_so_far r ≡ [] → Holds t → r.book.schedule ≡ schedule → report ≡ report_of t end →
-    traps ≡ t.book.trace.items → state_of r ≡ s → (frames : ℕ) →
-    ((first : AbstractState) → StandsWhole (beside (state_of r) d) first → Runs first frames d r []) →
-    (printed : List ℕ) × (last : KernelState) × Gains (from_to a b) printed
-    × IsTold schedule (StandsWhole (beside s d)) frames budget report printed (beside last e)
-    × HasGone (beside s d) (beside last e) budget most report traps printed
-ended_told {budget = budget} {r = r} {t = t} {d = d} {e = e} end report schedule most s traps ran none empty no_turns holds scheduled reported kept begun
-    frames h =
-    let told = told_whole end most ran none empty no_turns holds frames h in
-    let last = beside (state_of t) e in (
+pub ended_told : {budget : ℕ} {r t : LibraryRun} {d e : Option Disk} {a b : Option (List ℕ)} (f : Option Disk) (c : Option (List ℕ)) (end : End) (report : Reported) (setup : Setup)
+    (s : KernelState) (traps : List TrapLine) (result : RunEnd) → HasRunToEnd budget (Ok end) (from_to r t) (from_to d e) (from_to a b) →
+    budget ≡ setup.budget → r.book.steps ≡ 0 → r.book.trace ≡ buffer [] setup.trace → turns_so_far r ≡ [] → Holds t → r.book.schedule ≡ setup.schedule →
+    report ≡ report_of t end → traps ≡ t.book.trace.items → state_of r ≡ s →
+    ((first : AbstractState) → StandsWhole (beside (state_of r) d) first → Runs first setup.frames d r []) →
+    IsClosedSo report traps result t.served (from_to e f) (from_to b c) → RunsFrom s setup result (from_to d f) (from_to a c)
+ended_told {budget = budget} {r = r} {t = t} {d = d} {e = e} {a = a} {b = b} f c end report setup s traps (Ended closed trace) ran same none
+    empty no_turns holds scheduled reported kept begun_so h k =
+    let turned = beside (state_of t) e in
+    let last = beside k.0 f in
+    let closes = subst (λ (x : Reported). ClosesRun x closed t.served (from_to e f) (from_to b c) last) reported k.1 in
+    let told = closed_whole end setup.trace ran none empty no_turns holds closed last closes setup.frames h in (
       told.0,
-      state_of t,
+      turned,
+      k.0,
       told.1,
-      subst (λ (k : KernelState). IsTold schedule (StandsWhole (beside k d)) frames budget report told.0 last) begun
-          (subst (λ (numbers : List ℕ). IsTold numbers (StandsWhole (beside (state_of r) d)) frames budget report told.0 last) scheduled
-          (subst (λ (x : Reported). IsTold r.book.schedule (StandsWhole (beside (state_of r) d)) frames budget x told.0 last) (sym reported) told.2)),
-      subst (λ (k : KernelState). HasGone (beside k d) last budget most report traps told.0) begun
-          (subst (λ (l : List TrapLine). HasGone (beside (state_of r) d) last budget most report l told.0) (sym kept)
-          (subst (λ (x : Reported). HasGone (beside (state_of r) d) last budget most x t.book.trace.items told.0) (sym reported) told.3)),
+      subst (λ (n : ℕ). IsTold setup.schedule (StandsWhole (beside s d)) setup.frames n closed told.0 turned last) same
+          (subst (λ (x : KernelState). IsTold setup.schedule (StandsWhole (beside x d)) setup.frames budget closed told.0 turned last) begun_so
+          (subst (λ (numbers : List ℕ). IsTold numbers (StandsWhole (beside (state_of r) d)) setup.frames budget closed told.0 turned last) scheduled
+          told.2)),
+      subst (λ (n : ℕ). HasGone (beside s d) turned last n setup.trace closed trace.items told.0) same
+          (subst (λ (x : KernelState). HasGone (beside x d) turned last budget setup.trace closed trace.items told.0) begun_so
+          (subst (λ (l : List TrapLine). HasGone (beside (state_of r) d) turned last budget setup.trace closed l told.0) (sym (k.2 ∙ kept)) told.3)),
     )
+ended_told {budget = budget} {r = r} {t = t} {d = d} {e = e} {a = a} {b = b} f c end report setup s traps (HostFault cut) ran same none
+    empty no_turns holds scheduled reported kept begun_so h k =
+    let cuts = subst (λ (x : Reported). IsCutClosing x cut t.served (from_to e f) (from_to b c)) reported k in
+    subst (λ (x : KernelState). IsToldCutOff setup.schedule (StandsWhole (beside x d)) setup.frames cut (from_to a c)) begun_so
+    (subst (λ (numbers : List ℕ). IsToldCutOff numbers (StandsWhole (beside (state_of r) d)) setup.frames cut (from_to a c)) scheduled
+    (closed_cut_off end ran holds.has_room cut cuts setup.frames h))
 
 pub failed_told : {r t : LibraryRun} {d e : Option Disk} {a b : Option (List ℕ)} (budget : ℕ) (failed : Failed) (cut : CutOff) (schedule : List ℕ)
     (s : KernelState) → HasRunToEnd budget (Err failed) (from_to r t) (from_to d e) (from_to a b) → HasRoom t.book → r.book.schedule ≡ schedule →
@@ -67,9 +75,9 @@ failed_told {r = r} {d = d} {a = a} {b = b} budget failed cut schedule s ran roo
 -- ---- what it begins with
 
 -- what is told from each abstract state on with which a run may begin is told from fewer
-told_of : {schedule : List ℕ} {Begins These : AbstractState → Type 0} {frames budget : ℕ} {report : Reported} {printed : List ℕ} {last : World} →
-    ((first : AbstractState) → These first → Begins first) → IsTold schedule Begins frames budget report printed last →
-    IsTold schedule These frames budget report printed last
+told_of : {schedule : List ℕ} {Begins These : AbstractState → Type 0} {frames budget : ℕ} {report : Reported} {printed : List ℕ} {turned last : World} →
+    ((first : AbstractState) → These first → Begins first) → IsTold schedule Begins frames budget report printed turned last →
+    IsTold schedule These frames budget report printed turned last
 told_of fewer told = record {
   steps = told.steps;
   within = told.within;
@@ -99,7 +107,7 @@ module _ (setup : Setup) (image : Layout) (file : List ℕ) (words : List (List 
         (stands h.told h.files h.holds))
 
     pub booted_answers : (end : RunEnd) → RunsFrom s setup end disks console → IsEndOf (given_job image file words setup) end disks console
-    booted_answers (Ended report trace) runs = (can_begin, (runs.0, runs.1, runs.2, told_of begins_so runs.3, (s, booted, runs.4)))
+    booted_answers (Ended report trace) runs = (can_begin, (runs.0, runs.1, runs.2, runs.3, told_of begins_so runs.4, (s, booted, runs.5)))
     booted_answers (HostFault cut) runs = (
       can_begin,
       cut_off_told_of setup.schedule (StandsWhole (beside s disks.before)) (BeginsWith (given_job image file words setup) disks.before) setup.frames cut

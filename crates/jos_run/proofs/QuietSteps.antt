@@ -47,6 +47,7 @@ use Rattle.jos_run.proofs.GuestStands.{SmallAtFault, guest_goes_on, instruction_
 use Rattle.jos_run.proofs.GuestUses.{guest_uses}
 use Rattle.jos_run.proofs.WholeStands.{others_slot, whole_kept}
 use Rattle.jos_run.proofs.ProgramSteps.{awake_born}
+use Rattle.jos_run.proofs.RequestsCalm.{none_requests}
 use Rattle.jos_run.proofs.RunsKept.{step_visible}
 use Rattle.jos_run.proofs.SpacesKept.{touched_uses, spaces_kept}
 use Rattle.std.proofs.Math.Bool.{or-true}
@@ -190,8 +191,8 @@ module _ (s after : KernelState) (n : ℕ) (is : guest_instruction s n ≡ quiet
   pub quiet_keeps : (disk : Option Disk) → is_servers s n ≡ false → is_awake (slot_at s n).status ≡ true → place_of (slot_at s n) ≡ place.Guest →
       KeepsWhole progress.Visible n (beside s disk) (beside after disk) []
   quiet_keeps disk user awake guest =
-      whole_kept disk n s after progress.Visible [] user (λ names a stands other. awake_born names s a stands n other awake)
-      left.server left.places (quiet_stands user awake guest)
+      whole_kept disk n s after progress.Visible [] user awake (λ names a stands other. awake_born names s a stands n other awake)
+      left (none_requests s after n place.Guest guest refl refl) (quiet_stands user awake guest)
     where
       left : LeavesEach progress.Visible n s after
       left = guest_leaves s after n progress.Visible (sym state_is)

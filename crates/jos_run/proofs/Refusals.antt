@@ -5,7 +5,7 @@ use Rattle.jos_kernel.specs.declared.report.Refusal.{Refusal}
 use Rattle.jos_kernel.specs.declared.report.Turn.{Turn}
 use Rattle.lib_os.specs.AbstractState.{AbstractState}
 use Rattle.jos_run.specs.AbstractTurns.{turn_begun, steps_taken}
-use Rattle.jos_run.specs.RunReports.{IsRefused, steps_of}
+use Rattle.jos_run.specs.RunReports.{IsRefusedInTurn, steps_of}
 
 -- ---- lists of turns
 
@@ -84,9 +84,9 @@ longer (b ∷ bs) turn later (first ∷ rest) last next are slot visible =
 
 -- where the last turn has gone on
 pub refused_further : {schedule : List ℕ} {first : AbstractState} {frames : ℕ} {refusal : Refusal} {printed : List ℕ} (turns : List Turn)
-    (last next : Turn) (more : List ℕ) → IsRefused schedule first frames (turns ++ last ∷ []) refusal printed →
+    (last next : Turn) (more : List ℕ) → IsRefusedInTurn schedule first frames (turns ++ last ∷ []) refusal printed →
     next.slot ≡ last.slot → last.visible ≤ next.visible →
-    IsRefused schedule first frames (turns ++ next ∷ []) refusal (printed ++ more)
+    IsRefusedInTurn schedule first frames (turns ++ next ∷ []) refusal (printed ++ more)
 refused_further turns last next more h slot visible =
     let k = longer h.before h.turn h.later turns last next h.turns_are slot visible in
     let within : h.visible ≤ h.turn.visible = h.within in
@@ -115,8 +115,8 @@ refused_further turns last next more h slot visible =
 
 -- where one more turn was taken
 pub refused_longer : {schedule : List ℕ} {first : AbstractState} {frames : ℕ} {refusal : Refusal} {printed : List ℕ} (turns : List Turn)
-    (next : Turn) (more : List ℕ) → IsRefused schedule first frames turns refusal printed →
-    IsRefused schedule first frames (turns ++ next ∷ []) refusal (printed ++ more)
+    (next : Turn) (more : List ℕ) → IsRefusedInTurn schedule first frames turns refusal printed →
+    IsRefusedInTurn schedule first frames (turns ++ next ∷ []) refusal (printed ++ more)
 refused_longer turns next more h = record {
   before = h.before;
   turn = h.turn;

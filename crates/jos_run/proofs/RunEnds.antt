@@ -1,11 +1,13 @@
 -- Runs step after step, how they end, and what is told of them.
 use Rattle.std.proofs.Common.{◌≡◌, ◌≢◌, ◌∙◌, ℕ, ◌+◌, ◌-◌, ◌<◌, ◌≤◌, ◌==◌, ◌&&◌, Bool, true, false}
 use Rattle.std.proofs.Common.{List, [], ◌∷◌, ◌++◌, length}
-use Rattle.std.proofs.Common.{Option, Some, None, Ok, refl, sym, ap, subst, arith, append_assoc, if◌then◌else◌, vec_len}
-use Rattle.std.specs.Prelude.{nat_le, not, is_none}
+use Rattle.std.proofs.Common.{Option, Some, None, Ok, inl, inr, refl, sym, ap, subst, arith, append_assoc, if◌then◌else◌, vec_len}
+use Rattle.std.specs.Prelude.{◌^◌, min, nat_le, not, is_none}
 use Rattle.std.specs.Option.{ForSome}
 use Rattle.std.proofs.lemmas.Bool.Decides.{nat_tests}
+use Rattle.std.proofs.lemmas.Bool.{cases_lt, false≢true}
 use Rattle.std.proofs.lemmas.List.{append-nil, length-append}
+use Rattle.std.proofs.lemmas.Option.{same_Some}
 use Rattle.circular_buffer.specs.Buffer.{Buffer, buffer, keep_last}
 use Rattle.jos_host.specs.Frames.{from_to}
 use Rattle.jos_host.specs.Gains.{Gains}
@@ -22,6 +24,8 @@ use Rattle.jos_kernel.specs.declared.report.Refusal.{Refusal}
 use Rattle.jos_kernel.specs.declared.report.Turn.{Turn}
 use Rattle.jos_kernel.specs.declared.trace.TrapLine.{TrapLine}
 use Rattle.jos_kernel.specs.Books.{turn_of, made, HasRoom}
+use Rattle.jos_kernel.specs.ExoRun.{bytes_counted}
+use Rattle.jos_kernel.specs.Reports.{CutOff, Reported}
 use Rattle.jos_kernel.proofs.ToldBytes.{gains_none, gains_more}
 use Rattle.lib_os.specs.AbstractState.{AbstractState, AbstractSlot, can_run, can_run_as}
 use Rattle.lib_os.specs.Disk.{Disk}
@@ -29,17 +33,25 @@ use Rattle.lib_os.specs.Rows.{Names}
 use Rattle.lib_os.specs.StandsFor.{StandsFor}
 use Rattle.lib_os.proofs.SlotsStand.{born_at}
 use Rattle.lib_os.proofs.StatesStand.{turn_ended_stands}
+use Rattle.fs_seen.specs.ServerSoon.{SERVER_STEPS_MAX}
 use Rattle.jos_run.specs.Begun.{IsNew}
 use Rattle.jos_run.specs.ServerStands.{StandsWhole}
+use Rattle.jos_run.specs.declared.closing.TheConstants.{CLOSING_MAX}
 use Rattle.jos_run.specs.declared.library_run.LibraryRun.{LibraryRun}
-use Rattle.jos_run.specs.AbstractTurns.{next_slot, is_client, any_live, end_of}
+use Rattle.jos_run.specs.AbstractTurns.{next_slot, is_acting, is_client, any_live, end_of, steps_taken}
 use Rattle.jos_run.specs.LibraryRuns.{others_live, end_seen, IsBetween, IsInTurn}
-use Rattle.jos_run.specs.RunReports.{HasEnded, CutOffBy, ToldBy, IsTold, IsToldCutOff}
-use Rattle.jos_run.specs.RunSteps.{traps_of, turns_with, end_at, HasGone}
-use Rattle.jos_run.specs.Running.{state_of, turns_so_far, Holds, StandsBy, RunsBy, Runs, IsChosen, Went, HasFailed}
+use Rattle.jos_run.specs.RunReports.{CutOffBy, HasEnded, HasFinished, HasTakenTurns, IsRefused, IsRefusedInTurn, IsTold, IsToldCutOff, TellsFiles}
+use Rattle.jos_run.specs.RunReports.{ToldBy, behind_turns, in_a_turn, quietly}
+use Rattle.jos_run.specs.RunSteps.{HasGone, IsWrittenBack, IsWrittenOver, acts_in, end_at, traps_of, turns_with}
+use Rattle.jos_run.specs.Closing.{ClosesBy, ClosesRun, FailsBy, HasGoneOn, IsCutClosing, IsNotedSo, IsOver, StandsQuietly}
+use Rattle.jos_run.specs.Served.{kernel_state}
+use Rattle.jos_run.specs.Running.{state_of, turns_so_far, Holds, StandsBy, StandsSo, RunsBy, Runs, IsChosen, Went, HasFailed}
 use Rattle.jos_run.specs.Running.{EndsBy, HasRunToEnd, report_of, cut_off_of}
-use Rattle.jos_run.specs.Worlds.{beside}
+use Rattle.jos_run.specs.Worlds.{World, beside}
 use Rattle.jos_run.proofs.Advancing.{awake_running}
+use Rattle.jos_run.proofs.ClosingSteps.{acting_of}
+use Rattle.jos_run.proofs.FilesStand.{files_written}
+use Rattle.jos_run.proofs.TurnsTaken.{no_steps}
 use Rattle.jos_run.proofs.Choices.{any_live_stands, end_stands, ended_none, next_stands, runs_stand, only_first_serves}
 use Rattle.jos_run.proofs.RunsKept.{run_begins, between_fits, in_turn_ran, in_turn_fits, running_born}
 use Rattle.jos_run.proofs.ServerTurns.{running_serves}
@@ -331,74 +343,265 @@ begins r empty none quiet written first frames disk stands h =
     })
 
 -- No more turns are told than a run may have.
-turns_within : (r : LibraryRun) → HasRoom r.book → length (turns_so_far r) ≤ TURN_MAX
+pub turns_within : (r : LibraryRun) → HasRoom r.book → length (turns_so_far r) ≤ TURN_MAX
 turns_within r h = subst (λ (n : ℕ). n ≤ TURN_MAX) (sym (turns_are r)) (by_test (made r.book == 0) refl)
   where
     by_test : (c : Bool) → (made r.book == 0) ≡ c → (if c then vec_len r.book.turns else vec_len r.book.turns + 1) ≤ TURN_MAX
     by_test true is = h.most
     by_test false is = let below : vec_len r.book.turns < TURN_MAX = h.place (some_made r is) in omega (arith, below)
 
--- What the kernel has gone through.
-gone_whole : {budget : ℕ} {r t : LibraryRun} {d e : Option Disk} {a b : Option (List ℕ)} (end : End) (most : ℕ) →
-    (ran : HasRunToEnd budget (Ok end) (from_to r t) (from_to d e) (from_to a b)) → r.book.steps ≡ 0 → r.book.trace ≡ buffer [] most →
-    turns_so_far r ≡ [] → Holds t →
-    HasGone (beside (state_of r) d) (beside (state_of t) e) budget most (report_of t end) t.book.trace.items ran.2.printed
-gone_whole {budget = budget} {r = r} {t = t} end most ran none empty no_turns holds =
-    let went = ran.2 in
-    let steps : t.book.steps ≡ ran.0 = (let all : t.book.steps ≡ r.book.steps + ran.0 = went.steps_are in omega arith) in
-    record {
-      steps = went.steps_made;
-      lead = went.lead;
-      steps_are = steps ∙ sym went.long;
-      turns = went.turns ∙ ap (λ (l : List Turn). turns_with l went.steps_made) no_turns;
-      turns_count = turns_are t ∙ sym holds.turns;
-      refused = refl;
-      upcalls = refl;
-      end = subst (λ (n : ℕ). end_at (state_of t) (length (turns_so_far t)) (n == budget) ≡ Some end) (sym steps) ran.4;
-      printed_are = went.printed_are;
-      last_traps = ap (λ (x : Buffer TrapLine). x.items)
-          (went.kept most [] (empty ∙ ap (λ (l : List TrapLine). buffer l most) (sym (none_kept most))));
-    }
+-- ---- and how it closes
 
--- The report of a run that has ended by itself.
-pub told_whole : {budget : ℕ} {r t : LibraryRun} {d e : Option Disk} {a b : Option (List ℕ)} (end : End) (most : ℕ) →
-    HasRunToEnd budget (Ok end) (from_to r t) (from_to d e) (from_to a b) → r.book.steps ≡ 0 → r.book.trace ≡ buffer [] most →
-    turns_so_far r ≡ [] → Holds t → (frames : ℕ) →
-    ((first : AbstractState) → StandsWhole (beside (state_of r) d) first → Runs first frames d r []) →
-    (printed : List ℕ) × Gains (from_to a b) printed
-    × IsTold r.book.schedule (StandsWhole (beside (state_of r) d)) frames budget (report_of t end) printed (beside (state_of t) e)
-    × HasGone (beside (state_of r) d) (beside (state_of t) e) budget most (report_of t end) t.book.trace.items printed
-told_whole {budget = budget} {r = r} {t = t} {d = d} {e = e} end most ran none empty no_turns holds frames h =
-    let went = ran.2 in
-    let within : ran.0 ≤ budget = ran.1 in
-    let steps : t.book.steps ≡ ran.0 = (let all : t.book.steps ≡ r.book.steps + ran.0 = went.steps_are in omega arith) in (
-      went.printed,
-      went.gains,
-      record {
-        steps = holds.steps;
-        within = omega arith;
-        spent = λ is. spent_all steps (budget_spent (state_of t) (length (turns_so_far t)) (ran.0 == budget)
-            (ran.4 ∙ ap (λ (x : End). Some x) is));
-        most = turns_within t holds.has_room;
-        closing = refl;
-        by_refusal = λ first stands. subst (λ (schedule : List ℕ). ToldBy t.book.first_refused schedule first frames budget (report_of t end)
-            went.printed (beside (state_of t) e)) went.schedule
-            (by_first first steps t.book.first_refused (went.runs first frames [] (h first stands)) (ran.3 first frames [] (h first stands)));
-      },
-      gone_whole end most ran none empty no_turns holds,
-    )
+-- more was printed behind a refusal
+refused_on : {schedule : List ℕ} {first : AbstractState} {frames : ℕ} {turns : List Turn} {refusal : Refusal} {printed : List ℕ}
+    (more : List ℕ) → IsRefusedInTurn schedule first frames turns refusal printed →
+    IsRefusedInTurn schedule first frames turns refusal (printed ++ more)
+refused_on more h = record {
+  before = h.before;
+  turn = h.turn;
+  later = h.later;
+  turns_are = h.turns_are;
+  place = h.place;
+  begun = h.begun;
+  ran = h.ran;
+  fit = h.fit;
+  chosen = h.chosen;
+  visible = h.visible;
+  within = h.within;
+  now = h.now;
+  taken = h.taken;
+  told = h.told;
+  rest = h.rest ++ more;
+  printed_is = ap (λ (l : List ℕ). l ++ more) h.printed_is ∙ append_assoc h.told h.rest more;
+  console = h.console;
+  console_len = h.console_len;
+  needed = h.needed;
+}
+
+-- where a run has ended, nothing was refused in its turns
+ended_quietly : {schedule : List ℕ} {first : AbstractState} {frames : ℕ} {turns : List Turn} {printed : List ℕ} {spent : Bool} {end : End}
+    {disk : Option Disk} {t : LibraryRun} → StandsSo first frames disk t printed →
+    (ended : HasEnded schedule first turns printed spent (beside (state_of t) disk) end) →
+    StandsQuietly frames (beside (state_of t) disk) ended.now
+ended_quietly so ended = record { stands = ended.stands; quiet = so.quiet; frames_are = so.frames_are; used = so.used }
+
+-- something was refused behind the turns
+refused_behind : {schedule : List ℕ} {first : AbstractState} {frames : ℕ} {turns : List Turn} {printed : List ℕ} {spent : Bool} {end : End}
+    {turned : World} {refusal : Refusal} {written : ℕ} (more : List ℕ) → written ≡ bytes_counted printed →
+    (ended : HasEnded schedule first turns printed spent turned end) → IsNotedSo frames (length turns) written ended.now refusal →
+    IsRefused schedule first frames turns refusal (printed ++ more)
+refused_behind {printed = printed} more counted ended it = behind_turns (record {
+  place = ap (λ (x : Refusal). x.turn) it.is;
+  begun = ended.now;
+  ran = ended.taken.ran;
+  fit = ended.taken.fit;
+  visible = it.lacked.visible;
+  now = it.lacked.now;
+  taken = it.lacked.taken;
+  acting = it.lacked.acting;
+  told = printed;
+  rest = more;
+  printed_is = refl;
+  console = it.lacked.console ∙ ended.taken.console;
+  console_len = ap (λ (x : Refusal). x.console_len) it.is ∙ counted;
+  needed = it.lacked.needed;
+})
+
+-- nothing was, and nothing was printed
+taken_on : {schedule : List ℕ} {first : AbstractState} {turns : List Turn} {printed more : List ℕ} {now : AbstractState} → more ≡ [] →
+    HasTakenTurns schedule first turns printed now → HasTakenTurns schedule first turns (printed ++ more) now
+taken_on {first = first} {printed = printed} none h = record {
+  ran = h.ran;
+  fit = h.fit;
+  console = h.console ∙ ap (λ (l : List ℕ). first.console ++ l) (sym (append-nil printed) ∙ ap (λ (l : List ℕ). printed ++ l) (sym none));
+}
+
+abbrev ended_on : {schedule : List ℕ} {first : AbstractState} {turns : List Turn} {printed more : List ℕ} {spent : Bool} {end : End} {turned : World} →
+    more ≡ [] → HasEnded schedule first turns printed spent turned end → HasEnded schedule first turns (printed ++ more) spent turned end
+ended_on none h = record { now = h.now; stands = h.stands; taken = taken_on none h.taken; whole = h.whole; over = h.over }
+
+-- It has come to its act before all steps were made that it may make.
+rests_behind : (frames : ℕ) (begun : AbstractState) (count : ℕ) (s : KernelState) (disk : Option Disk) → HasGoneOn frames begun count (beside s disk) →
+    IsOver count s → acts_in s ≡ false
+rests_behind frames begun count s disk gone (inl rests) = rests
+rests_behind frames begun count s disk gone (inr all) = by_acting (acts_in s) refl
   where
-    spent_all : t.book.steps ≡ ran.0 → (ran.0 == budget) ≡ true → t.book.steps ≡ budget
-    spent_all steps spent = grind (arith, nat_tests)
+    too_many : (left most end count : ℕ) → left + count ≤ most → most < end → count ≡ end → ⊥
+    too_many left most end count within less is = omega (arith, within, less, is)
 
-    by_first : (first : AbstractState) → t.book.steps ≡ ran.0 → (o : Option Refusal) → RunsBy o first frames e t ran.2.printed →
-        EndsBy o first (ran.0 == budget) e t ran.2.printed end →
-        ToldBy o t.book.schedule first frames budget (report_of t end) ran.2.printed (beside (state_of t) e)
-    by_first first steps None runs ends = (
-      runs.quiet,
-      subst (λ (n : ℕ). HasEnded t.book.schedule first (turns_so_far t) ran.2.printed (n == budget) (beside (state_of t) e) end) (sym steps) ends,
+    by_acting : (t : Bool) → acts_in s ≡ t → acts_in s ≡ false
+    by_acting false is = is
+    by_acting true is =
+        let it = gone.soon (sym (acting_of disk s gone.now gone.stood.stands) ∙ is) in
+        absurd (too_many it.0 SERVER_STEPS_MAX CLOSING_MAX count it.1 (omega arith) all)
+
+-- The file server acts no more: its act is made, and the disk has the files.
+has_finished : (frames : ℕ) (begun : AbstractState) (count closing : ℕ) (s : KernelState) (disk : Option Disk) (last : World) →
+    HasGoneOn frames begun count (beside s disk) → closing ≡ min count (2 ^ 32 - 1) → acts_in s ≡ false → IsWrittenBack (beside s disk) last →
+    HasFinished begun closing last
+has_finished frames begun count closing s disk last gone counted rests back = record {
+  closed = gone.now;
+  visible = gone.visible;
+  closes = record { taken = gone.taken; over = over; needed = gone.acting };
+  made = count;
+  counted = counted;
+  within = gone.within;
+  none = λ idle. elim (cases_lt 0 count) [
+    | inl some ↦ absurd (false≢true (sym idle ∙ gone.some some))
+    | inr past ↦ omega (arith, past, counted)
+  ];
+  some = λ busy. elim (cases_lt 0 count) [
+    | inl some ↦ omega (arith, some, counted)
+    | inr past ↦
+        let none : 0 ≡ gone.visible = (let within : gone.visible ≤ count = gone.within in omega (arith, past, within)) in
+        let same : gone.now ≡ begun = same_Some gone.now begun (sym gone.taken ∙ (λ i. steps_taken begun 0 (sym none i)) ∙ no_steps begun 0) in
+        absurd (false≢true (sym over ∙ ap (λ (x : AbstractState). is_acting x.server) same ∙ busy))
+  ];
+  files = by_disk disk gone.stood.stands back.blocks;
+}
+  where
+    over : is_acting gone.now.server ≡ false
+    over = sym (acting_of disk s gone.now gone.stood.stands) ∙ rests
+
+    by_disk : (o : Option Disk) → StandsWhole (beside s o) gone.now → IsWrittenOver o s last.disk → TellsFiles last.disk gone.now.files
+    by_disk None stands none = absurd stands.1
+    by_disk (Some d) stands blocks =
+        let it = blocks stands.1.serving.stands.cache in
+        subst (λ (o : Option Disk). TellsFiles o gone.now.files) (sym it.1) (files_written d it.0 s gone.now stands over it.2)
+
+-- The report of a run that has ended by itself, and was closed.
+module _ {budget : ℕ} {r t : LibraryRun} {d e f : Option Disk} {a b c : Option (List ℕ)} (end : End) (most : ℕ)
+    (ran : HasRunToEnd budget (Ok end) (from_to r t) (from_to d e) (from_to a b)) (none : r.book.steps ≡ 0) (empty : r.book.trace ≡ buffer [] most)
+    (no_turns : turns_so_far r ≡ []) (holds : Holds t) (closed : Reported) (last : World)
+    (k : ClosesRun (report_of t end) closed t.served (from_to e f) (from_to b c) last) where
+  abbrev turned : World
+  turned = beside (state_of t) e
+
+  abbrev told_report : Reported
+  told_report = record (report_of t end) {
+    closing = closed.closing;
+    refused = (kernel_state k.behind).refusals;
+    first_refused = closed.first_refused;
+    upcalls = (kernel_state k.behind).upcalls;
+  }
+
+  abbrev all_printed : List ℕ
+  all_printed = ran.2.printed ++ k.closing.printed
+
+  steps_so : t.book.steps ≡ ran.0
+  steps_so = let all : t.book.steps ≡ r.book.steps + ran.0 = ran.2.steps_are in omega (arith, all, none)
+
+  -- what the kernel has gone through
+  gone_whole : HasGone (beside (state_of r) d) turned last budget most told_report t.book.trace.items all_printed
+  gone_whole =
+      let went = ran.2 in
+      record {
+        steps = went.steps_made;
+        lead = went.lead;
+        steps_are = steps_so ∙ sym went.long;
+        turns = went.turns ∙ ap (λ (l : List Turn). turns_with l went.steps_made) no_turns;
+        turns_count = turns_are t ∙ sym holds.turns;
+        end = subst (λ (n : ℕ). end_at (state_of t) (length (turns_so_far t)) (n == budget) ≡ Some end) (sym steps_so) ran.4;
+        last_traps = ap (λ (x : Buffer TrapLine). x.items)
+            (went.kept most [] (empty ∙ ap (λ (l : List TrapLine). buffer l most) (sym (none_kept most))));
+        closing = k.closing.steps_made;
+        closed = beside (kernel_state k.behind) k.disk;
+        close = k.closing.close;
+        closing_are = k.counted ∙ (λ i. min (sym k.closing.long i) (2 ^ 32 - 1));
+        refused = refl;
+        upcalls = refl;
+        printed_are = λ i. went.printed_are i ++ k.closing.printed_are i;
+        written_back = k.written_back;
+      }
+
+  -- and what is told
+  module _ (frames : ℕ) (h : (first : AbstractState) → StandsWhole (beside (state_of r) d) first → Runs first frames d r []) where
+    spent_all : (ran.0 == budget) ≡ true → t.book.steps ≡ budget
+    spent_all spent = let steps = steps_so in grind (arith, nat_tests)
+
+    by_closed : (first : AbstractState) → t.book.first_refused ≡ None → StandsSo first frames e t ran.2.printed →
+        (ended : HasEnded t.book.schedule first (turns_so_far t) ran.2.printed (t.book.steps == budget) turned end) → (o : Option Refusal) →
+        ClosesBy o frames (length (turns_so_far t)) (from_to t.served.written k.behind.written) ended.now k.count
+        (beside (kernel_state k.behind) k.disk) k.closing.printed →
+        ToldBy o t.book.schedule first frames budget told_report all_printed turned last
+    by_closed first is so ended None closes = (
+      closes.2.stood.quiet,
+      ended_on closes.0 ended,
+      has_finished frames ended.now k.count closed.closing (kernel_state k.behind) k.disk last closes.2 k.counted
+          (rests_behind frames ended.now k.count (kernel_state k.behind) k.disk closes.2 k.over) k.written_back,
     )
-    by_first first steps (Some refusal) runs ends = runs
+    by_closed first is so ended (Some refusal) closes = (closes.0, refused_behind k.closing.printed so.counted_so ended closes.1)
+
+    by_first : (first : AbstractState) → (o : Option Refusal) → t.book.first_refused ≡ o → RunsBy o first frames e t ran.2.printed →
+        EndsBy o first (ran.0 == budget) e t ran.2.printed end →
+        ToldBy closed.first_refused t.book.schedule first frames budget told_report all_printed turned last
+    by_first first None is so ends =
+        let ended = subst (λ (n : ℕ). HasEnded t.book.schedule first (turns_so_far t) ran.2.printed (n == budget) turned end) (sym steps_so) ends in
+        by_closed first is so ended closed.first_refused (k.closing.runs frames ended.now is (ended_quietly so ended))
+    by_first first (Some refusal) is runs ends =
+        subst (λ (o : Option Refusal). ToldBy o t.book.schedule first frames budget told_report all_printed turned last)
+        (sym (k.closing.kept refusal is))
+        (k.closing.refused runs.0, in_a_turn (refused_on k.closing.printed runs.1))
+
+    told_whole : IsTold r.book.schedule (StandsWhole (beside (state_of r) d)) frames budget told_report all_printed turned last
+    told_whole =
+        let went = ran.2 in
+        let within : ran.0 ≤ budget = ran.1 in
+        record {
+          steps = holds.steps;
+          within = (let steps : t.book.steps ≡ ran.0 = steps_so in omega (arith, steps, within));
+          spent = λ is. spent_all (budget_spent (state_of t) (length (turns_so_far t)) (ran.0 == budget) (ran.4 ∙ ap (λ (x : End). Some x) is));
+          most = turns_within t holds.has_room;
+          closing = (let counted : closed.closing ≡ min k.count (2 ^ 32 - 1) = k.counted in omega (arith, counted));
+          by_refusal = λ first stands. subst (λ (schedule : List ℕ). ToldBy closed.first_refused schedule first frames budget told_report
+              all_printed turned last) went.schedule
+              (by_first first t.book.first_refused refl (went.runs first frames [] (h first stands)) (ran.3 first frames [] (h first stands)));
+        }
+
+  pub closed_whole : (frames : ℕ) → ((first : AbstractState) → StandsWhole (beside (state_of r) d) first → Runs first frames d r []) →
+      (printed : List ℕ) × Gains (from_to a c) printed
+      × IsTold r.book.schedule (StandsWhole (beside (state_of r) d)) frames budget closed printed turned last
+      × HasGone (beside (state_of r) d) turned last budget most closed t.book.trace.items printed
+  closed_whole frames h = (
+    all_printed,
+    gains_more a b c ran.2.printed k.closing.printed ran.2.gains k.closing.gains,
+    subst (λ (x : Reported). IsTold r.book.schedule (StandsWhole (beside (state_of r) d)) frames budget x all_printed turned last) (sym k.told)
+        (told_whole frames h),
+    subst (λ (x : Reported). HasGone (beside (state_of r) d) turned last budget most x t.book.trace.items all_printed) (sym k.told) gone_whole,
+  )
+
+-- What is told where a call of the host failed behind the turns.
+module _ {budget : ℕ} {r t : LibraryRun} {d e f : Option Disk} {a b c : Option (List ℕ)} (end : End)
+    (ran : HasRunToEnd budget (Ok end) (from_to r t) (from_to d e) (from_to a b)) (room : HasRoom t.book) (cut : CutOff)
+    (k : IsCutClosing (report_of t end) cut t.served (from_to e f) (from_to b c)) (frames : ℕ)
+    (h : (first : AbstractState) → StandsWhole (beside (state_of r) d) first → Runs first frames d r []) where
+  abbrev part_printed : List ℕ
+  part_printed = ran.2.printed ++ k.failed.printed
+
+  by_failed : (first : AbstractState) → StandsSo first frames e t ran.2.printed →
+      (ended : HasEnded t.book.schedule first (turns_so_far t) ran.2.printed (ran.0 == budget) (beside (state_of t) e) end) → (o : Option Refusal) →
+      FailsBy o frames (length (turns_so_far t)) t.served.written ended.now k.failed.printed →
+      CutOffBy o t.book.schedule first frames (turns_so_far t) part_printed
+  by_failed first so ended None nothing = quietly ended.now (taken_on nothing ended.taken)
+  by_failed first so ended (Some refusal) it = refused_behind k.failed.printed so.counted_so ended it
+
+  by_start : (first : AbstractState) (o : Option Refusal) → t.book.first_refused ≡ o → RunsBy o first frames e t ran.2.printed →
+      EndsBy o first (ran.0 == budget) e t ran.2.printed end → CutOffBy cut.first_refused t.book.schedule first frames (turns_so_far t) part_printed
+  by_start first None is so ended = by_failed first so ended cut.first_refused (k.failed.runs frames ended.now is (ended_quietly so ended))
+  by_start first (Some refusal) is runs ended =
+      subst (λ (o : Option Refusal). CutOffBy o t.book.schedule first frames (turns_so_far t) part_printed) (sym (k.failed.kept refusal is))
+      (in_a_turn (refused_on k.failed.printed runs.1))
+
+  pub closed_cut_off : IsToldCutOff r.book.schedule (StandsWhole (beside (state_of r) d)) frames cut (from_to a c)
+  closed_cut_off = (
+    part_printed,
+    gains_more a b c ran.2.printed k.failed.printed ran.2.gains k.failed.gains,
+    (λ first stands.
+        subst (λ (turns : List Turn). CutOffBy cut.first_refused r.book.schedule first frames turns part_printed) (sym k.turns)
+        (subst (λ (schedule : List ℕ). CutOffBy cut.first_refused schedule first frames (turns_so_far t) part_printed) ran.2.schedule
+        (by_start first t.book.first_refused refl (ran.2.runs first frames [] (h first stands)) (ran.3 first frames [] (h first stands))))),
+    subst (λ (turns : List Turn). length turns ≤ TURN_MAX) (sym k.turns) (turns_within t room),
+  )
 
 -- What is told of one that was cut off.
 pub told_cut_off : {r t : LibraryRun} {d e : Option Disk} {a b : Option (List ℕ)} → HasFailed (from_to r t) (from_to d e) (from_to a b) →

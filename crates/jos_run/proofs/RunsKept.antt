@@ -30,8 +30,9 @@ use Rattle.lib_os.specs.LibrarySteps.{NothingRefused, Stands, is_pausing, is_yie
 use Rattle.lib_os.specs.Places.{place_of}
 use Rattle.lib_os.specs.LibraryPages.{View}
 use Rattle.lib_os.specs.Rows.{Names}
-use Rattle.lib_os.specs.StandsFor.{StandsFor, StandsForSlot, StandsAt, StandsAtStep, IsStatusFor, view_of}
+use Rattle.lib_os.specs.StandsFor.{HasWholePath, StandsFor, StandsForSlot, StandsAt, StandsAtStep, IsStatusFor, view_of}
 use Rattle.lib_os.specs.Disk.{Disk}
+use Rattle.lib_os.proofs.PageAsked.{path_asking_step}
 use Rattle.lib_os.proofs.SlotsStand.{born_at}
 use Rattle.lib_os.proofs.StatesStand.{turn_begun_stands, turn_ended_stands}
 use Rattle.jos_run.specs.AbstractTurns.{turn_begun, steps_taken, abs_run, asks, asks_behind, waits_in, stands_waiting}
@@ -272,6 +273,10 @@ asks_sync a n b regs at awake program phase =
     ap (λ (slot : AbstractSlot). asks_behind (slot_step (record a { server = idle }) n slot)) at
     ∙ (λ i. asks_behind (if awake i then None else program_step (record a { server = idle }) n b (program i) (phase i)))
 
+asks_remove : (a : AbstractState) (n : ℕ) (v : View) (k : Slot) (b : Born) (path : ℕ) → a.slots n ≡ born b → HasWholePath v k b path → asks a n ≡ true
+asks_remove a n v k b path at h =
+    ap asks_behind (path_asking_step (record a { server = idle }) n b k path h.bytes at h.is_in h.ended refl)
+
 pausing_place : (a : AbstractState) (n : ℕ) (v : View) (k : Slot) (b : Born) (p : Place) → a.slots n ≡ born b → StandsAt p v k b → is_pausing p ≡ true →
     (waits_in b.phase || asks a n) ≡ true
 pausing_place a n v k b (place.InService (service.Wait id) (step.Pausing perm)) at h pauses = ap (λ (x : Phase). waits_in x || asks a n) h.is_in.phase
@@ -279,6 +284,8 @@ pausing_place a n v k b (place.InService (service.Send id value va) (step.Pausin
     ap (λ (x : Phase). waits_in x || asks a n) h.is_in.phase
 pausing_place a n v k b (place.InService service.Sync (step.Pausing id)) at h pauses =
     ap (λ (c : Bool). waits_in b.phase || c) (asks_sync a n b k.registers at h.1.awake h.1.program h.1.phase) ∙ or-true (waits_in b.phase)
+pausing_place a n v k b (place.InService (service.Remove path) (step.Pausing id)) at h pauses =
+    ap (λ (c : Bool). waits_in b.phase || c) (asks_remove a n v k b path at h.1) ∙ or-true (waits_in b.phase)
 pausing_place a n v k b (place.InService _ (step.Pausing perm)) at h pauses = absurd h
 pausing_place a n v k b _ at h pauses = absurd (let contradiction : false ≡ true = pauses in cc)
 

@@ -21,7 +21,7 @@ use Rattle.lib_os.proofs.StatesStand.{server_same, slot_in_order}
 use Rattle.lib_os.specs.declared.progress.Progress.{Progress}
 use Rattle.lib_os.specs.declared.progress.Progress.TheVariants as progress
 use Rattle.lib_os.specs.AbstractRun.{abs_step, slot_step}
-use Rattle.fs_layout.specs.FileTree.{sync_files}
+use Rattle.fs_layout.specs.FileTree.{remove_path, sync_files}
 use Rattle.lib_os.specs.Descriptors.{lowest_free}
 use Rattle.lib_os.specs.Disk.{Disk}
 use Rattle.lib_os.specs.FileServer.{given, reply, reply_at, reply_to, served, server_step}
@@ -179,6 +179,8 @@ served_alike a b leaving built step n =
     ap (λ (o : Option AbstractState). is_client ((unwrap_or o a).slots n)) (sym step)
 served_alike a b idle built step n = absurd (none-some b step)
 served_alike a b (busy client (act sync_files None) None) built step n =
+    ap (λ (o : Option AbstractState). is_client ((unwrap_or o a).slots n)) (sym step)
+served_alike a b (busy client (act (remove_path path) None) None) built step n =
     ap (λ (o : Option AbstractState). is_client ((unwrap_or o a).slots n)) (sym step)
 served_alike a b (acted client answer [] None) built step n = replied_alike a b client answer (born_in (a.slots client)) refl step n
 served_alike a b _ built step n = absurd built

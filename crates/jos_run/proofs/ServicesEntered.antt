@@ -44,4 +44,5 @@ entered_plain _ = refl
 -- nor is there a page in which a service keeps bytes
 pub entered_holds : (s : Service) (words : List ℕ) → has_working (place.InService s step.Entered) words ≡ false
 entered_holds (service.Write fd va len) words = refl
+entered_holds (service.Remove path) words = refl
 entered_holds _ words = refl

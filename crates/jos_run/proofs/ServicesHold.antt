@@ -23,6 +23,7 @@ use Rattle.lib_msg.proofs.SendLaw.{send_holds}
 use Rattle.lib_os.specs.StandsInHandler.{AreSmall}
 use Rattle.lib_read.proofs.ReadLaw.{read_holds}
 use Rattle.lib_read.proofs.StatLaw.{stat_holds}
+use Rattle.lib_request.proofs.RemoveLaw.{remove_holds}
 use Rattle.lib_request.proofs.SyncLaw.{sync_holds}
 use Rattle.lib_spawn.proofs.WaitLaw.{wait_holds}
 use Rattle.lib_write.proofs.WriteLaw.{write_holds}
@@ -48,6 +49,7 @@ module _ (s : KernelState) (n : ℕ) (live : is_live (slot_at s n) ≡ true)
   by_service (service.Seek fd offset) built stands = seek_holds s n fd live offset at stands
   by_service (service.Stat fd va) built stands = stat_holds s n fd va live small at stands
   by_service (service.SetSize fd size) built stands = set_size_holds s n fd live size at stands
+  by_service (service.Remove path) built stands = remove_holds s n path live small awake at stands
   by_service service.Sync built stands = sync_holds s n live awake at stands
   by_service (service.Dup old new) built stands = dup_holds s n old new live at stands
   by_service service.Unknown built stands = memory_holds s n at live memory.Unknown stands

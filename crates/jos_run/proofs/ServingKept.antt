@@ -1,8 +1,6 @@
--- The file server serves on behind a step of another, where its table of open files was never used, and where its slot has another status alone.
-use Rattle.std.proofs.Common.{◌≡◌, ◌∙◌, ◌<◌, inl, inr, ℕ, true, List, Option, None, sym, ap, subst, arith}
+-- The file server serves on behind a step of another, where nothing was ever opened, and where its slot has another status alone.
+use Rattle.std.proofs.Common.{◌≡◌, ◌∙◌, ◌<◌, inl, inr, ℕ, true, List, Option, refl, sym, ap, subst, arith}
 use Rattle.std.specs.Prelude.{is_some}
-use Rattle.std.proofs.lemmas.Bool.{cases_eq}
-use Rattle.std.proofs.lemmas.Option.{none-some, same_Some}
 use Rattle.jos_base.specs.declared.registers.Regs.{Regs}
 use Rattle.jos_base.specs.KernelState.{KernelState, slot_at}
 use Rattle.jos_base.specs.Reach.{Entry}
@@ -11,7 +9,6 @@ use Rattle.lib_os.specs.AbstractState.{AbstractState, Server, acted, busy, idle,
 use Rattle.lib_os.specs.Descriptors.{is_held}
 use Rattle.lib_os.specs.Disk.{Disk}
 use Rattle.lib_os.specs.InOrder.{IsInOrder}
-use Rattle.lib_os.specs.LibrarySteps.{LacksFrame, LeavesServer}
 use Rattle.lib_os.specs.StandsFor.{AllConsoles}
 use Rattle.fs_places.specs.TreePlaces as places
 use Rattle.fs_tree.specs.TreeSteps.{memory_in}
@@ -21,18 +18,17 @@ use Rattle.fs_serving.specs.ServerRuns.{StandsServing, TableStands}
 use Rattle.fs_serving.specs.ServerViews.{Serving}
 use Rattle.fs_server.specs.ServerSteps.{server_at}
 use Rattle.fs_seen.specs.BlockSteps.{SeesAlike}
-use Rattle.fs_seen.specs.ServerMemory.{entry_of, place_page, records_page, request_page, serving_in, view_in}
-use Rattle.fs_seen.specs.ServerWhole.{IsIdle, IsServing, LeavesPages, ServesBy}
+use Rattle.fs_seen.specs.ServerMemory.{entry_of, request_page, serving_in, view_in}
+use Rattle.fs_seen.specs.ServerWhole.{IsIdle, IsServing, LeavesPages, NothingOpened, ServesBy}
 use Rattle.fs_seen.proofs.Between.{files_over, same_state, sees_same, table_seen}
 use Rattle.fs_seen.proofs.OthersNow.{others_serve}
 use Rattle.fs_seen.proofs.SeenAlike.{sees_as}
 use Rattle.fs_seen.proofs.ServesFor.{requested_stays}
 use Rattle.fs_seen.proofs.StaysGone.{SlotStays, counts_still, stays_still, still_entry}
-use Rattle.fs_seen.proofs.StaysSo.{CountsStay, Stays, disk_same, stands_so}
+use Rattle.fs_seen.proofs.StaysSo.{CountsStay, Stays, disk_same, same_table, stands_so}
 use Rattle.fs_seen.proofs.TablesAlike.{table_again}
-use Rattle.fs_seen.proofs.Unopened.{unopened_alike, unopened_tables}
-use Rattle.jos_run.specs.ServerStands.{HasRecordsAlone}
-use Rattle.jos_run.proofs.Unopened.{records_unopened}
+use Rattle.fs_seen.proofs.StaysUnopened.{others_unopened}
+use Rattle.fs_seen.proofs.Unopened.{unopened_alike, unopened_stays, unopened_tables}
 
 -- ---- names
 
@@ -59,27 +55,13 @@ names_kept left old name held = elim (left.held name held) [
 
 -- ---- another's step
 
--- It leaves the pages of the server's, which has that of the records alone.
-pub pages_left : {n : ℕ} {s t : KernelState} → LeavesServer n s t → (h : HasRecordsAlone s) → LacksFrame s n h.entry.frame → LeavesPages s t 0
-pages_left {n = n} {s = s} {t = t} left h lacks = record {
-  slot = left.slot;
-  entries = λ p. (λ i. t.spaces.entries (left.slot i).directory p) ∙ left.entries p;
-  tables = left.regions;
-  bytes = λ p e own there. elim (cases_eq p records_page) [
-    | inl same ↦ (let it : h.entry ≡ e = same_Some h.entry e (sym h.stands ∙ ap (entry_of s 0) (sym same) ∙ there) in
-        left.pages p e there (subst (λ (x : Entry). LacksFrame s n x.frame) it lacks))
-    | inr other ↦ absurd (none-some e (sym (h.alone p other) ∙ there))
-  ];
-  counts = λ number e below there. absurd (none-some e (sym (h.alone (place_page number) (λ same. omega (arith, same))) ∙ there));
-}
-
--- So it serves on, for an abstract state that has the same of the server, the files and the table.
-pub serves_left : {d : Disk} {s t : KernelState} {a b : AbstractState} → IsServing d s 0 a → IsInOrder t → LeavesPages s t 0 → HasRecordsAlone t →
-    AllConsoles a → AllConsoles b → b.server ≡ a.server → b.files ≡ a.files → b.opened ≡ a.opened →
-    ((number : ℕ) → (b.opened number).held_by ≡ None) → NamesAreGiven b → IsServing d t 0 b
-serves_left {d = d} {s = s} {t = t} {a = a} {b = b} h in_order left records before behind server files opened unheld names =
+-- Where what it has left is left so, it serves on, for an abstract state that has the same of the server, the files and the table.
+pub serves_left : {d : Disk} {s t : KernelState} {a b : AbstractState} → IsServing d s 0 a → IsInOrder t → LeavesPages a.server s t 0 →
+    NothingOpened a (view_in d s 0) → AllConsoles a → AllConsoles b → b.server ≡ a.server → b.files ≡ a.files → b.opened ≡ a.opened →
+    NamesAreGiven b → IsServing d t 0 b
+serves_left {d = d} {s = s} {t = t} {a = a} {b = b} h in_order left unopened before behind server files opened names =
     (others_serve a b d s t h in_order left (unopened_alike a b before behind server files opened)
-    (λ disk table. unopened_tables disk b (view_in d t 0) (records_unopened d b records unheld) behind names)).serving
+    (λ disk table. unopened_tables disk b (view_in d t 0) (others_unopened a b a.server d d s t 0 unopened left opened) behind names)).serving
 
 -- ---- its slot has another status
 
@@ -131,3 +113,7 @@ module _ (d : Disk) (s t : KernelState) (a : AbstractState) (h : IsServing d s 0
     serves = by_server a.server h.serves;
     requested = requested_stays s t 0 (ap (λ (o : Option Entry). is_some o) request_same) a.server h.requested;
   }
+
+  -- and nothing was ever opened
+  pub unopened_still : NothingOpened a (view_in d s 0) → NothingOpened a (view_in d t 0)
+  unopened_still none = unopened_stays a a d d s t 0 none (same_table s t 0 stays) refl

@@ -44,6 +44,7 @@ use Rattle.jos_run.proofs.GuestLeaves.{guest_leaves}
 use Rattle.jos_run.proofs.GuestStands.{SmallAtFault, copying_at, instruction_end, instruction_step}
 use Rattle.jos_run.proofs.GuestTakes.{guest_takes}
 use Rattle.jos_run.proofs.ProgramSteps.{program_goes_on, program_ends, program_copies, program_lowers, program_fails, guest_raises, leaves_as, raises_as, whole_step}
+use Rattle.jos_run.proofs.RequestsCalm.{none_requests}
 use Rattle.jos_run.proofs.QuietSteps.{gone_quietly, quiet_calm, quiet_keeps, running_awake, still_user}
 use Rattle.jos_run.proofs.RunSteps.{turns_further, turn_longer}
 
@@ -91,9 +92,10 @@ module _ {n going ip : ℕ} {event : Event} (disk : Option Disk) (s mid after : 
     reached = b.reached;
     went = b.went;
     is_guest = λ some. (user, guest);
-    step = whole_step disk b.reached after n output reached_user still_awake (Ok stepped.progress) (leaves.server, leaves.places) step;
+    step = whole_step disk b.reached after n output reached_user still_awake (Ok stepped.progress) leaves
+        (none_requests b.reached after n place.Guest b.is_guest refl refl) step;
     rest = leaves.rest;
-    leaves = leaves_as (is_servers b.reached n) (Ok stepped.progress) b.reached after n reached_user (record {
+    leaves = leaves_as (is_servers b.reached n) disk (Ok stepped.progress) b.reached after n reached_user (record {
       each = leaves;
       lowers = lowers;
       gives_up = gives_nothing_up (Ok stepped.progress) (slot_at b.reached n) (slot_at after n) (ap is_pausing b.is_guest);
@@ -105,9 +107,9 @@ module _ {n going ip : ℕ} {event : Event} (disk : Option Disk) (s mid after : 
     reached = b.reached;
     went = b.went;
     is_guest = λ some. (user, guest);
-    step = whole_step disk b.reached after n output reached_user still_awake (Err failed) tt step;
+    step = whole_step disk b.reached after n output reached_user still_awake (Err failed) tt tt step;
     rest = tt;
-    leaves = leaves_as (is_servers b.reached n) (Err failed) b.reached after n reached_user
+    leaves = leaves_as (is_servers b.reached n) disk (Err failed) b.reached after n reached_user
         (record { each = tt; lowers = tt; gives_up = tt; takes = tt });
     raises = tt;
   }
@@ -184,8 +186,8 @@ quiet_made disk begins n s u after g user guest runs is chosen =
       keeps = subst (λ (x : KernelState). KeepsWhole progress.Visible n (beside x disk) (beside after disk) []) (sym is)
           (quiet_keeps s after n g disk user (running_awake (slot_at s n).status runs) guest);
       rest = subst (λ (x : KernelState). LeavesRest x after) (sym is) left.rest;
-      leaves = subst (λ (x : KernelState). LeavesAs (is_servers x n) (Ok progress.Visible) n x after) (sym is)
-          (leaves_as (is_servers s n) (Ok progress.Visible) s after n user (record {
+      leaves = subst (λ (x : KernelState). LeavesAs (is_servers x n) disk (Ok progress.Visible) n x after) (sym is)
+          (leaves_as (is_servers s n) disk (Ok progress.Visible) s after n user (record {
             each = left;
             lowers = tt;
             gives_up = gives_nothing_up (Ok progress.Visible) (slot_at s n) (slot_at after n) (ap is_pausing guest);
@@ -208,7 +210,7 @@ module _ (disk : Option Disk) (n : ℕ) (goes_on : Bool) (done : Progress) (byte
 
   -- they lead on to where the last one leads
   module _ (t v : KernelState) (raises : RaisesAs (is_servers t n) n t trap left.state) (keeps : KeepsWhole done n (beside t disk) left bytes)
-      (rest : LeavesRest t left.state) (leaves : LeavesAs (is_servers t n) (Ok done) n t left.state)
+      (rest : LeavesRest t left.state) (leaves : LeavesAs (is_servers t n) disk (Ok done) n t left.state)
       (passed_is : (if goes_on then left.state else turn_ended left.state n) ≡ v) where
     pub steps_lead : (begins : Bool) (k : ℕ) (s u : KernelState) (g : GuestGoesOn n k s t) → (if begins then turn_begun u n else u) ≡ s →
         (begins ≡ true → next u.environments u.last ≡ Some n) → is_running (slot_at s n).status ≡ true →
@@ -223,7 +225,7 @@ module _ (disk : Option Disk) (n : ℕ) (goes_on : Bool) (done : Progress) (byte
             raises = subst (λ (x : KernelState). RaisesAs (is_servers x n) n x trap left.state) (sym at_last) raises;
             keeps = subst (λ (x : KernelState). KeepsWhole done n (beside x disk) left bytes) (sym at_last) keeps;
             rest = subst (λ (x : KernelState). LeavesRest x left.state) (sym at_last) rest;
-            leaves = subst (λ (x : KernelState). LeavesAs (is_servers x n) (Ok done) n x left.state) (sym at_last) leaves;
+            leaves = subst (λ (x : KernelState). LeavesAs (is_servers x n) disk (Ok done) n x left.state) (sym at_last) leaves;
           },
           ap (λ (x : KernelState). beside x left.disk) passed_is,
         )

@@ -3,7 +3,7 @@ use Rattle.std.proofs.Common.{◌≡◌, ◌≢◌, ◌∙◌, ℕ, zero, suc, �
 use Rattle.std.proofs.Common.{Option, Some, None, Result, inl, inr, refl, sym, ap, subst, arith, if◌then◌else◌, take, drop, vec_len}
 use Rattle.std.specs.Prelude.{is_none, nat_lt, nat_le, not}
 use Rattle.std.proofs.lemmas.Bool.Decides.{nat_tests}
-use Rattle.std.proofs.lemmas.List.{take-append-drop}
+use Rattle.std.proofs.lemmas.List.{append-nil, take-append-drop}
 use Rattle.circular_buffer.specs.Buffer.{Buffer, buffer, keep_last}
 use Rattle.jos_host.specs.declared.host.Failed.{Failed}
 use Rattle.jos_host.specs.Frames.{Around, from_to}
@@ -39,7 +39,7 @@ use Rattle.jos_run.specs.declared.steps.StepOutcome.{StepOutcome}
 use Rattle.jos_run.specs.AbstractTurns.{steps_taken}
 use Rattle.jos_run.specs.AbstractTurns.{turn_begun as begun_at}
 use Rattle.jos_run.specs.LibraryRuns.{IsBetween, IsInTurn, end_seen, others_live, visible_steps, hidden_steps}
-use Rattle.jos_run.specs.RunReports.{IsRefused, LacksSpace, IsCutOff, CutOffBy}
+use Rattle.jos_run.specs.RunReports.{CutOffBy, IsCutOff, IsRefusedInTurn, LacksSpace, in_a_turn, printing, quietly}
 use Rattle.jos_run.specs.RunSteps.{StepMade, LeadTo, traps_of, written_in, turns_with}
 use Rattle.jos_run.specs.ServerStands.{KeepsWhole, ServerLeaves, StandsWhole}
 use Rattle.jos_run.specs.Steps.{LeavesAs, RaisesAs, is_servers}
@@ -53,7 +53,7 @@ use Rattle.jos_run.proofs.ServerTurns.{server_others}
 use Rattle.jos_run.proofs.QuietSteps.{GoneQuietly, gone_quietly, quiet_in_turn, quiet_each}
 use Rattle.jos_run.proofs.RunSteps.{kept_one, written_one}
 use Rattle.jos_run.proofs.Refusals.{refused_further, refused_longer}
-use Rattle.jos_run.proofs.RunsKept.{turn_begins, in_turn_ran, step_failed, failed_fits}
+use Rattle.jos_run.proofs.RunsKept.{turn_begins, in_turn_ran, in_turn_fits, step_failed, failed_fits}
 use Rattle.jos_run.proofs.StepsAtOnce.{made_step, steps_with, steps_long, steps_lead, steps_traps, steps_written, steps_turns}
 use Rattle.jos_run.proofs.WholeStands.{others_slot, servers_first}
 
@@ -175,7 +175,7 @@ pub record Makes (r m : LibraryRun) (disks : Around (Option Disk)) (n going : �
   pub before : Reaches r n going
   pub keeps : KeepsWhole done n (beside before.reached disks.before) (beside (state_of m) disks.after) bytes
   pub rest : LeavesRest before.reached (state_of m)
-  pub leaves : LeavesAs (is_servers before.reached n) (Ok done) n before.reached (state_of m)
+  pub leaves : LeavesAs (is_servers before.reached n) disks.before (Ok done) n before.reached (state_of m)
   pub trap : Option TrapLine
   pub raises : RaisesAs (is_servers before.reached n) n before.reached trap (state_of m)
   pub slot : m.served.slot ≡ n
@@ -287,14 +287,14 @@ counted_rest false m after visible hidden k =
 -- What is told of the refusal stays so with the step.
 still_refused : (first : AbstractState) (frames : ℕ) (refusal : Refusal) (r : LibraryRun) (next : Turn) (more printed : List ℕ) →
     (0 < made r.book → next.slot ≡ r.served.slot) → r.book.visible ≤ next.visible →
-    IsRefused r.book.schedule first frames (turns_so_far r) refusal printed →
-    IsRefused r.book.schedule first frames (r.book.turns.items ++ next ∷ []) refusal (printed ++ more)
+    IsRefusedInTurn r.book.schedule first frames (turns_so_far r) refusal printed →
+    IsRefusedInTurn r.book.schedule first frames (r.book.turns.items ++ next ∷ []) refusal (printed ++ more)
 still_refused first frames refusal r next more printed slot visible h = by_test (made r.book == 0) refl h
   where
     by_test : (c : Bool) → (made r.book == 0) ≡ c →
-        IsRefused r.book.schedule first frames (if c then r.book.turns.items else r.book.turns.items ++ turn_of r.served.slot r.book.visible
+        IsRefusedInTurn r.book.schedule first frames (if c then r.book.turns.items else r.book.turns.items ++ turn_of r.served.slot r.book.visible
         r.book.hidden ∷ []) refusal printed →
-        IsRefused r.book.schedule first frames (r.book.turns.items ++ next ∷ []) refusal (printed ++ more)
+        IsRefusedInTurn r.book.schedule first frames (r.book.turns.items ++ next ∷ []) refusal (printed ++ more)
     by_test true is h = refused_longer r.book.turns.items next more h
     by_test false is h =
         refused_further r.book.turns.items (turn_of r.served.slot r.book.visible r.book.hidden) next more h (slot (some_made r is)) visible
@@ -352,9 +352,9 @@ module _ {r : LibraryRun} {n going : ℕ} (k : Reaches r n going) where
 -- ---- the steps
 
 -- what the last of them leaves, where the state stands for an abstract one
-data LeftBy (n : ℕ) (done : Progress) (before after : KernelState) : Type 0 where
-  served : n ≡ 0 → ServerLeaves done before after → LeftBy n done before after
-  another : n ≢ 0 → LeavesEach done n before after → LeftBy n done before after
+data LeftBy (n : ℕ) (over : Option Disk) (done : Progress) (before after : KernelState) : Type 0 where
+  served : n ≡ 0 → ServerLeaves over done before after → LeftBy n over done before after
+  another : n ≢ 0 → LeavesEach done n before after → LeftBy n over done before after
 
 module _ {r m : LibraryRun} {disks : Around (Option Disk)} {n going : ℕ} {done : Progress} {bytes : List ℕ} (k : Makes r m disks n going done bytes) where
   abbrev reached : KernelState
@@ -367,14 +367,14 @@ module _ {r m : LibraryRun} {disks : Around (Option Disk)} {n going : ℕ} {done
   abbrev left_whole : World
   left_whole = beside (state_of m) disks.after
 
-  left_by : (a : AbstractState) → Stands reached a → LeftBy n done reached (state_of m)
+  left_by : (a : AbstractState) → Stands reached a → LeftBy n disks.before done reached (state_of m)
   left_by a h = by_test (is_servers reached n) refl k.leaves
     where
-      by_test : (c : Bool) → is_servers reached n ≡ c → LeavesAs c (Ok done) n reached (state_of m) → LeftBy n done reached (state_of m)
+      by_test : (c : Bool) → is_servers reached n ≡ c → LeavesAs c disks.before (Ok done) n reached (state_of m) → LeftBy n disks.before done reached (state_of m)
       by_test true is leaves = let is_first = servers_first h.1 n is in served is_first (leaves is_first)
       by_test false is leaves = another (others_slot h.1 n is) leaves.each
 
-  uses_by : LeftBy n done reached (state_of m) → KeepsUses n reached (state_of m)
+  uses_by : LeftBy n disks.before done reached (state_of m) → KeepsUses n reached (state_of m)
   uses_by (served is_first left) = subst (λ (x : ℕ). KeepsUses x reached (state_of m)) (sym is_first) left.uses
   uses_by (another other left) = left.uses
 
@@ -417,7 +417,7 @@ module _ {r m : LibraryRun} {disks : Around (Option Disk)} {n going : ℕ} {done
       comes_is (λ i. (sym k.book i).turns.items) (sym k.slot) seen_is (λ i. (sym k.book i).hidden + hidden_steps done)
       (by_left (left_by t.now t.stands.0))
     where
-      by_left : LeftBy n done reached (state_of m) →
+      by_left : LeftBy n disks.before done reached (state_of m) →
           Comes r.book.schedule first r.book.turns.items n ((r.book.visible + going) + visible_steps done) (r.book.hidden + hidden_steps done)
           left_whole (printed ++ bytes)
       by_left (served is_first left) =
@@ -474,7 +474,7 @@ module _ {r m : LibraryRun} {disks : Around (Option Disk)} {n going : ℕ} {done
   -- that was the first refusal
   refused_first : NeedIsReached → ((state_of m).refusals == (entered r n).refusals) ≡ false → (first : AbstractState) (frames : ℕ)
       (printed : List ℕ) → StandsSo first frames disks.before r printed →
-      IsRefused r.book.schedule first frames (m.book.turns.items ++ turn_with m going done ∷ [])
+      IsRefusedInTurn r.book.schedule first frames (m.book.turns.items ++ turn_with m going done ∷ [])
       (record { turn = vec_len r.book.turns; console_len = r.served.written })
       (printed ++ bytes)
   refused_first needs rose first frames printed h =
@@ -519,14 +519,14 @@ module _ {r m : LibraryRun} {disks : Around (Option Disk)} {n going : ℕ} {done
 
       -- where what is told of the refusal is known, with the turns as they are told
       refused_so : (refusal : Refusal) → after.book.first_refused ≡ Some refusal → 0 < (state_of m).refusals →
-          IsRefused r.book.schedule first frames (m.book.turns.items ++ turn_with m going done ∷ []) refusal (printed ++ bytes) →
+          IsRefusedInTurn r.book.schedule first frames (m.book.turns.items ++ turn_with m going done ∷ []) refusal (printed ++ bytes) →
           Runs first frames disks.after after (printed ++ bytes)
       refused_so refusal is some h =
           subst (λ (o : Option Refusal). RunsBy o first frames disks.after after (printed ++ bytes)) (sym is) (
             subst (λ (x : ℕ). 0 < x) (sym (counted_rest (goes_on_with m going done) m after (seen_with going done) (hidden_steps done) counts).1) some,
-            subst (λ (x : List ℕ). IsRefused x first frames (turns_so_far after) refusal (printed ++ bytes))
+            subst (λ (x : List ℕ). IsRefusedInTurn x first frames (turns_so_far after) refusal (printed ++ bytes))
                 (sym (counts.book.schedule ∙ (λ i. (k.book i).schedule)))
-                (subst (λ (x : List Turn). IsRefused r.book.schedule first frames x refusal (printed ++ bytes))
+                (subst (λ (x : List Turn). IsRefusedInTurn r.book.schedule first frames x refusal (printed ++ bytes))
                 (sym (told_turns (goes_on_with m going done) m after (seen_with going done) (hidden_steps done) (some_steps going done) counts)) h),
           )
 
@@ -557,7 +557,7 @@ module _ {r m : LibraryRun} {disks : Around (Option Disk)} {n going : ℕ} {done
           counts.book.first_refused ∙ (λ i. (k.book i).first_refused)
           ∙ ap (λ (o : Option Refusal). refusal_by (not ((state_of m).refusals == (entered r n).refusals)) o) is in
           refused_so refusal told (k.rest.told (subst (λ (x : ℕ). 0 < x) (sym (before_last k.before)) h.0))
-          (subst (λ (x : List Turn). IsRefused r.book.schedule first frames (x ++ turn_with m going done ∷ []) refusal (printed ++ bytes))
+          (subst (λ (x : List Turn). IsRefusedInTurn r.book.schedule first frames (x ++ turn_with m going done ∷ []) refusal (printed ++ bytes))
           (λ i. (sym k.book i).turns.items)
           (still_refused first frames refusal r (turn_with m going done) bytes printed (λ some. k.slot ∙ k.before.chosen.turn some)
           turn_grown h.1))
@@ -648,6 +648,29 @@ module _ {r m : LibraryRun} {disks : Around (Option Disk)} {n going : ℕ} {done
 
 -- ---- the host failed
 
+-- What is told of a run that was cut off in the turn under way, where nothing or something was refused before.
+cut_off_by : (r m : LibraryRun) (first : AbstractState) (frames : ℕ) (disk : Option Disk) (turn : Turn) (more printed : List ℕ) →
+    m.book.first_refused ≡ r.book.first_refused → turns_so_far m ≡ r.book.turns.items ++ turn ∷ [] →
+    (0 < made r.book → turn.slot ≡ r.served.slot) → r.book.visible ≤ turn.visible →
+    (StandsSo first frames disk r printed → IsCutOff r.book.schedule first (r.book.turns.items ++ turn ∷ []) (printed ++ more)) →
+    Runs first frames disk r printed → CutOffBy m.book.first_refused r.book.schedule first frames (turns_so_far m) (printed ++ more)
+cut_off_by r m first frames disk turn more printed same turns slot visible cut = by_first r.book.first_refused refl
+  where
+    told : (o : Option Refusal) → r.book.first_refused ≡ o →
+        CutOffBy o r.book.schedule first frames (r.book.turns.items ++ turn ∷ []) (printed ++ more) →
+        CutOffBy m.book.first_refused r.book.schedule first frames (turns_so_far m) (printed ++ more)
+    told o is h =
+        subst (λ (x : Option Refusal). CutOffBy x r.book.schedule first frames (turns_so_far m) (printed ++ more)) (sym (same ∙ is))
+        (subst (λ (x : List Turn). CutOffBy o r.book.schedule first frames x (printed ++ more)) (sym turns) h)
+
+    by_first : (o : Option Refusal) → r.book.first_refused ≡ o → RunsBy o first frames disk r printed →
+        CutOffBy m.book.first_refused r.book.schedule first frames (turns_so_far m) (printed ++ more)
+    by_first None is h = told None is (cut h)
+    by_first (Some refusal) is h =
+        told (Some refusal) is (in_a_turn (still_refused first frames refusal r turn more printed slot visible h.1))
+
+-- ---- in a step that prints
+
 -- what the calls of steps have done, in the last of which the host failed
 pub record Fails (r m : LibraryRun) (disk : Option Disk) (n going : ℕ) (bytes : List ℕ) : Type 0 where
   pub before : Reaches r n going
@@ -673,7 +696,7 @@ module _ {r m : LibraryRun} {disk : Option Disk} {n going : ℕ} {bytes : List �
       let t = before_stands k.before first disk printed h.stands h.quiet in
       let b = step_failed bytes t r.book.hidden k.would in
       let left : made r.book + going < quantum r.book.schedule (length r.book.turns.items) = k.before.left in
-      record {
+      printing (record {
         before = r.book.turns.items;
         slot = n;
         visible = r.book.visible + going;
@@ -691,7 +714,7 @@ module _ {r m : LibraryRun} {disk : Option Disk} {n going : ℕ} {bytes : List �
         rest = drop part bytes;
         whole_is = sym (take-append-drop part bytes);
         printed_is = refl;
-      }
+      })
 
   -- What is told of the run that the failed call has cut off.
   pub failed_last : (after : Option Disk) (console : Around (Option (List ℕ))) → GainsPart console bytes →
@@ -699,20 +722,52 @@ module _ {r m : LibraryRun} {disk : Option Disk} {n going : ℕ} {bytes : List �
   failed_last after console gains = record {
     printed = take gains.0 bytes;
     gains = gains.2;
-    cut_off = λ first frames printed. by_first first frames printed r.book.first_refused refl;
+    cut_off = λ first frames printed h.
+        cut_off_by r m first frames disk (turn_of n (r.book.visible + going + 1) r.book.hidden) (take gains.0 bytes) printed
+        (λ i. (k.book i).first_refused) failed_turns k.before.chosen.turn (omega arith) (cut_off_in first frames gains.0 printed) h;
   }
+
+-- ---- in a step of the file server
+
+-- So it is where that was in a step that nobody sees, which is counted.
+pub record FailsQuietly (r m after : LibraryRun) (disk : Option Disk) (n going : ℕ) (bytes : List ℕ) : Type 0 where
+  pub before : Reaches r n going
+  pub none : (a : AbstractState) → StandsWhole (beside before.reached disk) a → bytes ≡ []
+  pub slot : m.served.slot ≡ n
+  pub book : m.book ≡ r.book
+  pub counts : Counted m after going 1
+
+module _ {r m after : LibraryRun} {disk : Option Disk} {n going : ℕ} {bytes : List ℕ} (k : FailsQuietly r m after disk n going bytes) where
+  quiet_turns : turns_so_far after ≡ r.book.turns.items ++ turn_of n (r.book.visible + going) (r.book.hidden + 1) ∷ []
+  quiet_turns =
+      told_turns (goes_on_after m (going + 1)) m after going 1 (omega arith) k.counts
+      ∙ (λ i. (k.book i).turns.items ++ turn_of (k.slot i) ((k.book i).visible + going) ((k.book i).hidden + 1) ∷ [])
+
+  -- the turn with it has steps that fit
+  cut_off_quietly : (first : AbstractState) (frames part : ℕ) (printed : List ℕ) → StandsSo first frames disk r printed →
+      IsCutOff r.book.schedule first (r.book.turns.items ++ turn_of n (r.book.visible + going) (r.book.hidden + 1) ∷ [])
+      (printed ++ take part bytes)
+  cut_off_quietly first frames part printed h =
+      let t = before_stands k.before first disk printed h.stands h.quiet in
+      let left : made r.book + going < quantum r.book.schedule (length r.book.turns.items) = k.before.left in
+      let nothing : take part bytes ≡ [] = ap (λ (l : List ℕ). take part l) (k.none t.now t.stands) ∙ take_none part in
+      quietly t.now (record {
+        ran = in_turn_ran t (r.book.hidden + 1);
+        fit = in_turn_fits t (r.book.hidden + 1) (omega arith) (omega arith);
+        console = t.console ∙ ap (λ (l : List ℕ). first.console ++ l) (sym (append-nil printed) ∙ ap (λ (l : List ℕ). printed ++ l) (sym nothing));
+      })
     where
-      by_first : (first : AbstractState) (frames : ℕ) (printed : List ℕ) (o : Option Refusal) → r.book.first_refused ≡ o →
-          RunsBy o first frames disk r printed →
-          CutOffBy m.book.first_refused r.book.schedule first frames (turns_so_far m) (printed ++ take gains.0 bytes)
-      by_first first frames printed None is h =
-          subst (λ (o : Option Refusal). CutOffBy o r.book.schedule first frames (turns_so_far m) (printed ++ take gains.0 bytes))
-          (sym ((λ i. (k.book i).first_refused) ∙ is))
-          (subst (λ (x : List Turn). IsCutOff r.book.schedule first x (printed ++ take gains.0 bytes)) (sym failed_turns)
-          (cut_off_in first frames gains.0 printed h))
-      by_first first frames printed (Some refusal) is h =
-          subst (λ (o : Option Refusal). CutOffBy o r.book.schedule first frames (turns_so_far m) (printed ++ take gains.0 bytes))
-          (sym ((λ i. (k.book i).first_refused) ∙ is))
-          (subst (λ (x : List Turn). IsRefused r.book.schedule first frames x refusal (printed ++ take gains.0 bytes)) (sym failed_turns)
-          (still_refused first frames refusal r (turn_of n (r.book.visible + going + 1) r.book.hidden) (take gains.0 bytes) printed
-          k.before.chosen.turn (omega arith) h.1))
+      take_none : (count : ℕ) → take {A = ℕ} count [] ≡ []
+      take_none zero = refl
+      take_none (suc count) = refl
+
+  pub failed_quietly : (later : Option Disk) (console : Around (Option (List ℕ))) → GainsPart console bytes →
+      HasFailed (from_to r after) (from_to disk later) console
+  failed_quietly later console gains = record {
+    printed = take gains.0 bytes;
+    gains = gains.2;
+    cut_off = λ first frames printed h.
+        cut_off_by r after first frames disk (turn_of n (r.book.visible + going) (r.book.hidden + 1)) (take gains.0 bytes) printed
+        (k.counts.book.first_refused ∙ (λ i. (k.book i).first_refused)) quiet_turns k.before.chosen.turn (omega arith)
+        (cut_off_quietly first frames gains.0 printed) h;
+  }

@@ -1,18 +1,23 @@
 -- Whose step it is, and where the file server stands while others make their steps, and where turns begin and end.
-use Rattle.std.proofs.Common.{◌≡◌, ◌≢◌, ◌∙◌, ℕ, ◌+◌, ◌%◌, ◌^◌, ◌==◌, ◌<◌, Bool, true, false, List, Option, Some, None, length, if◌then◌else◌, refl, sym, ap, subst, arith}
-use Rattle.std.specs.Prelude.{IfSome}
+use Rattle.std.proofs.Common.{◌≡◌, ◌≢◌, ◌∙◌, inl, inr, ℕ, ◌+◌, ◌%◌, ◌^◌, ◌==◌, ◌<◌, Bool, true, false, List, Option, Some, None, length, if◌then◌else◌}
+use Rattle.std.proofs.Common.{refl, sym, ap, subst, arith}
+use Rattle.std.specs.Prelude.{IfSome, is_some, slice_index}
+use Rattle.std.specs.List.{before_first, position_or_len}
+use Rattle.std.specs.Option.{option_map}
 use Rattle.std.proofs.lemmas.Bool.Decides.{nat_tests}
-use Rattle.std.proofs.lemmas.Bool.{false≢true}
+use Rattle.std.proofs.lemmas.Bool.{cases_eq, false≢true}
 use Rattle.std.proofs.lemmas.Option.{none-some, same_Some}
 use Rattle.jos_base.specs.declared.environment.EnvType.{EnvType}
 use Rattle.jos_base.specs.declared.environment.Status.{Status}
 use Rattle.jos_base.specs.declared.environment.Status.TheVariants.{NotRunnable, Runnable, Running}
-use Rattle.jos_base.specs.declared.numbers.TheConstants.{FIRST_ENV_ID, NENV}
+use Rattle.jos_base.specs.declared.numbers.TheConstants.{FIRST_ENV_ID, NENV, PGSIZE, UTEMP}
 use Rattle.jos_base.specs.declared.registers.Regs.{Regs}
 use Rattle.jos_base.specs.Environments.{Slot, is_live, is_running}
 use Rattle.jos_base.specs.KernelState.{KernelState, slot_at, turn_begun, turn_ended, with_slot_at, with_status}
 use Rattle.jos_base.specs.Messages.{Rendezvous}
-use Rattle.fs_layout.specs.FileTree.{open_path, sync_files}
+use Rattle.jos_base.specs.Reach.{Entry}
+use Rattle.jos_base.specs.Words.{page_number}
+use Rattle.fs_layout.specs.FileTree.{open_path, remove_path, sync_files}
 use Rattle.fs_blocks.specs.CachePlaces.{state_in}
 use Rattle.fs_requests.specs.declared.state.ServerState.{ServerState}
 use Rattle.fs_requests.specs.declared.state.ServerStep.{ServerStep}
@@ -22,44 +27,59 @@ use Rattle.lib_os.specs.declared.place.Place.{Place}
 use Rattle.lib_os.specs.declared.place.Place.TheVariants as place
 use Rattle.lib_os.specs.declared.place.Step.TheVariants as step_at
 use Rattle.lib_os.specs.Places.{place_of}
-use Rattle.lib_os.specs.declared.numbers.TheConstants.{FSREQ_SYNC}
+use Rattle.lib_os.specs.declared.numbers.TheConstants.{FSREQ_REMOVE, FSREQ_SYNC, REQUEST}
 use Rattle.lib_os.specs.declared.progress.Progress.{Progress}
 use Rattle.lib_os.specs.declared.progress.Progress.TheVariants as progress
+use Rattle.lib_os.specs.declared.request.RequestKind.{RequestKind}
 use Rattle.lib_os.specs.declared.request.RequestKind.TheVariants as kind
+use Rattle.lib_os.specs.declared.service.Service.{Service}
 use Rattle.lib_os.specs.declared.service.Service.TheVariants as service
-use Rattle.lib_os.specs.AbstractLaws.{AsksOrLeaves, LeavesFiles, ServesWhoAsked, asks, client_served, has_asked, leaves}
+use Rattle.lib_os.specs.AbstractLaws.{AsksOrLeaves, LeavesFiles, ServesWhoAsked, asks, client_served, leaves}
 use Rattle.lib_os.specs.AbstractRun.{abs_step, program_step, slot_step}
-use Rattle.lib_os.specs.AbstractState.{AbstractSlot, AbstractState, Born, Request, Server, act, acted, asked, awaiting, born, busy, entered, guest, idle, in_service, leaving, looking, Phase, seek, slot_id, TablePlace}
+use Rattle.lib_os.specs.AbstractState.{AbstractSlot, AbstractState, Born, Request, Server, act, acted, asked, awaiting, born, busy, entered}
+use Rattle.lib_os.specs.AbstractState.{gathering, guest, idle, in_service, leaving, looking, seek, slot_id}
 use Rattle.lib_os.specs.Answers.{at_stage}
 use Rattle.lib_os.specs.Disk.{Disk}
 use Rattle.lib_os.specs.FileServer.{await_reply, request_begun, request_taken}
 use Rattle.lib_os.specs.LibraryCall.{library_step}
-use Rattle.lib_os.specs.LibrarySteps.{AbstractFollows, AsksServer, GoesOn, KeepsPlaces, KeepsServer, KeepsStanding, LacksFrame, LeavesOrAsks}
-use Rattle.lib_os.specs.LibrarySteps.{LeavesServer, Stands, Stays}
-use Rattle.lib_os.specs.LibrarySteps.{asked_it, left_alone}
-use Rattle.lib_os.specs.Rows.{Names}
-use Rattle.lib_os.specs.StandsFor.{AwaitsRequest, IsIn, IsServerStatus, IsStatusFor, StandsAt, StandsFor, StandsForBorn, StandsForServer, StandsForSlot, view_of}
+use Rattle.lib_os.specs.LibrarySteps.{AbstractFollows, AsksServer, BringsRequest, GivesPage, GoesOn, KeepsPlaces, KeepsServer, KeepsStanding, KeepsWorking}
+use Rattle.lib_os.specs.LibrarySteps.{LeavesEach, LeavesOrAsks, LeavesServer, Stands, Stays, asked_it, left_alone, request_perm, with_message_in}
+use Rattle.lib_os.specs.MadeCalls.{is_server_page}
+use Rattle.lib_os.specs.FileServices.{is_nul}
+use Rattle.lib_os.specs.Requests as requests_of
+use Rattle.lib_os.specs.Rows.{Names, lasting, rows_of}
+use Rattle.lib_os.specs.StandsFor.{AwaitsRequest, HasWholePath, IsIn, IsServerStatus, IsStatusFor, StandsAt, StandsFor, StandsForBorn}
+use Rattle.lib_os.specs.StandsFor.{StandsForServer, StandsForSlot, view_of}
 use Rattle.lib_os.specs.UserCalls.{is_file_server}
-use Rattle.lib_os.proofs.AskedPlaces.{IsRequesting, asks as asks_it, expects, is_request, requesting}
+use Rattle.lib_os.proofs.AskedPlaces.{IsRequesting, asks as asks_it, awaiting_step, expects, is_requests, requesting}
+use Rattle.lib_os.proofs.Effects.{Placed}
 use Rattle.lib_os.proofs.FilesLeft.{clients_leave_files}
+use Rattle.lib_os.proofs.PageAsked.{path_asking_step}
+use Rattle.lib_os.proofs.Placing.{inserted_given}
 use Rattle.lib_os.proofs.ServedStay.{HasClient, client_is, served_clients_stay}
 use Rattle.lib_os.proofs.SlotsStand.{born_at, born_live}
-use Rattle.fs_tree.specs.TreeSteps.{memory_in}
-use Rattle.fs_serving.specs.ServerRuns.{syncs}
-use Rattle.fs_seen.specs.ServerMemory.{view_in}
-use Rattle.fs_seen.specs.ServerWhole.{IsServing, LeavesPages, ServesOn}
-use Rattle.fs_seen.proofs.AskedNow.{asked_by_word, asked_serves}
+use Rattle.fs_places.specs.TreePlaces.{state_in as tree_at}
+use Rattle.fs_tree.specs.TreeSteps.{job_in, memory_in, request_bytes}
+use Rattle.fs_serving.specs.ServerRuns.{AsksFor, removes, syncs}
+use Rattle.fs_seen.specs.ServerMemory.{HasRequested, entry_of, has_request, request_page, view_in}
+use Rattle.fs_seen.specs.ServerWhole.{IsAsked, IsAskedBy, IsServing, LeavesPages, NothingOpened, ServesOn}
+use Rattle.fs_seen.proofs.AskedByPages.{asked_by_page, requested_where}
+use Rattle.fs_seen.proofs.AskedNow.{asked_by_word, asked_serves, word_request}
 use Rattle.fs_seen.proofs.StaysGone.{SlotStays}
+use Rattle.fs_seen.proofs.StaysUnopened.{asked_unopened, others_unopened, unopened_as}
 use Rattle.fs_seen.proofs.Unopened.{unopened_tables}
 use Rattle.jos_run.specs.AbstractTurns.{turn_begun as begun_at}
-use Rattle.jos_run.specs.ServerStands.{HasRecordsAlone, IsBareCache, IsBuiltRequest, IsClient, KeepsWhole, ServerStands, client_id}
+use Rattle.jos_run.specs.RemovalJobs.{HasJob}
+use Rattle.jos_run.specs.ServerStands.{BringsOwn, HasLent, IsBuiltRequest, IsClient, IsLent, KeepsWhole, ServerStands, client_id}
 use Rattle.jos_run.specs.ServerStands.{WholeFollows, WholeGoesOn, WholeStays, serving_at, step_of}
-use Rattle.jos_run.specs.Steps.{is_servers}
+use Rattle.jos_run.specs.Steps.{is_awake, is_servers}
 use Rattle.jos_run.specs.Worlds.{beside}
-use Rattle.jos_run.proofs.RecordsKept.{left_records, records_kept, records_lacked, spaces_alike}
-use Rattle.jos_run.proofs.ServingKept.{NamesAreGiven, names_given, names_kept, pages_left, serves_left, serves_still}
-use Rattle.jos_run.proofs.Unopened.{records_unopened}
+use Rattle.jos_run.proofs.RequestsCalm.{RequestsCalmly, asks_by_page}
+use Rattle.jos_run.proofs.PagesLeft.{lent_left, others_lack, pages_left, requests}
+use Rattle.jos_run.proofs.PathTold.{told_path}
+use Rattle.jos_run.proofs.ServingKept.{NamesAreGiven, names_given, names_kept, serves_left, serves_still, unopened_still}
 use Rattle.jos_base.proofs.Maps.{upd-all, upd-at}
+use Rattle.jos_base.proofs.Puts.{put-other}
 
 -- ---- whose step it is
 
@@ -121,19 +141,22 @@ module _ (k after : Slot) (same : SameServing k after) where
   same_id = ap (λ (x : ServerState). client_id x.step after) serving ∙ id_at (step_of k)
 
 -- Where its slot is the same but for its status, it stands for an abstract state that has the same of what it has.
-stands_kept : {d : Disk} {s t : KernelState} {a b : AbstractState} → SameServing (slot_at s 0) (slot_at t 0) → IsServing d t 0 b → HasRecordsAlone t →
-    b.server ≡ a.server → b.opened ≡ a.opened → SameClient a.server a b → ServesWhoAsked b → ServerStands d s a → ServerStands d t b
-stands_kept {s = s} {t = t} {a = a} {b = b} same serves records server opened ids who h = record {
+stands_kept : {d : Disk} {s t : KernelState} {a b : AbstractState} → SameServing (slot_at s 0) (slot_at t 0) → IsServing d t 0 b →
+    HasLent b.server t → NothingOpened b (view_in d t 0) → b.server ≡ a.server → SameClient a.server a b → ServesWhoAsked b → ServerStands d s a →
+    ServerStands d t b
+stands_kept {d = d} {s = s} {t = t} {a = a} {b = b} same serves lent unopened server ids who h = record {
   serving = serves;
   twelve = ap (λ (words : List ℕ). length words) same.words ∙ h.twelve;
+  brings = subst (λ (words : List ℕ). BringsOwn d (state_in words).place) (sym same.words) h.brings;
+  job = subst (λ (regs : Regs). HasJob (server_in regs (slot_at t 0).extra).step (tree_at regs (slot_at t 0).extra)) (sym same.registers)
+      (subst (λ (words : List ℕ). HasJob (server_in (slot_at s 0).registers words).step (tree_at (slot_at s 0).registers words)) (sym same.words) h.job);
   client = λ client is.
       let was : client_served a.server ≡ Some client = ap (λ (x : Server). client_served x) (sym server) ∙ is in
       client_kept (same_id (slot_at s 0) (slot_at t 0) same) (ids client was) (h.client client was);
   asked = who;
   built = subst (λ (x : Server). IsBuiltRequest x) (sym server) h.built;
-  records = records;
-  cache = subst (λ (words : List ℕ). IsBareCache (state_in words).place) (sym same.words) h.cache;
-  unheld = λ number. ap (λ (o : ℕ → TablePlace). (o number).held_by) opened ∙ h.unheld number;
+  lent = lent;
+  unopened = unopened;
 }
 
 -- ---- turns
@@ -145,30 +168,62 @@ set_serving s n status runs =
     upd-all (λ m (x : Slot). SameServing (slot_at s m) x) s.environments.slots n (record (slot_at s n) { status = status; runs = runs })
     (record { registers = refl; words = refl; message = refl; space = refl; env_type = refl }) (λ m ne. same_serving refl) 0
 
+set_home : (s : KernelState) (n : ℕ) (status : Status) (runs m : ℕ) →
+    (slot_at (with_slot_at s n (record (slot_at s n) { status = status; runs = runs })) m).directory ≡ (slot_at s m).directory
+set_home s n status runs m =
+    upd-all (λ k (x : Slot). x.directory ≡ (slot_at s k).directory) s.environments.slots n (record (slot_at s n) { status = status; runs = runs })
+    refl (λ k ne. refl) m
+
 -- where the slot is so, and the spaces are the same,
 turned_server : (d : Disk) (s t : KernelState) (a b : AbstractState) → SameServing (slot_at s 0) (slot_at t 0) → t.spaces ≡ s.spaces →
+    ((m : ℕ) → (slot_at t m).directory ≡ (slot_at s m).directory) →
     Stands s a → Stands t b → b.server ≡ a.server → b.files ≡ a.files → b.opened ≡ a.opened → NamesAreGiven b → SameClient a.server a b →
     ServesWhoAsked b → ServerStands d s a → ServerStands d t b
-turned_server d s t a b same spaces before behind server files opened names ids who h =
+turned_server d s t a b same spaces homes before behind server files opened names ids who h =
     stands_kept same
-    (serves_left (serves_still d s t a h.serving slot same.registers same.message behind.1.in_order) behind.1.in_order itself records before.1.consoles
-    behind.1.consoles server files opened (λ number. ap (λ (o : ℕ → TablePlace). (o number).held_by) opened ∙ h.unheld number) names)
-    records server opened ids who h
+    (serves_left (serves_still d s t a h.serving slot same.registers same.message behind.1.in_order) behind.1.in_order itself
+    unopened before.1.consoles behind.1.consoles server files opened names)
+    (subst (λ (x : Server). HasLent x t) (sym server) (lent_still a.server h.lent)) (unopened_as a b (view_in d t 0) unopened opened) server ids who h
   where
     slot : SlotStays s t 0
     slot = record { lives = (first_serves behind.1).lives; env_type = same.env_type; directory = same.space; words = same.words; spaces = spaces }
 
-    records : HasRecordsAlone t
-    records = records_kept (spaces_alike same.space spaces) h.records
+    unopened : NothingOpened a (view_in d t 0)
+    unopened = unopened_still d s t a h.serving slot same.registers same.message behind.1.in_order h.unopened
 
-    itself : LeavesPages t t 0
-    itself = record { slot = refl; entries = λ p. refl; tables = λ r. refl; bytes = λ p e own there. refl; counts = λ number e below there. refl }
+    itself : LeavesPages a.server t t 0
+    itself = record {
+      slot = refl;
+      entries = λ p. refl;
+      tables = λ r. refl;
+      bytes = λ p e own ne there. refl;
+      request = λ keeps e there. refl;
+      counts = λ number e below there. refl;
+    }
+
+    there_as : has_request t 0 ≡ has_request s 0
+    there_as i = is_some ((spaces i).entries (homes 0 i) request_page)
+
+    lent_still : (x : Server) → HasLent x s → HasLent x t
+    lent_still leaving lent = λ receiving.
+        there_as ∙ lent (ap (λ (x : ServerState). x.step) (sym (serving (slot_at s 0) (slot_at t 0) same)) ∙ receiving)
+    lent_still idle none = there_as ∙ none
+    lent_still (busy client (act sync_files None) None) none = there_as ∙ none
+    lent_still (busy client (act (remove_path path) None) None) lent = record {
+      own = lent.own;
+      kept = (λ i. rows_of (spaces i) (homes client i) (page_number UTEMP)) ∙ lent.kept;
+      entry = lent.entry;
+      stands = (λ i. rows_of (spaces i) (homes 0 i) (page_number REQUEST)) ∙ lent.stands;
+      same = lent.same;
+    }
+    lent_still _ lent = tt
 
 -- where a turn begins,
 pub begun_server : (d : Disk) (s : KernelState) (n : ℕ) (a : AbstractState) → Stands s a → Stands (turn_begun s n) (begun_at a n) → ServerStands d s a →
     ServerStands d (turn_begun s n) (begun_at a n)
 begun_server d s n a before behind h =
-    turned_server d s (turn_begun s n) a (begun_at a n) (set_serving s n Running (((slot_at s n).runs + 1) % 2 ^ 32)) refl before behind refl refl refl
+    turned_server d s (turn_begun s n) a (begun_at a n) (set_serving s n Running (((slot_at s n).runs + 1) % 2 ^ 32)) refl
+    (set_home s n Running (((slot_at s n).runs + 1) % 2 ^ 32)) before behind refl refl refl
     (names_given d s a h.serving) (λ client is. refl) (record { asked = h.asked.asked; given = h.asked.given }) h
 
 -- and where one ends
@@ -178,8 +233,8 @@ ended_server d s n a before behind h = by_test (is_running (slot_at s n).status)
   where
     by_test : (c : Bool) → Stands (if c then with_status s n Runnable else s) a → ServerStands d (if c then with_status s n Runnable else s) a
     by_test true behind =
-        turned_server d s (with_status s n Runnable) a a (set_serving s n Runnable (slot_at s n).runs) refl before behind refl refl refl
-        (names_given d s a h.serving) (λ client is. refl) h.asked h
+        turned_server d s (with_status s n Runnable) a a (set_serving s n Runnable (slot_at s n).runs) refl (set_home s n Runnable (slot_at s n).runs)
+        before behind refl refl refl (names_given d s a h.serving) (λ client is. refl) h.asked h
     by_test false behind = h
 
 -- ---- the steps of others
@@ -202,15 +257,35 @@ sync_asked a c n b regs server at awake program phase step =
           ∙ ap (λ (slot : AbstractSlot). slot_id slot) (upd-at a.slots n (born (record b { phase = in_service service.Sync asked }))),
     )
 
+-- or that a file is removed
+path_asked : (a c : AbstractState) (n : ℕ) (b : Born) (k : Slot) (path : ℕ) (bytes : List ℕ) → a.server ≡ idle → a.slots n ≡ born b →
+    IsIn k b (service.Remove path) (gathering bytes) → position_or_len is_nul bytes < length bytes → abs_step a n ≡ Some c →
+    (c.server ≡ busy n (act (remove_path (before_first is_nul bytes)) None) None) × (slot_id (c.slots n) ≡ b.id)
+path_asked a c n b k path bytes server at is_in ended step =
+    let begun : AbstractState = record a { server = busy n (act (remove_path (before_first is_nul bytes)) None) None } in
+    let end : AbstractState = at_stage begun n b (service.Remove path) asked in
+    let same : c ≡ end = sym (same_Some end c (sym (path_asking_step a n b k path bytes at is_in ended server) ∙ step)) in (
+      ap (λ (x : AbstractState). x.server) same,
+      ap (λ (x : AbstractState). slot_id (x.slots n)) same
+          ∙ ap (λ (slot : AbstractSlot). slot_id slot) (upd-at a.slots n (born (record b { phase = in_service (service.Remove path) asked }))),
+    )
+
 -- one that has asked goes on to wait for the reply, and then has no step
-awaits_own : (a c : AbstractState) (n : ℕ) (b : Born) (regs : Regs) → a.slots n ≡ born b → b.blocked ≡ false → b.program ≡ guest regs →
-    b.phase ≡ in_service service.Sync asked → abs_step a n ≡ Some c → slot_id (c.slots n) ≡ b.id
+awaits_step : (s : Service) → is_requests s ≡ true → (a : AbstractState) (n : ℕ) (b : Born) (regs : Regs) → a.slots n ≡ born b → b.blocked ≡ false →
+    b.program ≡ guest regs → b.phase ≡ in_service s asked → abs_step a n ≡ Some (await_reply a n b s)
 unfolding abs_step library_step
-awaits_own a c n b regs at awake program phase step =
-    let is : abs_step a n ≡ Some (await_reply a n b service.Sync) =
-    ap (λ (slot : AbstractSlot). slot_step a n slot) at ∙ (λ i. if awake i then None else program_step a n b (program i) (phase i)) in
-    ap (λ (x : AbstractState). slot_id (x.slots n)) (sym (same_Some (await_reply a n b service.Sync) c (sym is ∙ step)))
-    ∙ ap (λ (slot : AbstractSlot). slot_id slot) (upd-at a.slots n (born (record b { phase = in_service service.Sync awaiting; blocked = true })))
+awaits_step service.Sync is a n b regs at awake program phase =
+    ap (λ (slot : AbstractSlot). slot_step a n slot) at ∙ (λ i. if awake i then None else program_step a n b (program i) (phase i))
+awaits_step (service.Remove path) is a n b regs at awake program phase =
+    ap (λ (slot : AbstractSlot). slot_step a n slot) at ∙ (λ i. if awake i then None else program_step a n b (program i) (phase i))
+awaits_step _ is a n b regs at awake program phase = absurd (false≢true is)
+
+awaits_own : (s : Service) → is_requests s ≡ true → (a c : AbstractState) (n : ℕ) (b : Born) (regs : Regs) → a.slots n ≡ born b → b.blocked ≡ false →
+    b.program ≡ guest regs → b.phase ≡ in_service s asked → abs_step a n ≡ Some c → slot_id (c.slots n) ≡ b.id
+awaits_own s of a c n b regs at awake program phase step =
+    ap (λ (x : AbstractState). slot_id (x.slots n))
+    (sym (same_Some (await_reply a n b s) c (sym (awaits_step s of a n b regs at awake program phase) ∙ step)))
+    ∙ ap (λ (slot : AbstractSlot). slot_id slot) (upd-at a.slots n (born (record b { phase = in_service s awaiting; blocked = true })))
 
 no_step : (a : AbstractState) (n : ℕ) (b : Born) → a.slots n ≡ born b → b.blocked ≡ true → abs_step a n ≡ None
 unfolding abs_step
@@ -219,22 +294,25 @@ no_step a n b at blocked =
 
 -- its id stands in its place
 abbrev request_id : Place → ℕ
-request_id (place.InService service.Sync (step_at.Awaiting id)) = id
-request_id (place.InService service.Sync (step_at.ReadingReply id)) = id
+request_id (place.InService s (step_at.Awaiting id)) = id
+request_id (place.InService s (step_at.ReadingReply id)) = id
+request_id (place.InService s (step_at.Clearing id)) = id
 request_id _ = 0
 
-requests : (p : Phase) → has_asked p ≡ true → is_request p ≡ true
-requests (in_service s asked) is = refl
-requests (in_service s awaiting) is = refl
-requests _ is = absurd (false≢true is)
+waiting_id : (s : Service) → is_requests s ≡ true → (id : ℕ) → request_id (place.InService s (awaiting_step s id)) ≡ id
+waiting_id service.Sync is id = refl
+waiting_id (service.Remove path) is id = refl
+waiting_id _ is id = absurd (false≢true is)
 
 id_told : {p : Place} {k : Slot} {b : Born} → IsRequesting p k b → request_id p ≡ k.id
-id_told (asks_it id at self so) = ap request_id at ∙ self
-id_told (expects id at self so) = ap request_id at ∙ self
+id_told (asks_it s is id at self so) = ap request_id at ∙ self
+id_told (expects s is id at self so) = ap request_id at ∙ waiting_id s is id ∙ self
 
 -- A step of another leaves the file server where it stands, or asks it while it waits.
-module _ (d : Disk) (n : ℕ) (s after : KernelState) (other : n ≢ 0) (live : is_live (slot_at s n) ≡ true) (server : KeepsServer n s after)
-    (places : KeepsPlaces n s after) (a : AbstractState) (h : Stands s a) (k : ServerStands d s a) (b : Born) (at : a.slots n ≡ born b) where
+module _ (d : Disk) (n : ℕ) (s after : KernelState) (other : n ≢ 0) (live : is_live (slot_at s n) ≡ true)
+    (awake : is_awake (slot_at s n).status ≡ true) (server : KeepsServer n s after) (places : KeepsPlaces n s after)
+    (working : KeepsWorking n s after) (calm : RequestsCalmly n s after) (a : AbstractState) (h : Stands s a) (k : ServerStands d s a) (b : Born)
+    (at : a.slots n ≡ born b) where
   way : (c : AbstractState) → Stands after c → LeavesOrAsks n s after
   way c stands = server stands.1.in_order other live a h
 
@@ -257,22 +335,26 @@ module _ (d : Disk) (n : ℕ) (s after : KernelState) (other : n ≢ 0) (live : 
 
   -- and one that is asked does not wait
   asked_wakes : AsksServer n s after → (slot_at after 0).status ≡ NotRunnable → ⊥
-  asked_wakes it is =
-      let contradiction : Runnable ≡ NotRunnable = sym (ap (λ (x : Slot). x.status) it.slot) ∙ is in cc
+  asked_wakes it is = by_service it.by_service it.brings
+    where
+      runs : (sender value perm : ℕ) → slot_at after 0 ≡ with_message_in (slot_at s 0) sender value perm → ⊥
+      runs sender value perm told = let contradiction : Runnable ≡ NotRunnable = sym (ap (λ (x : Slot). x.status) told) ∙ is in cc
+
+      by_service : (x : Service) → BringsRequest x n s after → ⊥
+      by_service service.Sync brings = runs (slot_at s n).id FSREQ_SYNC 0 brings.0
+      by_service (service.Remove path) brings = runs (slot_at s n).id FSREQ_REMOVE request_perm brings.0
+      by_service _ brings = brings
 
   -- ---- it is left alone
-
-  lacks : LacksFrame s n k.records.entry.frame
-  lacks = records_lacked h.1 n other live k.records
 
   left_whole : LeavesServer n s after → (c : AbstractState) → Stands after c → c.server ≡ a.server → c.files ≡ a.files → c.opened ≡ a.opened →
       NamesAreGiven c → SameClient a.server a c → ServesWhoAsked c → ServerStands d after c
   left_whole it c stands same files opened names ids who =
-      let records : HasRecordsAlone after = left_records it k.records lacks in
+      let left = pages_left d n s after other live awake it working calm a h k in
       stands_kept (same_serving it.slot)
-      (serves_left k.serving stands.1.in_order (pages_left it k.records lacks) records h.1.consoles stands.1.consoles same files opened
-      (λ number. ap (λ (o : ℕ → TablePlace). (o number).held_by) opened ∙ k.unheld number) names)
-      records same opened ids who k
+      (serves_left k.serving stands.1.in_order left k.unopened h.1.consoles stands.1.consoles same files opened names)
+      (lent_left d n s after other live awake it working calm a h k c stands same who)
+      (others_unopened a c a.server d d s after 0 k.unopened left opened) same ids who k
 
   pub whole_stays : (written : List ℕ) → Stays after a written → WholeStays (beside after (Some d)) a written
   whole_stays written stays = (stays.0, (stays.1, by_way (way a stays.1)))
@@ -341,11 +423,11 @@ module _ (d : Disk) (n : ℕ) (s after : KernelState) (other : n ≢ 0) (live : 
       by_id same = ap (λ (slot : AbstractSlot). slot_id slot) then_it.is ∙ same ∙ sym (ap (λ (slot : AbstractSlot). slot_id slot) it.is)
 
       itself : IsRequesting (place_of (slot_at s client)) (slot_at s client) it.b → client ≡ n → slot_id (c.slots client) ≡ slot_id (a.slots client)
-      itself (asks_it id place_is self so) same =
+      itself (asks_it of is id place_is self so) same =
           ap (λ (m : ℕ). slot_id (c.slots m)) same
-          ∙ awaits_own a c n it.b (slot_at s client).registers (ap (λ (m : ℕ). a.slots m) (sym same) ∙ it.is) so.awake so.program so.phase step
+          ∙ awaits_own of is a c n it.b (slot_at s client).registers (ap (λ (m : ℕ). a.slots m) (sym same) ∙ it.is) so.awake so.program so.phase step
           ∙ sym (ap (λ (slot : AbstractSlot). slot_id slot) it.is)
-      itself (expects id place_is self so) same =
+      itself (expects of is id place_is self so) same =
           absurd (none-some c (sym (no_step a n it.b (ap (λ (m : ℕ). a.slots m) (sym same) ∙ it.is) so.blocked) ∙ step))
 
       by_slot : (t : Bool) → (client == n) ≡ t → slot_id (c.slots client) ≡ slot_id (a.slots client)
@@ -357,55 +439,134 @@ module _ (d : Disk) (n : ℕ) (s after : KernelState) (other : n ≢ 0) (live : 
 
   -- ---- it is asked
 
-  asked_whole : (it : AsksServer n s after) (c : AbstractState) → abs_step a n ≡ Some c → Stands after c → ServerStands d after c
-  asked_whole it c step stands = record {
-    serving = served.serving;
-    twelve = ap (λ (x : Slot). length x.extra) it.slot ∙ k.twelve;
-    client = λ m of.
-        let same : n ≡ m = same_Some n m (sym (ap (λ (x : Server). client_served x) is.0) ∙ of) in
-        subst (λ (x : ℕ). IsClient c x (client_id (step_of (slot_at after 0)) (slot_at after 0))) same client;
-    asked = served_clients_stay a c n below k.asked step;
-    built = subst (λ (x : Server). IsBuiltRequest x) (sym is.0) tt;
-    records = records;
-    cache = subst (λ (words : List ℕ). IsBareCache (state_in words).place) (sym (ap (λ (x : Slot). x.extra) it.slot)) k.cache;
-    unheld = unheld;
-  }
-    where
-      own : StandsForBorn h.0 s.spaces (slot_at s n) b
-      own = born_at h.1 n b at
+  module _ (it : AsksServer n s after) (c : AbstractState) (step : abs_step a n ≡ Some c) (stands : Stands after c) where
+    own : StandsForBorn h.0 s.spaces (slot_at s n) b
+    own = born_at h.1 n b at
 
-      asking : IsIn (slot_at s n) b service.Sync entered
-      asking = (subst (λ (p : Place). StandsAt p (view_of s.spaces (slot_at s n).directory) (slot_at s n) b) it.at own.at).1
+    left : LeavesFiles a c
+    left = (left_of c step).0
 
-      is : (c.server ≡ busy n (act sync_files None) None) × (slot_id (c.slots n) ≡ b.id)
-      is = sync_asked a c n b (slot_at s n).registers (waits_idle it.waited) at asking.awake asking.program asking.phase step
+    nobody : has_request s 0 ≡ false
+    nobody = subst (λ (x : Server). HasLent x s) (waits_idle it.waited) k.lent
 
-      left : LeavesFiles a c
-      left = (left_of c step).0
+    -- by what it is asked for, the message that has come, and the page that has come with it
+    asked_for : (request : Request) (of : RequestKind) → c.server ≡ request_begun n request → client_served (request_begun n request) ≡ Some n →
+        IsBuiltRequest (request_begun n request) → IsAsked s after 0 →
+        HasRequested (request_begun n request) after 0 → AsksFor c (request_bytes after 0) of request → HasLent (request_begun n request) after →
+        (value perm : ℕ) → slot_at after 0 ≡ with_message_in (slot_at s 0) (slot_at s n).id value perm → value ≡ requests_of.request_word of →
+        slot_id (c.slots n) ≡ b.id → ServerStands d after c
+    asked_for request of server serves built asked_so requested tells lent value perm slot value_is id = record {
+      serving = served.serving;
+      twelve = ap (λ (x : Slot). length x.extra) slot ∙ k.twelve;
+      brings = subst (λ (words : List ℕ). BringsOwn d (state_in words).place) (sym (ap (λ (x : Slot). x.extra) slot)) k.brings;
+      job = subst (λ (x : ServerStep). HasJob x (job_in after 0)) (sym served.at_step) tt;
+      client = λ m of.
+          let same : n ≡ m = same_Some n m (sym (ap (λ (x : Server). client_served x) server ∙ serves) ∙ of) in
+          subst (λ (x : ℕ). IsClient c x (client_id (step_of (slot_at after 0)) (slot_at after 0))) same client;
+      asked = served_clients_stay a c n below k.asked step;
+      built = subst (λ (x : Server). IsBuiltRequest x) (sym server) built;
+      lent = subst (λ (x : Server). HasLent x after) (sym server) lent;
+      unopened = unopened;
+    }
+      where
+        unopened : NothingOpened c (view_in d after 0)
+        unopened = asked_unopened a c d d s after 0 k.unopened asked_so left.opened
 
-      records : HasRecordsAlone after
-      records = records_kept (spaces_alike (ap (λ (x : Slot). x.directory) it.slot) it.spaces) k.records
+        sender_is : (slot_at after 0).rendezvous.sender ≡ (slot_at s n).id
+        sender_is = ap (λ (x : Slot). x.rendezvous.sender) slot
 
-      unheld : (number : ℕ) → (c.opened number).held_by ≡ None
-      unheld number = ap (λ (o : ℕ → TablePlace). (o number).held_by) left.opened ∙ k.unheld number
+        served : ServesOn d s after c server_at.ReadingKind
+        served =
+            asked_serves a c d s after n request of (waits_idle it.waited) k.serving stands.1.in_order asked_so left.files server requested tells
+            (ap (λ (x : Slot). x.rendezvous.value) slot ∙ value_is) (ap (λ (x : ℕ). x % NENV) sender_is ∙ h.1.tabled.ids n live)
+            (unopened_tables (memory_in d s 0).disk c (view_in d after 0) unopened stands.1.consoles
+            (names_kept left (names_given d s a k.serving)))
 
-      sender_is : (slot_at after 0).rendezvous.sender ≡ (slot_at s n).id
-      sender_is = ap (λ (x : Slot). x.rendezvous.sender) it.slot
+        client : IsClient c n (client_id (step_of (slot_at after 0)) (slot_at after 0))
+        client = subst (λ (x : ServerStep). IsClient c n (client_id x (slot_at after 0))) (sym served.at_step) (record {
+          slot = sym (h.1.tabled.ids n live) ∙ ap (λ (x : ℕ). x % NENV) (sym sender_is);
+          same = id ∙ sym own.id ∙ sym sender_is;
+        })
 
-      served : ServesOn d s after c server_at.ReadingKind
-      served =
-          asked_serves a c d s after n (act sync_files None) kind.Sync (waits_idle it.waited) k.serving stands.1.in_order
-          (asked_by_word d s after 0 (slot_at s n).id FSREQ_SYNC k.serving.stands it.slot it.spaces) left.files is.0
-          (λ sends. absurd (false≢true sends)) syncs (ap (λ (x : Slot). x.rendezvous.value) it.slot)
-          (ap (λ (x : ℕ). x % NENV) sender_is ∙ h.1.tabled.ids n live)
-          (unopened_tables (memory_in d s 0).disk c (view_in d after 0) (records_unopened d c records unheld) stands.1.consoles
-          (names_kept left (names_given d s a k.serving)))
+    -- for sync
+    asked_sync : place_of (slot_at s n) ≡ place.InService service.Sync (step_at.Asking it.id) → BringsRequest service.Sync n s after →
+        ServerStands d after c
+    asked_sync place_is brings =
+        let asking : IsIn (slot_at s n) b service.Sync entered =
+        (subst (λ (p : Place). StandsAt p (view_of s.spaces (slot_at s n).directory) (slot_at s n) b) place_is own.at).1 in
+        let is = sync_asked a c n b (slot_at s n).registers (waits_idle it.waited) at asking.awake asking.program asking.phase step in
+        asked_for (act sync_files None) kind.Sync is.0 refl tt
+        (asked_by_word d s after 0 (slot_at s n).id FSREQ_SYNC k.serving.stands brings.0 brings.1) (λ sends. absurd (false≢true sends)) syncs
+        (word_request s after 0 (slot_at s n).id FSREQ_SYNC brings.0 brings.1 ∙ nobody) FSREQ_SYNC 0 brings.0 refl is.1
 
-      client : IsClient c n (client_id (step_of (slot_at after 0)) (slot_at after 0))
-      client = subst (λ (x : ServerStep). IsClient c n (client_id x (slot_at after 0))) (sym served.at_step) (record {
-        slot = sym (h.1.tabled.ids n live) ∙ ap (λ (x : ℕ). x % NENV) (sym sender_is);
-        same = is.1 ∙ sym own.id ∙ sym sender_is;
-      })
+    -- and that a file is removed
+    asked_remove : (path : ℕ) → place_of (slot_at s n) ≡ place.InService (service.Remove path) (step_at.Asking it.id) →
+        BringsRequest (service.Remove path) n s after → ServerStands d after c
+    unfolding rows_of
+    asked_remove path place_is brings =
+        asked_for (act (remove_path (before_first is_nul whole.bytes)) None) kind.Remove is.0 refl tt come.asked
+        (requested_where after 0 (ap (λ (o : Option Entry). is_some o) come.entry)
+        (request_begun n (act (remove_path (before_first is_nul whole.bytes)) None)))
+        (removes (before_first is_nul whole.bytes) (told_path (request_bytes after 0) whole.bytes whole.few whole.ended tells)) lent
+        FSREQ_REMOVE request_perm brings.0 refl is.1
+      where
+        gives : GivesPage n s after
+        gives = brings.1
+
+        there : (it.id ≡ (slot_at s n).id) × HasWholePath (view_of s.spaces (slot_at s n).directory) (slot_at s n) b path
+        there = subst (λ (p : Place). StandsAt p (view_of s.spaces (slot_at s n).directory) (slot_at s n) b) place_is own.at
+
+        whole : HasWholePath (view_of s.spaces (slot_at s n).directory) (slot_at s n) b path
+        whole = there.1
+
+        is : (c.server ≡ busy n (act (remove_path (before_first is_nul whole.bytes)) None) None) × (slot_id (c.slots n) ≡ b.id)
+        is = path_asked a c n b (slot_at s n) path whole.bytes (waits_idle it.waited) at whole.is_in whole.ended step
+
+        come : IsAskedBy s after 0 gives.entry.frame
+        come =
+            asked_by_page d s after 0 (slot_at s n).id FSREQ_REMOVE request_perm (slot_at s n).directory (page_number UTEMP) gives.entry
+            k.serving.stands stands.1.in_order brings.0 gives.stands gives.spaces lone
+          where
+            lone : (q : ℕ) (y : Entry) → is_server_page q ≡ true → entry_of s 0 q ≡ Some y → y.frame ≡ gives.entry.frame → q ≡ request_page
+            lone q y servers y_is same = elim (cases_eq q request_page) [
+              | inl here ↦ here
+              | inr ne ↦ absurd (others_lack h.1 d k.unopened n other live q ne y y_is (page_number UTEMP) gives.entry gives.stands (sym same))
+            ]
+
+        kept : whole.kept.entry ≡ lasting gives.entry
+        kept = same_Some whole.kept.entry (lasting gives.entry) (sym whole.kept.stands ∙ ap (option_map lasting) gives.stands)
+
+        tells : (i : ℕ) → i < position_or_len is_nul whole.bytes + 1 → request_bytes after 0 i ≡ slice_index whole.bytes i
+        tells i below =
+            let few = whole.few in
+            let ended = whole.ended in
+            let within : i < PGSIZE = omega (arith, below, few, ended) in
+            come.bytes i within ∙ ap (λ (x : Entry). slice_index (s.spaces.pages x.frame) i) (sym kept) ∙ whole.kept.same i below
+
+        home : (slot_at after n).directory ≡ (slot_at s n).directory
+        home = calm.asks a h (ap asks_by_page place_is)
+
+        apart : (slot_at s n).directory ≢ (slot_at s 0).directory
+        apart same = other (h.1.in_order.spaces.apart n 0 live (first_serves h.1).lives same)
+
+        put_there : Placed s.spaces after.spaces (slot_at s 0).directory (page_number REQUEST) (record { frame = gives.entry.frame; perm = request_perm })
+        put_there =
+            (inserted_given s.spaces after.spaces (slot_at s 0).directory (page_number REQUEST)
+            (record { frame = gives.entry.frame; perm = request_perm }) (slot_at s n).directory (page_number UTEMP) gives.entry h.1.in_order.frames
+            stands.1.in_order.frames refl gives.stands refl gives.spaces).placed
+
+        lent : IsLent after n
+        lent = record {
+          own = lasting gives.entry;
+          kept = ap (λ (q : ℕ). rows_of after.spaces q (page_number UTEMP)) home
+              ∙ (λ i. put_there.rows i (slot_at s n).directory (page_number UTEMP))
+              ∙ put-other (rows_of s.spaces) (slot_at s 0).directory (page_number REQUEST) (Some (record { frame = gives.entry.frame; perm = request_perm }))
+              (slot_at s n).directory (page_number UTEMP) (λ same. absurd (apart same))
+              ∙ ap (option_map lasting) gives.stands;
+          entry = lasting (record { frame = gives.entry.frame; perm = request_perm });
+          stands = ap (option_map lasting) come.entry;
+          same = refl;
+        }
 
   pub whole_goes_on : (written : List ℕ) → GoesOn n after a written → WholeGoesOn n (beside after (Some d)) a written
   whole_goes_on written goes = (goes.0, goes.1, goes.2, (goes.3, by_way (way goes.0 goes.3)))
@@ -416,14 +577,21 @@ module _ (d : Disk) (n : ℕ) (s after : KernelState) (other : n ≢ 0) (live : 
           let left = (left_of goes.0 goes.1).0 in
           left_whole it goes.0 goes.3 same left.files left.opened (names_kept left (names_given d s a k.serving)) (ids_kept goes.0 goes.1 goes.3 same)
           (served_clients_stay a goes.0 n below k.asked goes.1)
-      by_way (asked_it it) = asked_whole it goes.0 goes.1 goes.3
+      by_way (asked_it it) = by_service it.by_service it.at it.brings
+        where
+          by_service : (x : Service) → place_of (slot_at s n) ≡ place.InService x (step_at.Asking it.id) → BringsRequest x n s after →
+              ServerStands d after goes.0
+          by_service service.Sync place_is brings = asked_sync it goes.0 goes.1 goes.3 place_is brings
+          by_service (service.Remove path) place_is brings = asked_remove it goes.0 goes.1 goes.3 path place_is brings
+          by_service _ place_is brings = absurd brings
 
 -- So it keeps the whole.
 pub whole_kept : (disk : Option Disk) (n : ℕ) (s after : KernelState) (done : Progress) (written : List ℕ) → is_servers s n ≡ false →
-    ((names : Names) (a : AbstractState) → StandsFor names s a → n ≢ 0 → (b : Born) × (a.slots n ≡ born b)) → KeepsServer n s after → KeepsPlaces n s after →
-    KeepsStanding done n s after written → KeepsWhole done n (beside s disk) (beside after disk) written
-whole_kept None n s after done written user who server places keeps a h none_refused = absurd h.1
-whole_kept (Some d) n s after done written user who server places keeps a h none_refused = by_done done (keeps a h.0 none_refused)
+    is_awake (slot_at s n).status ≡ true → ((names : Names) (a : AbstractState) → StandsFor names s a → n ≢ 0 → (b : Born) × (a.slots n ≡ born b)) →
+    LeavesEach done n s after → RequestsCalmly n s after → KeepsStanding done n s after written →
+    KeepsWhole done n (beside s disk) (beside after disk) written
+whole_kept None n s after done written user awake who left_each calm keeps a h none_refused = absurd h.1
+whole_kept (Some d) n s after done written user awake who left_each calm keeps a h none_refused = by_done done (keeps a h.0 none_refused)
   where
     other : n ≢ 0
     other = others_slot h.0.1 n user
@@ -435,10 +603,12 @@ whole_kept (Some d) n s after done written user who server places keeps a h none
     live = born_live (born_at h.0.1 n b.0 b.1)
 
     stays_so : Stays after a written → WholeStays (beside after (Some d)) a written
-    stays_so stays = whole_stays d n s after other live server places a h.0 h.1 b.0 b.1 written stays
+    stays_so stays =
+        whole_stays d n s after other live awake left_each.server left_each.places left_each.working calm a h.0 h.1 b.0 b.1 written stays
 
     goes_so : GoesOn n after a written → WholeGoesOn n (beside after (Some d)) a written
-    goes_so goes = whole_goes_on d n s after other live server places a h.0 h.1 b.0 b.1 written goes
+    goes_so goes =
+        whole_goes_on d n s after other live awake left_each.server left_each.places left_each.working calm a h.0 h.1 b.0 b.1 written goes
 
     by_done : (x : Progress) → AbstractFollows x n after a written → WholeFollows x n (beside after (Some d)) a written
     by_done progress.Hidden stays = stays_so stays

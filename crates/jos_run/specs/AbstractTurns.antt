@@ -1,8 +1,9 @@
 -- Runs of the abstract system: turn after turn, each of the slot that round robin chooses among those that can run, with
 -- so many of its steps. And which turns a schedule allows.
 -- (MIT 6.828, kern/sched.c; turns of so many steps are this system's own.)
-use Rattle.std.specs.Prelude.{ℕ, ◌+◌, ◌%◌, ◌==◌, ◌&&◌, ◌||◌, nat_le, nat_lt, not, zero, suc, Bool, true, false, List, [], ◌∷◌}
+use Rattle.std.specs.Prelude.{◌≡◌, ◌<◌, ℕ, ◌+◌, ◌%◌, ◌==◌, ◌&&◌, ◌||◌, nat_le, nat_lt, not, zero, suc, Bool, true, false, List, [], ◌∷◌}
 use Rattle.std.specs.Prelude.{Option, Some, None, is_none, if◌then◌else◌, option_and_then}
+use Rattle.std.specs.Option.{ForSome}
 use Rattle.jos_base.specs.declared.numbers.TheConstants.{NENV, TURN_MAX}
 use Rattle.jos_base.specs.Words.{is_exactly}
 use Rattle.jos_sched.specs.Quantum.{quantum}
@@ -13,7 +14,8 @@ use Rattle.jos_kernel.specs.declared.report.Turn.{Turn}
 use Rattle.jos_base.specs.Below.{some_below}
 use Rattle.lib_os.specs.declared.service.Service.{Service}
 use Rattle.lib_os.specs.declared.service.Service.TheVariants as service
-use Rattle.lib_os.specs.AbstractState.{AbstractState, AbstractSlot, Server, born, serving, idle, acted, is_idle, Phase, in_service, can_run, is_live}
+use Rattle.lib_os.specs.AbstractState.{AbstractState, AbstractSlot, Server, born, serving, idle, looking, busy, acted}
+use Rattle.lib_os.specs.AbstractState.{is_idle, Phase, in_service, can_run, is_live}
 use Rattle.lib_os.specs.AbstractRun.{abs_step}
 
 -- ---- turns
@@ -62,6 +64,20 @@ end_of a turns spent =
     else if spent then Some Budget
     else if nat_le TURN_MAX turns then Some TurnsFull
     else None
+
+-- ---- behind the end
+
+-- The file server is busy with a request whose act is not made.
+abbrev pub is_acting : Server → Bool
+is_acting (looking client request number) = true
+is_acting (busy client request place) = true
+is_acting _ = false
+
+-- It has gone on alone, in so many steps, until its act was made, and in no more.
+pub record HasClosed (a b : AbstractState) (steps : ℕ) : Type 0 where
+  pub taken : steps_taken a 0 steps ≡ Some b
+  pub over : is_acting b.server ≡ false
+  pub needed : (k : ℕ) → k < steps → ForSome (steps_taken a 0 k) (λ c. is_acting c.server ≡ true)
 
 -- ---- schedules
 

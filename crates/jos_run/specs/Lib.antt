@@ -6,6 +6,7 @@ pub mod GuestSteps
 pub mod Guest
 pub mod MemoryProofs
 pub mod Worlds
+pub mod RemovalJobs
 pub mod ServerStands
 pub mod Steps
 pub mod StepsAtOnce
@@ -17,5 +18,6 @@ pub mod RunSteps
 pub mod RunReports
 pub mod Running
 pub mod RunEnds
+pub mod Closing
 pub mod DiskTouches
 pub mod Plans

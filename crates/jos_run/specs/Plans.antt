@@ -12,6 +12,7 @@ use Rattle.lib_msg.specs.ReceiveStages.{receive_at, receiving}
 use Rattle.lib_msg.specs.SendStages.{send_at, sending}
 use Rattle.lib_read.specs.ReadStages.{read_at, reading}
 use Rattle.lib_read.specs.StatStages.{stat_at, telling}
+use Rattle.lib_request.specs.RemoveStages.{remove_at, removing}
 use Rattle.lib_request.specs.SyncStages.{sync_at, syncing}
 use Rattle.lib_spawn.specs.WaitStages.{wait_at, waiting}
 use Rattle.lib_write.specs.WriteStages.{write_at, writing}
@@ -32,6 +33,7 @@ plan_of (stage.Write it) = writing it
 plan_of (stage.FileOnly it) = of_files it
 plan_of (stage.Stat it) = telling it
 plan_of (stage.Sync it) = syncing it
+plan_of (stage.Remove it) = removing it
 plan_of (stage.Nowhere it) = nowhere
 
 -- a service at a step
@@ -49,4 +51,5 @@ plan_at (service.Seek fd offset) step = or_nowhere of_files (file_only_at of.See
 plan_at (service.Stat fd va) step = or_nowhere telling (stat_at fd va step)
 plan_at (service.SetSize fd size) step = or_nowhere of_files (file_only_at of.SetSize fd step)
 plan_at service.Sync step = or_nowhere syncing (sync_at step)
+plan_at (service.Remove path) step = or_nowhere removing (remove_at path step)
 plan_at other step = or_nowhere memory_plan (memory_service other)

@@ -20,7 +20,7 @@ use Rattle.jos_run.specs.ServerStands.{StandsWhole}
 use Rattle.jos_run.specs.Start.{HoldsFiles, start_state}
 use Rattle.jos_run.specs.RunReports.{IsTold, IsToldCutOff}
 use Rattle.jos_run.specs.RunSteps.{HasGone}
-use Rattle.jos_run.specs.Worlds.{beside}
+use Rattle.jos_run.specs.Worlds.{World, beside}
 
 -- a program that is run: its image with the file that it was read from, its words, and what the run is given
 pub record Job : Type 0 where
@@ -67,13 +67,13 @@ abbrev pub CanBegin : Job → Type 0
 CanBegin p = IsSome (begun p)
 
 -- The run is over, and this is told of it, with the last of its traps; the console has gained what it has printed. With the
--- abstract system it is compared where the host tells a disk without a fault.
+-- abstract system it is compared where the host tells a disk without a fault. The one state is that behind its turns, and the other the last.
 abbrev pub HasRun : Job → Reported → List TrapLine → Around (Option Disk) → Around (Option (List ℕ)) → Type 0
 HasRun p report traps disks console =
-    CanBegin p × ((printed : List ℕ) × (last : KernelState) × Gains console printed
-    × IsTold p.schedule (BeginsWith p disks.before) p.frames p.steps report printed (beside last disks.after)
+    CanBegin p × ((printed : List ℕ) × (turned : World) × (last : KernelState) × Gains console printed
+    × IsTold p.schedule (BeginsWith p disks.before) p.frames p.steps report printed turned (beside last disks.after)
     × ((s : KernelState) × (begun p ≡ Some s)
-    × HasGone (beside s disks.before) (beside last disks.after) p.steps p.trace report traps printed))
+    × HasGone (beside s disks.before) turned (beside last disks.after) p.steps p.trace report traps printed))
 
 -- A call of the host failed in the run.
 abbrev pub IsCut : Job → CutOff → Around (Option Disk) → Around (Option (List ℕ)) → Type 0
@@ -104,8 +104,8 @@ HasRunCause faults (Err fault) = faults.after ≡ faults.before
 -- It has run from this state of the kernel on, and from each abstract state for which that stands with the disk.
 abbrev pub RunsFrom : KernelState → Setup → RunEnd → Around (Option Disk) → Around (Option (List ℕ)) → Type 0
 RunsFrom s setup (Ended report trace) disks console =
-    (printed : List ℕ) × (last : KernelState) × Gains console printed
-    × IsTold setup.schedule (StandsWhole (beside s disks.before)) setup.frames setup.budget report printed (beside last disks.after)
-    × HasGone (beside s disks.before) (beside last disks.after) setup.budget setup.trace report trace.items printed
+    (printed : List ℕ) × (turned : World) × (last : KernelState) × Gains console printed
+    × IsTold setup.schedule (StandsWhole (beside s disks.before)) setup.frames setup.budget report printed turned (beside last disks.after)
+    × HasGone (beside s disks.before) turned (beside last disks.after) setup.budget setup.trace report trace.items printed
 RunsFrom s setup (HostFault cut) disks console =
     IsToldCutOff setup.schedule (StandsWhole (beside s disks.before)) setup.frames cut console

@@ -1,5 +1,5 @@
 -- What turns of the kernel are to the abstract system: the same slot is chosen, the same end test holds, and a run goes on
--- from turn to turn and from step to step as the abstract run does. And its files are those of the disk.
+-- from turn to turn and from step to step as the abstract run does. And its files are those of the disk as the cache of the file server holds it.
 use Rattle.std.specs.Prelude.{◌≡◌, ℕ, ◌+◌, true, Bool, List, [], ◌∷◌, ◌++◌, length, false, Some}
 use Rattle.jos_base.specs.KernelState.{KernelState, turn_begun, turn_ended}
 use Rattle.jos_sched.specs.RoundRobin.{next}
@@ -11,10 +11,11 @@ use Rattle.lib_os.specs.Disk.{Disk}
 use Rattle.lib_os.specs.LibrarySteps.{NothingRefused}
 use Rattle.lib_os.specs.Rows.{Names}
 use Rattle.lib_os.specs.StandsFor.{StandsFor}
-use Rattle.jos_run.specs.AbstractTurns.{next_slot, end_of, turn_fits, fits}
+use Rattle.fs_tree.specs.TreeSteps.{memory_in}
+use Rattle.fs_serving.specs.ServerRuns.{HasFiles}
+use Rattle.jos_run.specs.AbstractTurns.{next_slot, end_of, turn_fits, fits, is_acting}
 use Rattle.jos_run.specs.LibraryRuns.{NoneRuns, OnlyRuns, OnlyFirstServes, IsBetween, IsInTurn, visible_steps, end_seen}
 use Rattle.jos_run.specs.ServerStands.{KeepsWhole, StandsWhole}
-use Rattle.jos_run.specs.Start.{HoldsFiles}
 use Rattle.jos_run.specs.Worlds.{World, beside, with_state}
 
 -- Between two turns the kernel chooses the slot that the abstract system chooses.
@@ -57,7 +58,8 @@ abbrev pub RunsFit : Type 0
 RunsFit = (schedule : List ℕ) (first : AbstractState) (turns : List Turn) (w : World) (written : List ℕ) →
     IsBetween schedule first turns w written → fits schedule 0 first turns ≡ true
 
--- Where the kernel's state stands for an abstract one beside the disk that the host tells, the files of the abstract system are those of the disk
--- itself, which has no fault.
+-- Where the kernel's state stands for an abstract one beside the disk that the host tells, and the file server has no request whose act is not
+-- made, the files of the abstract system are those of the disk as its cache holds it.
 abbrev pub FilesStand : Type 0
-FilesStand = (d : Disk) (s : KernelState) (a : AbstractState) → StandsWhole (beside s (Some d)) a → HoldsFiles d a.files
+FilesStand = (d : Disk) (s : KernelState) (a : AbstractState) → StandsWhole (beside s (Some d)) a → is_acting a.server ≡ false →
+    HasFiles d.count (memory_in d s 0) a.files

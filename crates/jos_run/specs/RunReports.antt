@@ -1,6 +1,7 @@
 -- What is told of a run of the library's programs: the turns that it took, and how it ended. The abstract system takes
 -- these turns and prints these bytes, up to the first time that something was refused for want of a frame or a slot.
-use Rattle.std.specs.Prelude.{◌≡◌, ◌≢◌, ◌<◌, ◌≤◌, ◌⊎◌, ℕ, ◌+◌, ◌-◌, ◌==◌, Bool, true, List, [], ◌∷◌, ◌++◌, length, Option, Some, None}
+use Rattle.std.specs.Prelude.{◌≡◌, ◌≢◌, ◌<◌, ◌≤◌, ◌⊎◌, ℕ, ◌+◌, ◌-◌, ◌^◌, min, ◌==◌, Bool, true, false, List, [], ◌∷◌, ◌++◌, length, Option, Some, None}
+use Rattle.std.specs.Option.{ForSome}
 use Rattle.jos_host.specs.Frames.{Around}
 use Rattle.jos_host.specs.Gains.{Gains}
 use Rattle.jos_base.specs.declared.numbers.TheConstants.{TURN_MAX}
@@ -12,10 +13,13 @@ use Rattle.jos_kernel.specs.declared.report.Turn.{Turn}
 use Rattle.jos_kernel.specs.Books.{turn_of}
 use Rattle.jos_kernel.specs.ExoRun.{bytes_counted}
 use Rattle.jos_kernel.specs.Reports.{Reported, CutOff}
+use Rattle.fs_layout.specs.FileTree.{FileSystem}
 use Rattle.lib_os.specs.AbstractState.{AbstractState}
+use Rattle.lib_os.specs.Disk.{Disk}
 use Rattle.lib_os.specs.Need.{need}
-use Rattle.jos_run.specs.AbstractTurns.{next_slot, turn_begun, steps_taken, abs_run, end_of, fits, all_fit}
+use Rattle.jos_run.specs.AbstractTurns.{HasClosed, next_slot, turn_begun, steps_taken, abs_run, end_of, fits, all_fit, is_acting}
 use Rattle.jos_run.specs.ServerStands.{StandsWhole}
+use Rattle.jos_run.specs.Start.{HoldsFiles}
 use Rattle.jos_run.specs.Worlds.{World}
 
 -- ---- without a refusal
@@ -37,7 +41,7 @@ LacksSpace frames now = (frames - reserved_frames frames ≤ need now) ⊎ (now.
 -- In the turn that is told something was refused, when these of the bytes had been printed. The abstract system has taken
 -- the turns before and some visible steps of that turn, with these bytes; and where it has come to then, there is no room for
 -- more.
-pub record IsRefused (schedule : List ℕ) (first : AbstractState) (frames : ℕ) (turns : List Turn) (refusal : Refusal)
+pub record IsRefusedInTurn (schedule : List ℕ) (first : AbstractState) (frames : ℕ) (turns : List Turn) (refusal : Refusal)
     (printed : List ℕ) : Type 0 where
   -- the turn, with those before it and behind it
   pub before : List Turn
@@ -63,6 +67,33 @@ pub record IsRefused (schedule : List ℕ) (first : AbstractState) (frames : ℕ
   pub console_len : refusal.console_len ≡ bytes_counted told
   pub needed : LacksSpace frames now
 
+-- Behind the turns something was refused: the abstract system has taken all of them, and some visible steps of the file server, which was busy
+-- with a request at each; and where it has come to then, there is no room for more.
+pub record IsRefusedBehind (schedule : List ℕ) (first : AbstractState) (frames : ℕ) (turns : List Turn) (refusal : Refusal)
+    (printed : List ℕ) : Type 0 where
+  pub place : refusal.turn ≡ length turns
+  -- where the turns have led to
+  pub begun : AbstractState
+  pub ran : abs_run first turns ≡ Some begun
+  pub fit : fits schedule 0 first turns ≡ true
+  -- where the step began that was refused a frame or a slot
+  pub visible : ℕ
+  pub now : AbstractState
+  pub taken : steps_taken begun 0 visible ≡ Some now
+  pub acting : (k : ℕ) → k ≤ visible → ForSome (steps_taken begun 0 k) (λ c. is_acting c.server ≡ true)
+  -- what was printed by then
+  pub told : List ℕ
+  pub rest : List ℕ
+  pub printed_is : printed ≡ told ++ rest
+  pub console : now.console ≡ first.console ++ told
+  pub console_len : refusal.console_len ≡ bytes_counted told
+  pub needed : LacksSpace frames now
+
+-- in a turn, or behind all of them
+pub data IsRefused (schedule : List ℕ) (first : AbstractState) (frames : ℕ) (turns : List Turn) (refusal : Refusal) (printed : List ℕ) : Type 0 where
+  in_a_turn : IsRefusedInTurn schedule first frames turns refusal printed → IsRefused schedule first frames turns refusal printed
+  behind_turns : IsRefusedBehind schedule first frames turns refusal printed → IsRefused schedule first frames turns refusal printed
+
 -- ---- a run that has ended by itself
 
 -- all steps of turns
@@ -71,37 +102,59 @@ steps_of [] = 0
 steps_of (turn ∷ rest) = turn.visible + turn.hidden + steps_of rest
 
 -- The end tests on what the abstract system has come to with these turns tell this end; `spent` says whether the steps are
--- used up. Nothing else cuts a turn short. The kernel's last state, with the disk as it is then, stands for what the abstract
+-- used up. Nothing else cuts a turn short. The kernel's state behind the turns, with the disk as it is then, stands for what the abstract
 -- system has come to.
 pub record HasEnded (schedule : List ℕ) (first : AbstractState) (turns : List Turn) (printed : List ℕ) (spent : Bool)
-    (last : World) (end : End) : Type 0 where
+    (turned : World) (end : End) : Type 0 where
   pub now : AbstractState
-  pub stands : StandsWhole last now
+  pub stands : StandsWhole turned now
   pub taken : HasTakenTurns schedule first turns printed now
   pub whole : end ≢ Budget → all_fit schedule 0 first turns ≡ true
   pub over : end_of now (length turns) spent ≡ Some end
 
-abbrev pub ToldBy : Option Refusal → List ℕ → AbstractState → ℕ → ℕ → Reported → List ℕ → World → Type 0
-ToldBy None schedule first frames budget report printed last =
-    (report.refused ≡ 0) × HasEnded schedule first report.turns printed (report.steps == budget) last report.end
-ToldBy (Some refusal) schedule first frames budget report printed last =
+-- ---- and how it closes
+
+-- the disk that is told, if one is, has these files
+abbrev pub TellsFiles : Option Disk → FileSystem → Type 0
+TellsFiles None files = Unit {0}
+TellsFiles (Some d) files = HoldsFiles d files
+
+-- Behind the turns the file server alone has gone on, where it was busy with a request, until its act was made, in so many of the kernel's steps,
+-- of which no more are visible; and the disk has the files of the abstract system behind that. Where they are more than 2 ^ 32 - 1, this is told.
+pub record HasFinished (now : AbstractState) (closing : ℕ) (last : World) : Type 0 where
+  pub closed : AbstractState
+  pub visible : ℕ
+  pub closes : HasClosed now closed visible
+  pub made : ℕ
+  pub counted : closing ≡ min made (2 ^ 32 - 1)
+  pub within : visible ≤ made
+  pub none : is_acting now.server ≡ false → closing ≡ 0
+  pub some : is_acting now.server ≡ true → 0 < closing
+  pub files : TellsFiles last.disk closed.files
+
+abbrev pub ToldBy : Option Refusal → List ℕ → AbstractState → ℕ → ℕ → Reported → List ℕ → World → World → Type 0
+ToldBy None schedule first frames budget report printed turned last =
+    (report.refused ≡ 0) × (ended : HasEnded schedule first report.turns printed (report.steps == budget) turned report.end)
+    × HasFinished ended.now report.closing last
+ToldBy (Some refusal) schedule first frames budget report printed turned last =
     (0 < report.refused) × IsRefused schedule first frames report.turns refusal printed
 
--- What a report tells of a run with so many frames and steps, which has printed these bytes and has come to this state: from
--- each abstract state on with which it may begin.
+-- What a report tells of a run with so many frames and steps, which has printed these bytes, has come to the one state with its turns, and to the
+-- other behind all: from each abstract state on with which it may begin.
 pub record IsTold (schedule : List ℕ) (Begins : AbstractState → Type 0) (frames budget : ℕ) (report : Reported) (printed : List ℕ)
-    (last : World) : Type 0 where
+    (turned last : World) : Type 0 where
   pub steps : report.steps ≡ steps_of report.turns
   pub within : report.steps ≤ budget
   pub spent : report.end ≡ Budget → report.steps ≡ budget
   pub most : length report.turns ≤ TURN_MAX
-  pub closing : report.closing ≡ 0
-  pub by_refusal : (first : AbstractState) → Begins first → ToldBy report.first_refused schedule first frames budget report printed last
+  pub closing : report.closing ≤ 2 ^ 32 - 1
+  pub by_refusal : (first : AbstractState) → Begins first →
+      ToldBy report.first_refused schedule first frames budget report printed turned last
 
 -- ---- a run that a failed call of the host cut off
 
 -- The call was made in the last step of the last turn. Of what the step prints a part came.
-pub record IsCutOff (schedule : List ℕ) (first : AbstractState) (turns : List Turn) (printed : List ℕ) : Type 0 where
+pub record IsCutOffPrinting (schedule : List ℕ) (first : AbstractState) (turns : List Turn) (printed : List ℕ) : Type 0 where
   pub before : List Turn
   pub slot : ℕ
   pub visible : ℕ
@@ -121,6 +174,12 @@ pub record IsCutOff (schedule : List ℕ) (first : AbstractState) (turns : List 
   pub rest : List ℕ
   pub whole_is : whole ≡ part ++ rest
   pub printed_is : printed ≡ told ++ part
+
+-- It printed; or it moved a block, in a hidden step of the file server, which is the last of the last turn or comes behind the turns. Then the
+-- abstract system has taken all turns that are told, and has printed all.
+pub data IsCutOff (schedule : List ℕ) (first : AbstractState) (turns : List Turn) (printed : List ℕ) : Type 0 where
+  printing : IsCutOffPrinting schedule first turns printed → IsCutOff schedule first turns printed
+  quietly : (now : AbstractState) → HasTakenTurns schedule first turns printed now → IsCutOff schedule first turns printed
 
 abbrev pub CutOffBy : Option Refusal → List ℕ → AbstractState → ℕ → List Turn → List ℕ → Type 0
 CutOffBy None schedule first frames turns printed = IsCutOff schedule first turns printed

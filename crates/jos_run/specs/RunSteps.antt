@@ -1,8 +1,9 @@
--- A run as the states of the kernel tell it, with the disk: the steps that were made, the traps that programs raised in them, and the end.
-use Rattle.std.specs.Prelude.{◌≡◌, ℕ, ◌+◌, ◌==◌, ◌++◌, Bool, true, false, List, [], ◌∷◌, length, Option, Some, None, Ok, if◌then◌else◌}
+-- A run as the states of the kernel tell it, with the disk: the steps that were made, the traps that programs raised in them, the end, and what comes
+-- behind it.
+use Rattle.std.specs.Prelude.{◌≡◌, ◌<◌, ◌≤◌, ℕ, ◌+◌, ◌-◌, ◌^◌, min, ◌==◌, ◌&&◌, ◌++◌, Bool, true, false, List, [], ◌∷◌, length, Option, Some, None, Ok, if◌then◌else◌}
 use Rattle.circular_buffer.specs.Buffer.{keep_last}
 use Rattle.jos_base.specs.Environments.{is_running}
-use Rattle.jos_base.specs.KernelState.{KernelState, slot_at, turn_begun, turn_ended}
+use Rattle.jos_base.specs.KernelState.{KernelState, slot_at, turn_begun, turn_ended, with_spaces}
 use Rattle.jos_sched.specs.RoundRobin.{next}
 use Rattle.jos_kernel.specs.declared.report.End.{End}
 use Rattle.jos_kernel.specs.declared.report.End.TheVariants.{Budget}
@@ -11,10 +12,14 @@ use Rattle.jos_kernel.specs.declared.trace.TrapLine.{TrapLine}
 use Rattle.jos_kernel.specs.Books.{turn_of}
 use Rattle.jos_kernel.specs.Reports.{Reported}
 use Rattle.lib_os.specs.declared.progress.Progress.{Progress}
+use Rattle.lib_os.specs.BlockCache.{CachedBlocks, block_value}
+use Rattle.lib_os.specs.Disk.{Disk}
 use Rattle.lib_os.specs.LibrarySteps.{LeavesRest}
+use Rattle.fs_cache.specs.CacheStands.{CacheAt, cached_in}
+use Rattle.fs_serving.specs.ServerRuns.{is_serving}
 use Rattle.jos_run.specs.LibraryRuns.{visible_steps, hidden_steps, end_seen}
-use Rattle.jos_run.specs.ServerStands.{KeepsWhole}
-use Rattle.jos_run.specs.Steps.{LeavesAs, RaisesAs, is_servers}
+use Rattle.jos_run.specs.ServerStands.{KeepsWhole, LeavesServed, step_of}
+use Rattle.jos_run.specs.Steps.{LeavesAs, RaisesAs, is_awake, is_servers}
 use Rattle.jos_run.specs.Worlds.{World, with_state}
 
 -- ---- steps
@@ -45,7 +50,8 @@ pub record IsMade (w : World) (step : StepMade) : Type 0 where
   pub raises : RaisesAs (is_servers (entered_by w step).state step.slot) step.slot (entered_by w step).state step.trap step.left.state
   pub keeps : KeepsWhole step.progress step.slot (entered_by w step) step.left step.written
   pub rest : LeavesRest (entered_by w step).state step.left.state
-  pub leaves : LeavesAs (is_servers (entered_by w step).state step.slot) (Ok step.progress) step.slot (entered_by w step).state step.left.state
+  pub leaves : LeavesAs (is_servers (entered_by w step).state step.slot) (entered_by w step).disk (Ok step.progress) step.slot (entered_by w step).state
+      step.left.state
 
 -- These steps lead from one state to another.
 unfoldable pub LeadTo : List StepMade → World → World → Type 0
@@ -101,19 +107,70 @@ abbrev pub end_at : KernelState → ℕ → Bool → Option End
 end_at s turns spent =
     if is_in_turn s s.last then (if spent then Some Budget else None) else end_seen s turns spent
 
+-- ---- behind the end
+
+-- A step of the file server behind the turns: what it comes to, what it writes to the console, and the state that it leaves, with the disk.
+pub record ClosingStep : Type 0 where
+  pub progress : Progress
+  pub written : List ℕ
+  pub left : World
+
+-- The file server may run, and stands where it has a request whose act is not made.
+abbrev pub acts_in : KernelState → Bool
+acts_in s = is_servers s 0 && is_awake (slot_at s 0).status && is_serving (step_of (slot_at s 0))
+
+-- The step is made from this state on, where the file server acts, and is one that it promises.
+pub record IsClosing (w : World) (step : ClosingStep) : Type 0 where
+  pub acts : acts_in w.state ≡ true
+  pub keeps : KeepsWhole step.progress 0 w step.left step.written
+  pub rest : LeavesRest w.state step.left.state
+  pub leaves : LeavesServed w.disk (Ok step.progress) w.state step.left.state
+
+-- These steps lead from one state to another.
+unfoldable pub CloseTo : List ClosingStep → World → World → Type 0
+CloseTo [] v w = v ≡ w
+CloseTo (step ∷ rest) v w = IsClosing v step × CloseTo rest step.left w
+
+-- and what was written in them
+unfoldable pub closing_written : List ClosingStep → List ℕ
+closing_written [] = []
+closing_written (step ∷ rest) = step.written ++ closing_written rest
+
+-- Where the cache of the file server stands over a disk that was told, one is told that holds what the cache held of it.
+pub record HoldsCache (d e : Disk) (c : CachedBlocks) : Type 0 where
+  pub count : e.count ≡ d.count
+  pub blocks : (n : ℕ) → n < d.count → e.block n ≡ block_value d c n
+  pub beyond : (n : ℕ) → d.count ≤ n → e.block n ≡ d.block n
+
+abbrev pub IsWrittenOver : Option Disk → KernelState → Option Disk → Type 0
+IsWrittenOver None s after = after ≡ None
+IsWrittenOver (Some d) s after = CacheAt d s 0 → (e : Disk) × (after ≡ Some e) × HoldsCache d e (cached_in s 0)
+
+-- The blocks of the cache are written to the disk; of the kernel's state no more is other than spaces.
+pub record IsWrittenBack (before after : World) : Type 0 where
+  pub spaces : after.state ≡ with_spaces before.state after.state.spaces
+  pub blocks : IsWrittenOver before.disk before.state after.disk
+
 -- ---- what is told
 
--- From one state on steps were made, as many as the report counts, which have printed these bytes, with these as the last of
--- their traps; and the state to which they lead tells the end, the turns, the refusals and the upcalls of the report.
-pub record HasGone (first last : World) (budget most_traps : ℕ) (report : Reported) (traps : List TrapLine) (printed : List ℕ) :
+-- From one state on steps were made in turns, as many as the report counts, which have printed these bytes, with these as the last of
+-- their traps; and the state to which they lead tells the end and the turns of the report. From there the file server went on alone, in as many
+-- steps as the report counts behind the end (or in more, where it counts 2 ^ 32 - 1); the state to which they lead tells the refusals and the
+-- upcalls; and then the blocks of its cache were written to the disk.
+pub record HasGone (first turned last : World) (budget most_traps : ℕ) (report : Reported) (traps : List TrapLine) (printed : List ℕ) :
     Type 0 where
   pub steps : List StepMade
-  pub lead : LeadTo steps first last
+  pub lead : LeadTo steps first turned
   pub steps_are : report.steps ≡ length steps
   pub turns : report.turns ≡ turns_with [] steps
-  pub turns_count : length report.turns ≡ last.state.turns
-  pub refused : report.refused ≡ last.state.refusals
-  pub upcalls : report.upcalls ≡ last.state.upcalls
-  pub end : end_at last.state (length report.turns) (report.steps == budget) ≡ Some report.end
-  pub printed_are : printed ≡ written_in steps
+  pub turns_count : length report.turns ≡ turned.state.turns
+  pub end : end_at turned.state (length report.turns) (report.steps == budget) ≡ Some report.end
   pub last_traps : traps ≡ keep_last most_traps (traps_of steps)
+  pub closing : List ClosingStep
+  pub closed : World
+  pub close : CloseTo closing turned closed
+  pub closing_are : report.closing ≡ min (length closing) (2 ^ 32 - 1)
+  pub refused : report.refused ≡ closed.state.refusals
+  pub upcalls : report.upcalls ≡ closed.state.upcalls
+  pub printed_are : printed ≡ written_in steps ++ closing_written closing
+  pub written_back : IsWrittenBack closed last

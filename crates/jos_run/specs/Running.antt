@@ -26,7 +26,7 @@ use Rattle.jos_run.specs.declared.library_run.LibraryRun.{LibraryRun}
 use Rattle.jos_run.specs.Served.{kernel_state}
 use Rattle.jos_run.specs.LibraryRuns.{IsBetween, IsInTurn, end_seen, others_live}
 use Rattle.jos_run.specs.RunSteps.{StepMade, LeadTo, traps_of, written_in, turns_with, is_in_turn, end_at}
-use Rattle.jos_run.specs.RunReports.{IsRefused, HasEnded, steps_of, CutOffBy}
+use Rattle.jos_run.specs.RunReports.{IsRefusedInTurn, HasEnded, steps_of, CutOffBy}
 use Rattle.jos_run.specs.Worlds.{beside, told_disk}
 
 abbrev pub state_of : LibraryRun → KernelState
@@ -71,7 +71,7 @@ pub record StandsSo (first : AbstractState) (frames : ℕ) (disk : Option Disk) 
 abbrev pub RunsBy : Option Refusal → AbstractState → ℕ → Option Disk → LibraryRun → List ℕ → Type 0
 RunsBy None first frames disk r printed = StandsSo first frames disk r printed
 RunsBy (Some refusal) first frames disk r printed =
-    (0 < (state_of r).refusals) × IsRefused r.book.schedule first frames (turns_so_far r) refusal printed
+    (0 < (state_of r).refusals) × IsRefusedInTurn r.book.schedule first frames (turns_so_far r) refusal printed
 
 -- The run has come so far from this abstract state on, with so many frames and this disk, and has printed these bytes.
 abbrev pub Runs : AbstractState → ℕ → Option Disk → LibraryRun → List ℕ → Type 0

@@ -1,33 +1,36 @@
 -- What is known of the file server beside what its environment has where the kernel's state stands for an abstract one: at which of its steps
--- it stands over the disk, for whom, and which pages it has. (As far as services are built all that it is asked for is sync, and it has read no
--- block.)
-use Rattle.std.specs.Prelude.{◌≡◌, ◌≢◌, ℕ, ◌+◌, ◌%◌, ◌++◌, true, List, [], Option, Some, None, Result, Ok, Err, length}
+-- it stands over the disk, for whom, and by whose page it serves. (As far as services are built all that it is asked for is sync, and that a file is
+-- removed; and nothing is ever opened.)
+use Rattle.std.specs.Prelude.{◌≡◌, ◌==◌, ◌<◌, ℕ, ◌%◌, ◌++◌, Bool, true, false, List, [], Option, Some, None, Result, Ok, Err, length}
 use Rattle.jos_host.specs.declared.host.Failed.{Failed}
-use Rattle.jos_base.specs.declared.numbers.TheConstants.{NENV, PTE_P, PTE_U, PTE_W}
+use Rattle.jos_base.specs.declared.numbers.TheConstants.{NENV, UTEMP}
 use Rattle.jos_base.specs.Environments.{Slot, is_runnable, is_running}
 use Rattle.jos_base.specs.KernelState.{KernelState, slot_at}
 use Rattle.jos_base.specs.Reach.{Entry}
-use Rattle.jos_base.specs.SpacesState.{zero_page}
-use Rattle.fs_layout.specs.FileTree.{sync_files}
-use Rattle.lib_os.specs.declared.numbers.TheConstants.{OPEN_RECORDS, SHORT_QUANTUM}
+use Rattle.jos_base.specs.Words.{page_number}
+use Rattle.fs_layout.specs.FileTree.{remove_path, sync_files}
+use Rattle.lib_os.specs.declared.numbers.TheConstants.{REQUEST, SHORT_QUANTUM}
 use Rattle.lib_os.specs.declared.progress.Progress.{Progress}
 use Rattle.lib_os.specs.declared.progress.Progress.TheVariants as progress
 use Rattle.lib_os.specs.AbstractLaws.{ServesWhoAsked, client_served}
 use Rattle.lib_os.specs.AbstractRun.{abs_step, may_wait}
 use Rattle.lib_os.specs.AbstractState.{AbstractState, Server, leaving, idle, busy, acted, act, slot_id}
 use Rattle.lib_os.specs.Disk.{Disk}
-use Rattle.lib_os.specs.LibraryPages.{region_index}
 use Rattle.lib_os.specs.LibrarySteps.{KeepsNumbers, KeepsPlaces, KeepsUses, LeavesRest, NothingRefused, Stands, TakesAtMost}
+use Rattle.lib_os.specs.Rows.{rows_of}
 use Rattle.lib_os.specs.UserCalls.{Output, Prints, PrintsPart}
 use Rattle.fs_blocks.specs.declared.place.CachePlace.{CachePlace}
-use Rattle.fs_blocks.specs.declared.place.CachePlace.TheVariants as cache
-use Rattle.fs_blocks.specs.CachePlaces.{state_in}
+use Rattle.fs_blocks.specs.declared.place.CachePlace.TheVariants as at
+use Rattle.fs_blocks.specs.CachePlaces.{block_at}
+use Rattle.fs_cache.specs.CacheSteps.{cache_state}
 use Rattle.fs_requests.specs.declared.state.ServerState.{ServerState}
 use Rattle.fs_requests.specs.declared.state.ServerStep.{ServerStep}
 use Rattle.fs_requests.specs.declared.state.ServerStep.TheVariants as step
 use Rattle.fs_requests.specs.ServerWords.{server_in}
-use Rattle.fs_seen.specs.ServerMemory.{records_page}
-use Rattle.fs_seen.specs.ServerWhole.{IsServing}
+use Rattle.fs_seen.specs.ServerMemory.{has_request, view_in}
+use Rattle.fs_seen.specs.ServerWhole.{IsServing, NothingOpened}
+use Rattle.fs_tree.specs.TreeSteps.{job_in}
+use Rattle.jos_run.specs.RemovalJobs.{HasJob}
 use Rattle.jos_run.specs.Worlds.{World}
 
 -- ---- its step
@@ -50,44 +53,57 @@ client_id step.ReadingKind k = k.rendezvous.sender
 client_id step.ReadingClient k = k.rendezvous.sender
 client_id _ k = (serving_at k).client
 
--- As far as services are built, what is asked for is sync.
+-- As far as services are built, what is asked for is sync, or that a file is removed.
 abbrev pub IsBuiltRequest : Server → Type 0
 IsBuiltRequest leaving = Unit {0}
 IsBuiltRequest idle = Unit {0}
 IsBuiltRequest (busy client (act sync_files None) None) = Unit {0}
+IsBuiltRequest (busy client (act (remove_path path) None) None) = Unit {0}
 IsBuiltRequest (acted client answer [] None) = Unit {0}
 IsBuiltRequest _ = ⊥
 
--- the cache has nothing under way but a flush that looks at regions
-abbrev pub IsBareCache : CachePlace → Type 0
-IsBareCache cache.Resting = Unit {0}
-IsBareCache (cache.FlushRegion block) = Unit {0}
-IsBareCache _ = ⊥
-
 -- ---- its pages
 
--- Of pages it has that of the records of open files alone, which holds zeros.
-pub record HasRecordsAlone (s : KernelState) : Type 0 where
+-- The page of its request is the one in which its client has told it.
+pub record IsLent (s : KernelState) (client : ℕ) : Type 0 where
+  pub own : Entry
+  pub kept : rows_of s.spaces (slot_at s client).directory (page_number UTEMP) ≡ Some own
   pub entry : Entry
-  pub stands : s.spaces.entries (slot_at s 0).directory records_page ≡ Some entry
-  pub bits : entry.perm ≡ PTE_P + PTE_U + PTE_W
-  pub zeros : s.spaces.pages entry.frame ≡ zero_page
-  pub alone : (p : ℕ) → p ≢ records_page → s.spaces.entries (slot_at s 0).directory p ≡ None
-  pub tables : (r : ℕ) → r ≢ region_index OPEN_RECORDS → s.spaces.regions (slot_at s 0).directory r ≡ None
+  pub stands : rows_of s.spaces (slot_at s 0).directory (page_number REQUEST) ≡ Some entry
+  pub same : own.frame ≡ entry.frame
+
+-- It is so until the act is made, where the request has a page. There is none where a sync is asked for, nor while it waits for a request.
+abbrev pub HasLent : Server → KernelState → Type 0
+HasLent leaving s = step_of (slot_at s 0) ≡ step.Receiving → has_request s 0 ≡ false
+HasLent idle s = has_request s 0 ≡ false
+HasLent (busy client (act sync_files None) None) s = has_request s 0 ≡ false
+HasLent (busy client (act (remove_path path) None) None) s = IsLent s client
+HasLent _ s = Unit {0}
 
 -- ---- over the disk
 
--- It stands at its step over the disk, its words are twelve, and it serves who has asked; no file was ever open, it has no page but that of the
--- records, and its cache is about to take none.
+-- The block for which its cache is to have a page is one of the disk; to flush, and to find what is there, it takes none.
+abbrev pub BringsOwn : Disk → CachePlace → Type 0
+BringsOwn d at.Resting = Unit {0}
+BringsOwn d (at.Found block) = Unit {0}
+BringsOwn d (at.FlushRegion block) = Unit {0}
+BringsOwn d (at.FlushPage block) = Unit {0}
+BringsOwn d (at.FlushWriting block) = Unit {0}
+BringsOwn d (at.FlushSettling block) = Unit {0}
+BringsOwn d place = block_at place < d.count
+
+-- It stands at its step over the disk, its words are twelve, its cache brings blocks of the disk, its job is a removal's, it serves who has asked,
+-- by the page that this one has lent; and no file was ever open.
 pub record ServerStands (d : Disk) (s : KernelState) (a : AbstractState) : Type 0 where
   pub serving : IsServing d s 0 a
   pub twelve : length (slot_at s 0).extra ≡ 12
+  pub brings : BringsOwn d (cache_state s 0).place
+  pub job : HasJob (step_of (slot_at s 0)) (job_in s 0)
   pub client : (client : ℕ) → client_served a.server ≡ Some client → IsClient a client (client_id (step_of (slot_at s 0)) (slot_at s 0))
   pub asked : ServesWhoAsked a
   pub built : IsBuiltRequest a.server
-  pub records : HasRecordsAlone s
-  pub cache : IsBareCache (state_in (slot_at s 0).extra).place
-  pub unheld : (number : ℕ) → (a.opened number).held_by ≡ None
+  pub lent : HasLent a.server s
+  pub unopened : NothingOpened a (view_in d s 0)
 
 -- Where the host does not tell its files nothing is known of the server.
 abbrev pub ServesOver : Option Disk → KernelState → AbstractState → Type 0
@@ -121,13 +137,17 @@ abbrev pub KeepsWhole : Progress → ℕ → World → World → List ℕ → Ty
 KeepsWhole progress n before after written =
     (a : AbstractState) → StandsWhole before a → NothingRefused before.state after.state → WholeFollows progress n after a written
 
+-- Where a call of the host failed it was made in a step that is seen, and prints so much; or, by the file server, in one that nobody sees.
+abbrev pub WouldFollow : Bool → ℕ → AbstractState → List ℕ → Type 0
+WouldFollow true n a written = written ≡ []
+WouldFollow false n a written = (b : AbstractState) × (abs_step a n ≡ Some b) × (b.console ≡ a.console ++ written)
+
 -- The same with what was printed. Where the host failed, nothing is said of the state, and what came is a part of what the slot's step prints.
 abbrev pub IsWholeStep : Result Progress Failed → ℕ → World → World → Output → Type 0
 IsWholeStep (Ok progress) n before after output =
     (written : List ℕ) × Prints output written × KeepsWhole progress n before after written
 IsWholeStep (Err _) n before after output =
-    (written : List ℕ) × PrintsPart output written
-    × ((a : AbstractState) → StandsWhole before a → (b : AbstractState) × (abs_step a n ≡ Some b) × (b.console ≡ a.console ++ written))
+    (written : List ℕ) × PrintsPart output written × ((a : AbstractState) → StandsWhole before a → WouldFollow (n == 0) n a written)
 
 -- ---- what its step leaves
 
@@ -141,17 +161,18 @@ abbrev pub MayGiveUpServing : Progress → AbstractState → Type 0
 MayGiveUpServing progress.Hidden a = WaitsToReply a.server
 MayGiveUpServing _ a = ⊥
 
--- What a step of the file server leaves to itself and to the others, whatever it stands for; it goes on in its turn, waits, or may give it up.
-pub record ServerLeaves (done : Progress) (before after : KernelState) : Type 0 where
+-- What a step of the file server leaves to itself and to the others, whatever it stands for; over the disk that the host tells, if it tells one, it
+-- goes on in its turn, waits, or may give it up.
+pub record ServerLeaves (over : Option Disk) (done : Progress) (before after : KernelState) : Type 0 where
   pub rest : LeavesRest before after
   pub uses : KeepsUses 0 before after
   pub places : KeepsPlaces 0 before after
   pub numbers : KeepsNumbers 0 before after
   pub takes : TakesAtMost 2 before.spaces after.spaces
-  pub turn : (disk : Option Disk) (a : AbstractState) → Stands before a → ServesOver disk before a → is_running (slot_at before 0).status ≡ true →
+  pub turn : (a : AbstractState) → Stands before a → ServesOver over before a → is_running (slot_at before 0).status ≡ true →
       is_runnable (slot_at after 0).status ≡ true → MayGiveUpServing done a
 
 -- Where the host failed nothing is said.
-abbrev pub LeavesServed : Result Progress Failed → KernelState → KernelState → Type 0
-LeavesServed (Ok done) before after = ServerLeaves done before after
-LeavesServed (Err _) before after = Unit {0}
+abbrev pub LeavesServed : Option Disk → Result Progress Failed → KernelState → KernelState → Type 0
+LeavesServed over (Ok done) before after = ServerLeaves over done before after
+LeavesServed over (Err _) before after = Unit {0}

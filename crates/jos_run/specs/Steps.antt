@@ -16,6 +16,7 @@ use Rattle.lib_os.specs.declared.place.Step.{Step}
 use Rattle.lib_os.specs.declared.place.Step.TheVariants as step
 use Rattle.lib_os.specs.declared.progress.Progress.{Progress}
 use Rattle.lib_os.specs.declared.service.Service.{Service}
+use Rattle.lib_os.specs.Disk.{Disk}
 use Rattle.lib_os.specs.LibrarySteps.{GivesUp, Leaves, Lowers, TakesByPlace, is_to_copy}
 use Rattle.lib_os.specs.Places.{place_of}
 use Rattle.lib_os.specs.Rows.{rows_of}
@@ -92,7 +93,7 @@ pub record LeavesByPlace (did : Result Progress Failed) (n : ℕ) (before after 
   pub gives_up : GivesUp did (slot_at before n) (slot_at after n)
   pub takes : IfOk did (λ done. TakesByPlace n before after)
 
--- What a step leaves by whose it is: the file server's, which stands in slot 0, or another's.
-abbrev pub LeavesAs : Bool → Result Progress Failed → ℕ → KernelState → KernelState → Type 0
-LeavesAs true did n before after = n ≡ 0 → LeavesServed did before after
-LeavesAs false did n before after = LeavesByPlace did n before after
+-- What a step leaves by whose it is: the file server's, which stands in slot 0, over the disk that the host tells, or another's.
+abbrev pub LeavesAs : Bool → Option Disk → Result Progress Failed → ℕ → KernelState → KernelState → Type 0
+LeavesAs true over did n before after = n ≡ 0 → LeavesServed over did before after
+LeavesAs false over did n before after = LeavesByPlace did n before after

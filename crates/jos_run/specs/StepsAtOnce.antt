@@ -37,5 +37,5 @@ pub record MakesSteps (n going : ℕ) (last : Result StepOutcome Failed) (before
   pub is_guest : 0 < going → (is_servers before.state n ≡ false) × (place_of (slot_at before.state n) ≡ place.Guest)
   pub step : IsWholeStep (step_progress last) n (with_state before reached) after output
   pub rest : IfOk last (λ stepped. LeavesRest reached after.state)
-  pub leaves : LeavesAs (is_servers reached n) (step_progress last) n reached after.state
+  pub leaves : LeavesAs (is_servers reached n) before.disk (step_progress last) n reached after.state
   pub raises : IfOk last (λ stepped. RaisesAs (is_servers reached n) n reached stepped.trap after.state)

@@ -18,8 +18,8 @@ pub fn runs_go_on_alike()
     ensures fit { RunsFit }
 {}
 
-/// Where the kernel's state stands for an abstract one beside the disk that the host tells, the files are those of the disk itself, which has no
-/// fault.
+/// Where the kernel's state stands for an abstract one beside the disk that the host tells, and the file server has no request whose act is not
+/// made, the files are those of the disk as its cache holds it.
 pub fn files_are_those_of_the_disk()
     ensures { FilesStand }
 {}

@@ -8,6 +8,7 @@
 #![tactic(auto)]
 
 mod boot;
+mod closing;
 mod disk;
 mod fence;
 mod guest;
@@ -20,6 +21,7 @@ mod steps;
 mod turns;
 
 pub use boot::{FRAMES_BESIDE, boot_frames, boot_program, programs_begin};
+pub use closing::CLOSING_MAX;
 pub use disk::HostDisk;
 pub use laws::{files_are_those_of_the_disk, runs_go_on_alike, turns_are_chosen_alike};
 pub use programs::{RunEnd, Setup, run};

@@ -171,7 +171,8 @@ impl LibraryRun {
     /// as are left at most. The result is their number.
     ///
     /// # Errors
-    /// A call of the host failed while the last step wrote to the console or moved a block.
+    /// A call of the host failed while the last step wrote to the console, or, of the file server, moved a block; then it is told as a hidden
+    /// one.
     fn advance<H: Host>(&mut self, host: &mut H, slot: usize, left: u64) -> Result<u32, Failed>
         requires holds { Holds self.old }
         requires left { 0 < left }
@@ -204,6 +205,10 @@ impl LibraryRun {
                 Ok(made.going + 1)
             }
             Err(failed) => {
+                if slot == 0 {
+                    self.count_steps(made.going, 1, left_of_turn);
+                    return Err(failed);
+                }
                 self.book.tell_failed_steps(made.going + 1);
                 Err(failed)
             }
@@ -257,18 +262,16 @@ impl LibraryRun {
         Ok(self.end_of_steps())
     }
 
-    /// What is told of the run, with its turns, and the last of its traps.
-    pub(crate) fn finish(self, end: End) -> (Report, Trace)
+    /// What is told of the run, with its turns, the last of its traps, and what was served.
+    pub(crate) fn finish(self, end: End) -> (Report, Trace, Served)
         requires { HasRoom self.book }
         ensures report { result.0 ≡ report_of self end }
         ensures trace { result.1 ≡ self.book.trace }
+        ensures served { result.2 ≡ self.served }
     {
-        self.book.finish(
-            self.served.slot(),
-            end,
-            self.served.refused(),
-            self.served.upcalls(),
-        )
+        let LibraryRun { served, book, .. } = self;
+        let (report, trace) = book.finish(served.slot(), end, served.refused(), served.upcalls());
+        (report, trace, served)
     }
 
     /// What is told of a run that a failed call of the host cut off.

@@ -1,6 +1,6 @@
 //! A program is run under the library.
 
-ghost use Rattle.std.specs.Prelude.{◌≡◌, ◌≤◌, [], Ok, true, OnErr, vec_capacity, map};
+ghost use Rattle.std.specs.Prelude.{◌≡◌, ◌≤◌, [], length, Ok, true, OnErr, vec_capacity, map};
 ghost use Rattle.circular_buffer.specs.Buffer.{buffer};
 ghost use Rattle.jos_host.specs.Frames.{around, from_to};
 ghost use Rattle.jos_base.specs.declared.numbers.TheConstants.{FRAMES_MIN, FRAMES_MAX, TURN_MAX};
@@ -9,6 +9,7 @@ ghost use Rattle.jos_sys.specs.System.{state_of, Keeps};
 ghost use Rattle.lib_os.specs.Disk.{HasBlocks};
 ghost use Rattle.lib_spawn.specs.StackPage.{fits_stack};
 ghost use Rattle.jos_run.specs.Begun.{IsNew};
+ghost use Rattle.jos_run.specs.Closing.{IsClosedSo};
 ghost use Rattle.jos_run.specs.DiskTouches.{TouchesDiskOnly};
 ghost use Rattle.jos_run.specs.RunEnds.{AnswersFor, HasEndCause, HasRunCause, RunsFrom, given_job};
 ghost use Rattle.jos_run.specs.Worlds.{told_disk};
@@ -48,6 +49,54 @@ pub enum RunEnd {
     HostFault(Stopped),
 }
 
+/// Closes a run of which this is told: the file server goes on until its act is made, and the blocks of its cache are written to the disk.
+fn close_run<H: Host>(mut served: Served, host: &mut H, report: Report, trace: Trace) -> RunEnd
+    requires most { length report.turns ≤ TURN_MAX }
+    requires whole { HasBlocks (H.files host.old) served.disk }
+    ensures closed { IsClosedSo report trace.items result served (from_to (told_disk (H.files host.old) served.disk) (told_disk (H.files host.new) served.disk)) (around H.console host.old host.new) }
+    ensures disk_only { TouchesDiskOnly served.disk (around H.files host.old host.new) (around H.asked host.old host.new) }
+    ensures input { H.input host.new ≡ H.input host.old }
+    ensures notes { H.notes host.new ≡ H.notes host.old }
+    ensures cause { HasEndCause (around H.faults host.old host.new) result }
+{
+    let closing = served.finish_request(host, report.turns.len() as u32, report.first_refused);
+    let Report {
+        end,
+        steps,
+        turns,
+        ..
+    } = report;
+    match closing.outcome {
+        Ok(()) => {}
+        Err(_) => {
+            return RunEnd::HostFault(Stopped {
+                turns,
+                first_refused: closing.first_refused,
+            });
+        }
+    }
+    let refused = served.refused();
+    let upcalls = served.upcalls();
+    match served.write_back(host) {
+        Ok(()) => RunEnd::Ended(
+            Report {
+                end,
+                steps,
+                turns,
+                closing: closing.steps.min(u32::MAX as u64) as u32,
+                refused,
+                first_refused: closing.first_refused,
+                upcalls,
+            },
+            trace,
+        ),
+        Err(_) => RunEnd::HostFault(Stopped {
+            turns,
+            first_refused: closing.first_refused,
+        }),
+    }
+}
+
 /// Runs a program that was booted. Nothing more is asked of an allocator, so the run ends by itself, unless a call of the
 /// host fails.
 fn run_booted<H: Host>(
@@ -75,8 +124,8 @@ fn run_booted<H: Host>(
     let mut run = LibraryRun::begin(served, setup.schedule, decodings, turns, trace);
     match run.go(host, setup.budget) {
         Ok(end) => {
-            let (report, trace) = run.finish(end);
-            RunEnd::Ended(report, trace)
+            let (report, trace, served) = run.finish(end);
+            close_run(served, host, report, trace)
         }
         Err(_) => RunEnd::HostFault(run.cut_off()),
     }

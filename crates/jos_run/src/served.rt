@@ -298,7 +298,7 @@ impl Served {
     }
 
     /// How many blocks the disk has.
-    fn block_count(&self) -> u32
+    pub(crate) fn block_count(&self) -> u32
         ensures { result ≡ self.now.disk.blocks }
     {
         match &self.disk {

@@ -11,7 +11,7 @@ use lib_mem::MemoryService;
 use lib_msg::{Receive, Send};
 use lib_os::{Service, Step};
 use lib_read::{Read, Stat};
-use lib_request::Sync;
+use lib_request::{Remove, Sync};
 use lib_spawn::Wait;
 use lib_stage::{Ask, Next, Nowhere, Planned};
 use lib_write::Write;
@@ -32,6 +32,7 @@ pub(crate) enum ServiceStage {
     FileOnly(FileOnly),
     Stat(Stat),
     Sync(Sync),
+    Remove(Remove),
     /// The service has not this step.
     Nowhere(Nowhere),
 }
@@ -93,6 +94,10 @@ pub(crate) fn stage_of(service: Service, step: Step) -> ServiceStage
             Some(sync) => ServiceStage::Sync(sync),
             None => ServiceStage::Nowhere(Nowhere),
         },
+        Service::Remove { path } => match Remove::at_step(path, step) {
+            Some(remove) => ServiceStage::Remove(remove),
+            None => ServiceStage::Nowhere(Nowhere),
+        },
         _ => match MemoryService::of(service) {
             Some(memory) => ServiceStage::Memory(memory),
             None => ServiceStage::Nowhere(Nowhere),
@@ -120,6 +125,7 @@ impl Planned for ServiceStage {
             ServiceStage::FileOnly(service) => service.number(),
             ServiceStage::Stat(stat) => stat.number(),
             ServiceStage::Sync(sync) => sync.number(),
+            ServiceStage::Remove(remove) => remove.number(),
             ServiceStage::Nowhere(nowhere) => nowhere.number(),
         }
     }
@@ -139,6 +145,7 @@ impl Planned for ServiceStage {
             ServiceStage::FileOnly(service) => service.ask(),
             ServiceStage::Stat(stat) => stat.ask(),
             ServiceStage::Sync(sync) => sync.ask(),
+            ServiceStage::Remove(remove) => remove.ask(),
             ServiceStage::Nowhere(nowhere) => nowhere.ask(),
         }
     }
@@ -158,6 +165,7 @@ impl Planned for ServiceStage {
             ServiceStage::FileOnly(service) => service.next(called),
             ServiceStage::Stat(stat) => stat.next(called),
             ServiceStage::Sync(sync) => sync.next(called),
+            ServiceStage::Remove(remove) => remove.next(called),
             ServiceStage::Nowhere(nowhere) => nowhere.next(called),
         }
     }

@@ -84,12 +84,13 @@ fn came_with(
     }
 }
 
-/// The address of the buffer that a service is given; 0 where it is given none.
+/// The address of the buffer, or of the path, that a service is given; 0 where it is given none.
 fn buffer_of(service: Service) -> u32
     ensures { result ≡ buffer_of service }
 {
     match service {
         Service::Read { va, .. } | Service::Write { va, .. } | Service::Stat { va, .. } => va,
+        Service::Remove { path } => path,
         _ => 0,
     }
 }
@@ -98,7 +99,7 @@ fn buffer_of(service: Service) -> u32
 fn writes_buffer(service: Service) -> bool
     ensures { result ≡ writes_buffer service }
 {
-    !matches!(service, Service::Write { .. })
+    !matches!(service, Service::Write { .. } | Service::Remove { .. })
 }
 
 impl Served {
@@ -127,7 +128,7 @@ impl Served {
     }
 
     /// Whether the environment is the file server.
-    fn is_server(&self) -> bool
+    pub(crate) fn is_server(&self) -> bool
         ensures { result ≡ is_servers (kernel_state self.now) self.now.slot }
     {
         matches!(

@@ -52,3 +52,5 @@ module _ (s : KernelState) (n old new : ℕ) (live : is_live (slot_at s n) ≡ t
   dup_holds (step.Asking own) stands = law_of_nowhere s n (service.Dup old new) (step.Asking own) stands refl (λ view k b h. h)
   dup_holds (step.Awaiting own) stands = law_of_nowhere s n (service.Dup old new) (step.Awaiting own) stands refl (λ view k b h. h)
   dup_holds (step.ReadingReply own) stands = law_of_nowhere s n (service.Dup old new) (step.ReadingReply own) stands refl (λ view k b h. h)
+  dup_holds step.Identifying stands = law_of_nowhere s n (service.Dup old new) step.Identifying stands refl (λ view k b h. h)
+  dup_holds (step.Clearing own) stands = law_of_nowhere s n (service.Dup old new) (step.Clearing own) stands refl (λ view k b h. h)

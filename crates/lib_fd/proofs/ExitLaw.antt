@@ -138,3 +138,5 @@ module _ (s : KernelState) (n : ℕ) (live : is_live (slot_at s n) ≡ true) whe
   exit_holds (step.Asking own) stands = law_of_nowhere s n service.Exit (step.Asking own) stands refl (λ view k b h. h)
   exit_holds (step.Awaiting own) stands = law_of_nowhere s n service.Exit (step.Awaiting own) stands refl (λ view k b h. h)
   exit_holds (step.ReadingReply own) stands = law_of_nowhere s n service.Exit (step.ReadingReply own) stands refl (λ view k b h. h)
+  exit_holds step.Identifying stands = law_of_nowhere s n service.Exit step.Identifying stands refl (λ view k b h. h)
+  exit_holds (step.Clearing own) stands = law_of_nowhere s n service.Exit (step.Clearing own) stands refl (λ view k b h. h)

@@ -1,5 +1,5 @@
--- The law of the stages in which a service looks at a page of its buffer, for read, stat and write: nothing that anybody sees.
-use Rattle.std.proofs.Common.{◌≡◌, ℕ, Bool, true, false, not, Some, refl, arith, if◌then◌else◌}
+-- The law of the stages in which a service looks at a page of its buffer, for read, stat, write and remove: nothing that anybody sees.
+use Rattle.std.proofs.Common.{◌≡◌, ℕ, Bool, true, false, not, refl, arith, if◌then◌else◌}
 use Rattle.jos_base.specs.Environments.{is_live}
 use Rattle.jos_base.specs.KernelState.{KernelState, slot_at}
 use Rattle.lib_os.specs.declared.place.Place.TheVariants as place
@@ -8,9 +8,10 @@ use Rattle.lib_os.specs.declared.service.Service.{Service}
 use Rattle.lib_os.specs.declared.service.Service.TheVariants as service
 use Rattle.lib_os.specs.AbstractState.{AbstractState}
 use Rattle.lib_os.specs.InOrder.{IsInOrder}
+use Rattle.lib_os.specs.LibrarySteps.{is_pausing}
 use Rattle.lib_os.specs.Places.{place_of}
 use Rattle.lib_os.specs.Rows.{Names}
-use Rattle.lib_os.specs.StandsFor.{StandsFor, descriptor_given, writes_buffer}
+use Rattle.lib_os.specs.StandsFor.{StandsFor, writes_buffer}
 use Rattle.lib_os.proofs.BufferLooks.{KeepsWord, buffer_va, buffer_entry_allows, buffer_entry_gives, buffer_entry_refuses, buffer_entry_va}
 use Rattle.lib_os.proofs.BufferLooks.{buffer_entry_word, buffer_region_found, buffer_region_gives, buffer_region_missing, buffer_region_va}
 use Rattle.lib_os.proofs.BufferLooks.{buffer_region_word, moving_step, tells_allowed}
@@ -21,7 +22,7 @@ use Rattle.lib_stage.specs.ServiceSteps.{ServiceHolds}
 use Rattle.lib_stage.proofs.Laws.{Falls}
 use Rattle.lib_fd.specs.DescriptorStages.{is_there}
 use Rattle.lib_file.specs.Buffers.{entry_asked, region_asked}
-use Rattle.lib_file.proofs.Finds.{Follows, is_steady, load_holds, staged}
+use Rattle.lib_file.proofs.Finds.{Follows, load_holds, staged}
 
 -- by the word of the region: it goes on to the page's entry, or the page refuses the byte
 abbrev pub region_next : ℕ → ℕ → ℕ → Next
@@ -34,10 +35,21 @@ entry_next service done kept allowed = if not allowed then next.GoOn (step.Fault
 -- the access is lower than the look at its page
 moving_falls : (service : Service) (done word kept : ℕ) → Falls service (step.BufferEntry done word) (next.GoOn (moving_step service done kept))
 moving_falls (service.Write fd va len) done word kept = omega arith
+moving_falls (service.Remove path) done word kept = omega arith
 moving_falls _ done word kept = omega arith
 
-module _ (s : KernelState) (n : ℕ) (service : Service) (fd : ℕ) (given : descriptor_given service ≡ Some fd)
-    (live : is_live (slot_at s n) ≡ true) (done word kept : ℕ) (same : KeepsWord service word kept) where
+-- neither gives up a turn
+looks_steady : (service : Service) (done word : ℕ) →
+    (is_pausing (place.InService service (step.BufferRegion done word)) ≡ false)
+    × (is_pausing (place.InService service (step.BufferEntry done word)) ≡ false)
+looks_steady (service.Wait id) done word = (refl, refl)
+looks_steady (service.Send id value va) done word = (refl, refl)
+looks_steady service.Sync done word = (refl, refl)
+looks_steady (service.Remove path) done word = (refl, refl)
+looks_steady _ done word = (refl, refl)
+
+module _ (s : KernelState) (n : ℕ) (service : Service) (live : is_live (slot_at s n) ≡ true) (done word kept : ℕ)
+    (same : KeepsWord service word kept) where
   abbrev va : ℕ
   va = buffer_va service done
 
@@ -64,7 +76,7 @@ module _ (s : KernelState) (n : ℕ) (service : Service) (fd : ℕ) (given : des
 
     pub buffer_region_holds : ServiceHolds s n (staged service (region_asked va) (region_next done kept))
     buffer_region_holds =
-        load_holds s n service (step.BufferRegion done word) live (is_steady service fd given (step.BufferRegion done word)) stands
+        load_holds s n service (step.BufferRegion done word) live (looks_steady service done word).0 stands
         (buffer_region_va service done) (buffer_region_word s n service done) (region_next done kept) region_falls
         (λ names a h. buffer_region_gives s n service done word stands h) region_follows
 
@@ -88,7 +100,7 @@ module _ (s : KernelState) (n : ℕ) (service : Service) (fd : ℕ) (given : des
     pub buffer_entry_holds :
         ServiceHolds s n (staged service (entry_asked va) (λ w. entry_next service done kept (tells_allowed (writes_buffer service) w)))
     buffer_entry_holds =
-        load_holds s n service (step.BufferEntry done word) live (is_steady service fd given (step.BufferEntry done word)) stands
+        load_holds s n service (step.BufferEntry done word) live (looks_steady service done word).1 stands
         (buffer_entry_va service done) (buffer_entry_word s n service done)
         (λ w. entry_next service done kept (tells_allowed (writes_buffer service) w))
         (λ w. entry_falls (tells_allowed (writes_buffer service) w)) (λ names a h. buffer_entry_gives s n service done word stands h) entry_follows

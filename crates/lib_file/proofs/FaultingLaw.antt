@@ -63,7 +63,7 @@ module _ (s : KernelState) (n : ℕ) (service : Service) (done word : ℕ)
       subst (λ (z : CallStep Called). hidden_left z.state n < hidden_left s n) (sym it.is) it.lower
   lowers_by gone = tt
 
-  handed_holds : ServiceHolds s n plan
+  pub handed_holds : ServiceHolds s n plan
   handed_holds =
       law_with s n plan service (step.Faulting done word) there
       (λ called is stays. absurd (let contradiction : true ≡ false = stays in cc)) keeps fails (lowers_by (performed s n asks).gives)

@@ -96,6 +96,8 @@ module _ (s : KernelState) (n fd : ℕ) (live : is_live (slot_at s n) ≡ true) 
     seek_holds (step.Asking own) stands = no_seek (step.Asking own) stands (λ view k b h. h)
     seek_holds (step.Awaiting own) stands = no_seek (step.Awaiting own) stands (λ view k b h. h)
     seek_holds (step.ReadingReply own) stands = no_seek (step.ReadingReply own) stands (λ view k b h. h)
+    seek_holds step.Identifying stands = no_seek step.Identifying stands (λ view k b h. h)
+    seek_holds (step.Clearing own) stands = no_seek (step.Clearing own) stands (λ view k b h. h)
 
   module _ (size : ℕ) where
     abbrev set_size : Service
@@ -143,3 +145,5 @@ module _ (s : KernelState) (n fd : ℕ) (live : is_live (slot_at s n) ≡ true) 
     set_size_holds (step.Asking own) stands = no_set_size (step.Asking own) stands (λ view k b h. h)
     set_size_holds (step.Awaiting own) stands = no_set_size (step.Awaiting own) stands (λ view k b h. h)
     set_size_holds (step.ReadingReply own) stands = no_set_size (step.ReadingReply own) stands (λ view k b h. h)
+    set_size_holds step.Identifying stands = no_set_size step.Identifying stands (λ view k b h. h)
+    set_size_holds (step.Clearing own) stands = no_set_size (step.Clearing own) stands (λ view k b h. h)

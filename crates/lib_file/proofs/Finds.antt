@@ -58,6 +58,7 @@ pub is_steady : (s : Service) (fd : ℕ) → descriptor_given s ≡ Some fd → 
 is_steady (service.Wait id) fd given from = absurd (none-some fd given)
 is_steady (service.Send id value va) fd given from = absurd (none-some fd given)
 is_steady service.Sync fd given from = absurd (none-some fd given)
+is_steady (service.Remove path) fd given from = absurd (none-some fd given)
 is_steady _ fd given from = refl
 
 module _ (s : KernelState) (n : ℕ) (service : Service) (from : Step) (live : is_live (slot_at s n) ≡ true)

@@ -125,7 +125,7 @@ module _ (s : KernelState) (n id : ℕ) (live : is_live (slot_at s n) ≡ true)
         places = places_kept s (after t) n (λ before then_so lives. others);
         numbers = numbers_kept s (after t) n (λ before then_so lives. others)
             (copies_kept s (after t) n (plain_wait s n SYS_ENV_SET_STATUS args refl));
-        working = working_kept s (after t) n (copies_kept s (after t) n (plain_wait s n SYS_ENV_SET_STATUS args refl));
+        working = working_kept s (after t) n (λ before then_so lives. others) (copies_kept s (after t) n (plain_wait s n SYS_ENV_SET_STATUS args refl));
         server = own_server s n t (record (slot_at t n) { registers = record (slot_at t n).registers { eax = id }; extra = no_extra }) refl refl
             (system_server s n SYS_ENV_SET_STATUS args refl (λ a h. refl));
       }
@@ -216,3 +216,5 @@ module _ (s : KernelState) (n : ℕ) (live : is_live (slot_at s n) ≡ true) whe
   fork_holds (step.Asking own) stands = law_of_nowhere s n service.Fork (step.Asking own) stands refl (λ view k b h. h)
   fork_holds (step.Awaiting own) stands = law_of_nowhere s n service.Fork (step.Awaiting own) stands refl (λ view k b h. h)
   fork_holds (step.ReadingReply own) stands = law_of_nowhere s n service.Fork (step.ReadingReply own) stands refl (λ view k b h. h)
+  fork_holds step.Identifying stands = law_of_nowhere s n service.Fork step.Identifying stands refl (λ view k b h. h)
+  fork_holds (step.Clearing own) stands = law_of_nowhere s n service.Fork (step.Clearing own) stands refl (λ view k b h. h)

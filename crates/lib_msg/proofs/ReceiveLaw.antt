@@ -134,3 +134,5 @@ module _ (s : KernelState) (n va from : ℕ) (live : is_live (slot_at s n) ≡ t
   receive_holds (step.Asking own) stands = law_of_nowhere s n (service.Receive va from) (step.Asking own) stands refl (λ view k b h. h)
   receive_holds (step.Awaiting own) stands = law_of_nowhere s n (service.Receive va from) (step.Awaiting own) stands refl (λ view k b h. h)
   receive_holds (step.ReadingReply own) stands = law_of_nowhere s n (service.Receive va from) (step.ReadingReply own) stands refl (λ view k b h. h)
+  receive_holds step.Identifying stands = law_of_nowhere s n (service.Receive va from) step.Identifying stands refl (λ view k b h. h)
+  receive_holds (step.Clearing own) stands = law_of_nowhere s n (service.Receive va from) (step.Clearing own) stands refl (λ view k b h. h)

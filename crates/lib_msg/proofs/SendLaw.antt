@@ -191,3 +191,5 @@ module _ (s : KernelState) (n id value va : ℕ) (live : is_live (slot_at s n) �
     send_holds (step.Asking own) stands = law_of_nowhere s n (service.Send id value va) (step.Asking own) stands refl (λ view k b h. h)
     send_holds (step.Awaiting own) stands = law_of_nowhere s n (service.Send id value va) (step.Awaiting own) stands refl (λ view k b h. h)
     send_holds (step.ReadingReply own) stands = law_of_nowhere s n (service.Send id value va) (step.ReadingReply own) stands refl (λ view k b h. h)
+    send_holds step.Identifying stands = law_of_nowhere s n (service.Send id value va) step.Identifying stands refl (λ view k b h. h)
+    send_holds (step.Clearing own) stands = law_of_nowhere s n (service.Send id value va) (step.Clearing own) stands refl (λ view k b h. h)

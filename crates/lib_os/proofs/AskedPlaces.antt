@@ -1,6 +1,6 @@
 -- One that has asked the file server stands where it will wait for the reply, and one that waits stands where it will read it: no other place
 -- has such a phase.
-use Rattle.std.proofs.Common.{◌≡◌, ◌∙◌, ◌⊎◌, inl, inr, ℕ, Bool, true, false, List, [], ◌∷◌, Option, Some, None, refl, sym, ap}
+use Rattle.std.proofs.Common.{◌≡◌, ◌∙◌, ◌⊎◌, inl, inr, ℕ, Bool, true, false, List, [], ◌∷◌, Option, Some, None, refl, sym, ap, subst}
 use Rattle.jos_base.specs.declared.memory.PageFault.{PageFault}
 use Rattle.jos_base.specs.declared.registers.Regs.{Regs}
 use Rattle.jos_base.specs.Environments.{Slot}
@@ -17,7 +17,8 @@ use Rattle.lib_os.specs.Rows.{EntryRow}
 use Rattle.lib_os.specs.StandsFor.{AwaitsOrHas, HasAsked, HasReceived, IsAwaiting, IsBearing, IsIn, IsTaking, StandsAt, StandsAtDevice}
 use Rattle.lib_os.specs.StandsFor.{StandsAtStep, StandsBefore, WaitsOrHas, awaits, descriptor_given, has, has_reply, waits}
 use Rattle.lib_os.specs.StandsInHandler.{CopiesOrEnds, IsStoppedAt, StandsBeneath, StandsDelivering, at_program, copies, ends, in_delivery}
-use Rattle.lib_os.specs.StandsInHandler.{marked, reading, stage_with, telling, writing}
+use Rattle.lib_os.specs.StandsFor.{IsGatheringPath, IsTakingPath}
+use Rattle.lib_os.specs.StandsInHandler.{marked, may_follow, reading, removing, stage_with, telling, writing}
 
 -- ---- phases
 
@@ -39,10 +40,23 @@ waits_for_reply _ = false
 
 -- ---- at each place
 
--- It has asked for a sync, or waits for the reply, and this is its place.
+-- the services that are requests to the file server
+abbrev pub is_requests : Service → Bool
+is_requests service.Sync = true
+is_requests (service.Remove path) = true
+is_requests _ = false
+
+-- the step at which such a service waits for the reply
+abbrev pub awaiting_step : Service → ℕ → Step
+awaiting_step (service.Remove path) id = step.Clearing id
+awaiting_step _ id = step.ReadingReply id
+
+-- It has asked by a service, or waits for the reply, and this is its place.
 pub data IsRequesting (p : Place) (k : Slot) (c : Born) : Type 0 where
-  asks : (id : ℕ) → p ≡ place.InService service.Sync (step.Awaiting id) → id ≡ k.id → HasAsked k c service.Sync → IsRequesting p k c
-  expects : (id : ℕ) → p ≡ place.InService service.Sync (step.ReadingReply id) → id ≡ k.id → IsAwaiting k c service.Sync → IsRequesting p k c
+  asks : (s : Service) → is_requests s ≡ true → (id : ℕ) → p ≡ place.InService s (step.Awaiting id) → id ≡ k.id → HasAsked k c s →
+      IsRequesting p k c
+  expects : (s : Service) → is_requests s ≡ true → (id : ℕ) → p ≡ place.InService s (awaiting_step s id) → id ≡ k.id → IsAwaiting k c s →
+      IsRequesting p k c
 
 -- nothing is asked
 record NoRequest (k : Slot) (c : Born) : Type 0 where
@@ -73,10 +87,18 @@ taking_none s (byte ∷ rest) = refl
 takes_bytes : {v : View} {k : Slot} {c : Born} (fd va len done : ℕ) → IsTaking v k c fd va len done → NoRequest k c
 takes_bytes fd va len done h = phase_is _ h.wants.phase (taking_none (service.Write fd va len) h.bytes)
 
+takes_path : {v : View} {k : Slot} {c : Born} (path done : ℕ) → IsTakingPath v k c path done → NoRequest k c
+takes_path path done h = phase_is _ h.wants.phase (taking_none (service.Remove path) h.bytes)
+
+gathers_bytes : (v : View) {k : Slot} {c : Born} (t : Bool) (path done : ℕ) → IsGatheringPath t v k c path done → NoRequest k c
+gathers_bytes v true path done h = takes_path path done h.0
+gathers_bytes v false path done h = phase_is _ h.is_in.phase (taking_none (service.Remove path) h.bytes)
+
 before_byte : (so : Type 0) (v : View) {k : Slot} {c : Born} (s : Service) (done word : ℕ) → StandsBefore so v k c s done word → NoRequest k c
 before_byte so v (service.Read fd va len) done word h = delivers (service.Read fd va len) done word h.0
 before_byte so v (service.Stat fd va) done word h = delivers (service.Stat fd va) done word h.0
 before_byte so v (service.Write fd va len) done word h = takes_bytes fd va len done h.0
+before_byte so v (service.Remove path) done word h = takes_path path done h.0
 before_byte so v _ done word h = absurd h
 
 at_device : (v : View) {k : Slot} {c : Born} (s : Service) (o : Option ℕ) → StandsAtDevice v k c s o → NoRequest k c
@@ -103,6 +125,20 @@ at_step v k c (service.Write fd va len) (step.Gathering done) h = inl (takes_byt
 at_step v k c (service.Write fd va len) (step.Keeping done word left) h = inl (phase_is _ h.is_in.phase refl)
 at_step v k c (service.Write fd va len) step.Printing h = inl (phase_is _ h.is_in.phase refl)
 at_step v k c (service.Write fd va len) step.Releasing h = inl (phase_is _ h.phase refl)
+at_step v k c (service.Remove path) step.TakingPage h = inl (in_silence _ h.0)
+at_step v k c (service.Remove path) (step.Gathering done) h = inl (gathers_bytes v (may_follow path done) path done h)
+at_step v k c (service.Remove path) (step.Keeping done word left) h = inl (phase_is _ h.is_in.phase refl)
+at_step v k c (service.Remove path) step.Identifying h = inl (phase_is _ h.is_in.phase refl)
+at_step v k c (service.Remove path) (step.Asking id) h = inl (phase_is _ h.1.is_in.phase refl)
+at_step v k c (service.Remove path) (step.Pausing id) h = inl (phase_is _ h.1.is_in.phase refl)
+at_step v k c (service.Remove path) (step.Awaiting id) h = inr (asks (service.Remove path) refl id refl h.0 h.1)
+at_step v k c (service.Remove path) (step.Clearing id) h = by_reply h.1
+  where
+    by_reply : AwaitsOrHas k c (service.Remove path) →
+        NoRequest k c ⊎ IsRequesting (place.InService (service.Remove path) (step.Clearing id)) k c
+    by_reply (awaits so) = inr (expects (service.Remove path) refl id refl h.0 so)
+    by_reply (has_reply so) = inl (phase_is _ so.phase refl)
+at_step v k c (service.Remove path) (step.ReadingReply id) h = inl (phase_is _ h.1.phase refl)
 at_step v k c (service.Wait id) (step.Trying perm) h = inl (in_silence _ h.is_in)
 at_step v k c (service.Wait id) (step.Pausing perm) h = inl (in_silence _ h.is_in)
 at_step v k c (service.Send id value va) (step.Trying perm) h = inl (in_silence _ h.is_in)
@@ -119,11 +155,11 @@ at_step v k c (service.Receive va from) (step.ReadingSender id value) h = inl (h
 at_step v k c (service.Receive va from) (step.ReadingPerm id value sender) h = inl (has_come h.3)
 at_step v k c service.Sync (step.Asking id) h = inl (in_silence _ h.1)
 at_step v k c service.Sync (step.Pausing id) h = inl (in_silence _ h.1)
-at_step v k c service.Sync (step.Awaiting id) h = inr (asks id refl h.0 h.1)
+at_step v k c service.Sync (step.Awaiting id) h = inr (asks service.Sync refl id refl h.0 h.1)
 at_step v k c service.Sync (step.ReadingReply id) h = by_reply h.1
   where
     by_reply : AwaitsOrHas k c service.Sync → NoRequest k c ⊎ IsRequesting (place.InService service.Sync (step.ReadingReply id)) k c
-    by_reply (awaits so) = inr (expects id refl h.0 so)
+    by_reply (awaits so) = inr (expects service.Sync refl id refl h.0 so)
     by_reply (has_reply so) = inl (phase_is _ so.phase refl)
 at_step v k c service.Fork (step.ForkRegion id region) h = inl (bearing_none id h.0)
 at_step v k c service.Fork (step.ForkEntry id page) h = inl (bearing_none id h.0)
@@ -153,6 +189,7 @@ stopped_none k (marked phase) = phase_is _ phase refl
 stopped_none k (reading fd buffer len bytes answer writes phase some) = phase_is _ phase refl
 stopped_none k (telling fd buffer bytes answer writes phase some) = phase_is _ phase refl
 stopped_none k (writing fd buffer len bytes reads wants there) = phase_is _ wants.phase (taking_none (service.Write fd buffer len) bytes)
+stopped_none k (removing path bytes reads wants there) = phase_is _ wants.phase (taking_none (service.Remove path) bytes)
 
 in_handler : (stands : HandlerStep) (v : View) {k : Slot} {c : Born} (fault : PageFault) (regs : Regs) →
     CopiesOrEnds stands v k c fault regs → NoRequest k c
@@ -176,18 +213,18 @@ requesting p v k c h is = by_case (requests_or_not p v k c h)
 -- It has asked, and stands where it will begin to wait.
 pub record AskedPlace (p : Place) (k : Slot) (c : Born) (s : Service) : Type 0 where
   pub id : ℕ
-  pub at : p ≡ place.InService service.Sync (step.Awaiting id)
+  pub at : p ≡ place.InService s (step.Awaiting id)
   pub self : id ≡ k.id
-  pub so : HasAsked k c service.Sync
-  pub service_is : s ≡ service.Sync
+  pub so : HasAsked k c s
+  pub asks_it : is_requests s ≡ true
 
 -- It waits for the reply, and stands where it will read it.
 pub record AwaitingPlace (p : Place) (k : Slot) (c : Born) (s : Service) : Type 0 where
   pub id : ℕ
-  pub at : p ≡ place.InService service.Sync (step.ReadingReply id)
+  pub at : p ≡ place.InService s (awaiting_step s id)
   pub self : id ≡ k.id
-  pub so : IsAwaiting k c service.Sync
-  pub service_is : s ≡ service.Sync
+  pub so : IsAwaiting k c s
+  pub asks_it : is_requests s ≡ true
 
 -- the service of a phase that is told twice
 same_service : {q : Phase} (s t : Service) (stage other : Stage) → q ≡ in_service s stage → q ≡ in_service t other → s ≡ t
@@ -204,25 +241,17 @@ pub asked_place : (p : Place) (v : View) (k : Slot) (c : Born) (s : Service) →
 asked_place p v k c s h phase = by_case (requesting p v k c h (ap (λ (q : Phase). is_request q) phase))
   where
     by_case : IsRequesting p k c → AskedPlace p k c s
-    by_case (asks id at self so) = record {
-      id = id;
-      at = at;
-      self = self;
-      so = so;
-      service_is = same_service s service.Sync asked asked phase so.phase;
-    }
-    by_case (expects id at self so) = absurd (apart s service.Sync phase so.phase)
+    by_case (asks t is id at self so) =
+        subst (λ (x : Service). AskedPlace p k c x) (same_service t s asked asked so.phase phase)
+        (record { id = id; at = at; self = self; so = so; asks_it = is })
+    by_case (expects t is id at self so) = absurd (apart s t phase so.phase)
 
 pub awaiting_place : (p : Place) (v : View) (k : Slot) (c : Born) (s : Service) → StandsAt p v k c → c.phase ≡ in_service s awaiting →
     AwaitingPlace p k c s
 awaiting_place p v k c s h phase = by_case (requesting p v k c h (ap (λ (q : Phase). is_request q) phase))
   where
     by_case : IsRequesting p k c → AwaitingPlace p k c s
-    by_case (asks id at self so) = absurd (apart service.Sync s so.phase phase)
-    by_case (expects id at self so) = record {
-      id = id;
-      at = at;
-      self = self;
-      so = so;
-      service_is = same_service s service.Sync awaiting awaiting phase so.phase;
-    }
+    by_case (asks t is id at self so) = absurd (apart t s so.phase phase)
+    by_case (expects t is id at self so) =
+        subst (λ (x : Service). AwaitingPlace p k c x) (same_service t s awaiting awaiting so.phase phase)
+        (record { id = id; at = at; self = self; so = so; asks_it = is })

@@ -19,8 +19,9 @@ use Rattle.lib_os.specs.Places.{is_handlers, place_of}
 use Rattle.lib_os.specs.Rows.{EntryRow, is_programs}
 use Rattle.lib_os.specs.StandsFor.{StandsAt, StandsBefore, borne_in, upcall_at, writes_buffer}
 use Rattle.lib_os.specs.StandsInHandler.{IsDelivering, StandsBeneath, StandsDelivering, StandsPutting, at_program, in_delivery, is_refused_by, next_page}
-use Rattle.lib_os.specs.StandsInHandler.{IsStoppedAt, buffer_of, reading, telling, wanted_of, writing}
+use Rattle.lib_os.specs.StandsInHandler.{IsStoppedAt, buffer_of, reading, removing, telling, wanted_of, writing}
 use Rattle.lib_os.proofs.Fences.{buffer_each}
+use Rattle.lib_os.proofs.Paths.{follows_inside, taking_follows}
 use Rattle.lib_os.proofs.Logical.{inside_programs, is_plain}
 use Rattle.lib_os.proofs.Serving.{words_of_none}
 
@@ -129,6 +130,13 @@ stops_before so v k b (service.Write fd va len) done word (h, known) = record {
       buffer_each va (wanted_of len) (va + done) h.wants.given.buffer (omega arith) (omega (arith, many, fewer));
   stopped = λ ip. writing fd va len h.bytes refl h.wants (ap (λ (n : ℕ). va + n) (sym h.many));
 }
+stops_before so v k b (service.Remove path) done word (h, known) = record {
+  program = h.program;
+  silent = h.silent;
+  awake = h.awake;
+  inside = follows_inside path done (taking_follows v k b path done h);
+  stopped = λ ip. removing path h.bytes refl h.wants (ap (λ (n : ℕ). path + n) (sym h.many));
+}
 stops_before so v k b _ done word h = absurd h
 
 -- it bears no child there, so that entries count as they stand
@@ -137,6 +145,7 @@ pub before_plain : (so : Type 0) (v : View) (k : Slot) (b : Born) (s : Service) 
 before_plain so v k b (service.Read fd va len) done word at h = refl
 before_plain so v k b (service.Stat fd va) done word at h = refl
 before_plain so v k b (service.Write fd va len) done word at h = refl
+before_plain so v k b (service.Remove path) done word at h = refl
 before_plain so v k b _ done word at h = absurd h
 
 -- and what is known there beside
@@ -144,6 +153,7 @@ pub before_so : {so : Type 0} (v : View) (k : Slot) (b : Born) (s : Service) (do
 before_so v k b (service.Read fd va len) done word h = h.1
 before_so v k b (service.Stat fd va) done word h = h.1
 before_so v k b (service.Write fd va len) done word h = h.1
+before_so v k b (service.Remove path) done word h = h.1
 before_so v k b _ done word h = absurd h
 
 -- the same of one that puts bytes

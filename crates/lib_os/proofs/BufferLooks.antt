@@ -29,7 +29,7 @@ use Rattle.lib_os.specs.InOrder.{IsInOrder}
 use Rattle.lib_os.specs.LibraryPages.{View, region_index}
 use Rattle.lib_os.specs.Places.{place_of, words_at}
 use Rattle.lib_os.specs.Rows.{EntryRow, IsUsers, Names, is_cow, is_shared, page_by, rows_of, seen_where}
-use Rattle.lib_os.specs.StandsFor.{IsTaking, StandsAtStep, StandsBefore, StandsFor, borne_in, refuses_next, view_of, writes_buffer}
+use Rattle.lib_os.specs.StandsFor.{IsTaking, IsTakingPath, StandsAtStep, StandsBefore, StandsFor, borne_in, refuses_next, view_of, writes_buffer}
 use Rattle.lib_os.specs.StandsInHandler.{IsDelivering, buffer_of, is_refused_by, next_page, wanted_of}
 use Rattle.lib_os.specs.UserCalls.{load}
 use Rattle.lib_os.proofs.BytesRead.{users_inside}
@@ -39,6 +39,7 @@ use Rattle.lib_os.proofs.Fences.{buffer_each, inside_below, inside_number}
 use Rattle.lib_os.proofs.Loading.{loaded}
 use Rattle.lib_os.proofs.Logical.{inside_programs}
 use Rattle.lib_os.proofs.Numbered.{number_of}
+use Rattle.lib_os.proofs.Paths.{follows_inside, gathers_path, taking_follows}
 use Rattle.lib_os.proofs.Serving.{IsServed, holds_page, served}
 use Rattle.lib_os.proofs.SlotsStand.{born_at}
 use Rattle.lib_os.proofs.WindowWords.{read_at, load_directory_word, load_table_word}
@@ -186,6 +187,7 @@ next_inside so v k b (service.Write fd va len) done word h =
     let fewer = h.0.wants.fewer in
     let many = h.0.many in
     buffer_each va (wanted_of len) (va + done) h.0.wants.given.buffer (omega arith) (omega (arith, fewer, many))
+next_inside so v k b (service.Remove path) done word h = follows_inside path done (taking_follows v k b path done h.0)
 next_inside so v k b _ done word h = absurd h
 
 -- its address is as its sum says
@@ -200,6 +202,7 @@ KeepsWord _ word to = Unit {0}
 -- as it moves bytes it goes on to its access
 abbrev pub moving_step : Service → ℕ → ℕ → Step
 moving_step (service.Write fd va len) done word = step.Gathering done
+moving_step (service.Remove path) done word = step.Gathering done
 moving_step _ done word = step.Delivering done word
 
 module _ (v : View) (k : Slot) (b : Born) (words : List ℕ) where
@@ -226,6 +229,17 @@ module _ (v : View) (k : Slot) (b : Born) (words : List ℕ) where
     awake = h.awake;
   }
 
+  taking_path_with : (path done : ℕ) → IsTakingPath v k b path done → IsTakingPath v (record k { extra = words }) b path done
+  taking_path_with path done h = record {
+    bytes = h.bytes;
+    program = h.program;
+    wants = h.wants;
+    many = h.many;
+    kept = h.kept;
+    silent = h.silent;
+    awake = h.awake;
+  }
+
   -- it stands there as before, and more is known
   pub before_with : (so so_after : Type 0) (service : Service) (done word to : ℕ) → KeepsWord service word to → so_after →
       StandsBefore so v k b service done word → StandsBefore so_after v (record k { extra = words }) b service done to
@@ -236,6 +250,7 @@ module _ (v : View) (k : Slot) (b : Born) (words : List ℕ) where
   )
   before_with so so_after (service.Stat fd va) done word to same known h = (delivering_with (service.Stat fd va) _ _ _ h.0, known)
   before_with so so_after (service.Write fd va len) done word to same known h = (taking_with fd va len done h.0, known)
+  before_with so so_after (service.Remove path) done word to same known h = (taking_path_with path done h.0, known)
   before_with so so_after _ done word to same known h = absurd h
 
   -- and goes on to its access where the page does not refuse it
@@ -248,6 +263,8 @@ module _ (v : View) (k : Slot) (b : Born) (words : List ℕ) where
   )
   moving_with so (service.Stat fd va) done word to same free h = (delivering_with (service.Stat fd va) _ _ _ h.0, free)
   moving_with so (service.Write fd va len) done word to same free h = (taking_with fd va len done h.0, free)
+  moving_with so (service.Remove path) done word to same free h =
+      gathers_path v (record k { extra = words }) b path done (taking_path_with path done h.0) free
   moving_with so _ done word to same free h = absurd h
 
 module _ (so : Type 0) (v : View) (k : Slot) (b : Born) (done word : ℕ) where
@@ -256,6 +273,7 @@ module _ (so : Type 0) (v : View) (k : Slot) (b : Born) (done word : ℕ) where
   known_before (service.Read fd va len) h = h.1
   known_before (service.Stat fd va) h = h.1
   known_before (service.Write fd va len) h = h.1
+  known_before (service.Remove path) h = h.1
   known_before _ h = absurd h
 
   -- it bears no child, and keeps its page, if it has one, as it goes on
@@ -263,6 +281,7 @@ module _ (so : Type 0) (v : View) (k : Slot) (b : Born) (done word : ℕ) where
   unborne_before (service.Read fd va len) h at = refl
   unborne_before (service.Stat fd va) h at = refl
   unborne_before (service.Write fd va len) h at = refl
+  unborne_before (service.Remove path) h at = refl
   unborne_before _ h at = absurd h
 
   held_moving : (service : Service) → StandsBefore so v k b service done word → (to : ℕ) →
@@ -270,6 +289,7 @@ module _ (so : Type 0) (v : View) (k : Slot) (b : Born) (done word : ℕ) where
   held_moving (service.Read fd va len) h to = refl
   held_moving (service.Stat fd va) h to = refl
   held_moving (service.Write fd va len) h to = refl
+  held_moving (service.Remove path) h to = refl
   held_moving _ h to = absurd h
 
   held_entry : (service : Service) → StandsBefore so v k b service done word → (to : ℕ) →
@@ -277,6 +297,7 @@ module _ (so : Type 0) (v : View) (k : Slot) (b : Born) (done word : ℕ) where
   held_entry (service.Read fd va len) h to = refl
   held_entry (service.Stat fd va) h to = refl
   held_entry (service.Write fd va len) h to = refl
+  held_entry (service.Remove path) h to = refl
   held_entry _ h to = absurd h
 
   held_faulting : (service : Service) → StandsBefore so v k b service done word → (to : ℕ) →
@@ -285,6 +306,7 @@ module _ (so : Type 0) (v : View) (k : Slot) (b : Born) (done word : ℕ) where
   held_faulting (service.Read fd va len) h to = (refl, refl)
   held_faulting (service.Stat fd va) h to = (refl, refl)
   held_faulting (service.Write fd va len) h to = (refl, refl)
+  held_faulting (service.Remove path) h to = (refl, refl)
   held_faulting _ h to = absurd h
 
 -- ---- the two looks

@@ -28,7 +28,7 @@ built_of r built =
     by_built r.eax 8 _ _ (λ is. refl) (λ n8. by_built r.eax 9 _ _ (λ is. refl) (λ n9. by_built r.eax 10 _ _ (λ is. absurd (unbuilt 10 refl is)) (λ n10.
     by_built r.eax 11 _ _ (λ is. refl) (λ n11. by_built r.eax 12 _ _ (λ is. refl) (λ n12. by_built r.eax 13 _ _ (λ is. refl) (λ n13.
     by_built r.eax 14 _ _ (λ is. refl) (λ n14. by_built r.eax 15 _ _ (λ is. refl) (λ n15. by_built r.eax 16 _ _ (λ is. refl) (λ n16.
-    by_built r.eax 17 _ _ (λ is. absurd (unbuilt 17 refl is)) (λ n17. by_built r.eax 18 _ _ (λ is. refl) (λ n18. by_built r.eax 19 _ _ (λ is. refl) (λ n19.
+    by_built r.eax 17 _ _ (λ is. refl) (λ n17. by_built r.eax 18 _ _ (λ is. refl) (λ n18. by_built r.eax 19 _ _ (λ is. refl) (λ n19.
     let no_number : ⊥ = grind (arith, nat_tests) in absurd no_number))))))))))))))))))))
   where
     unbuilt : (k : ℕ) → is_built k ≡ false → r.eax ≢ k

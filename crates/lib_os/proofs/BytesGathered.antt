@@ -49,12 +49,12 @@ use Rattle.lib_os.proofs.WindowWords.{read_at}
 
 -- ---- bytes one behind the other
 
-from_length : (a : AbstractState) (b : Born) (va n : ℕ) → length (bytes_from a b va n) ≡ n
+pub from_length : (a : AbstractState) (b : Born) (va n : ℕ) → length (bytes_from a b va n) ≡ n
 unfolding bytes_from
 from_length a b va zero = refl
 from_length a b va (suc n) = ap suc (from_length a b ((va + 1) % 2 ^ 32) n)
 
-from_small : (a : AbstractState) (b : Born) (va n : ℕ) → va + n < 2 ^ 32 → ((i : ℕ) → i < n → byte_at a b (va + i) < 256) →
+pub from_small : (a : AbstractState) (b : Born) (va n : ℕ) → va + n < 2 ^ 32 → ((i : ℕ) → i < n → byte_at a b (va + i) < 256) →
     AreBytes (bytes_from a b va n)
 unfolding bytes_from
 from_small a b va zero below small i = omega arith
@@ -66,7 +66,7 @@ from_small a b va (suc n) below small (suc i) =
     (λ j lt. let same : (va + 1) % 2 ^ 32 + j ≡ va + suc j = omega (arith, next) in
     subst (λ (q : ℕ). byte_at a b q < 256) (sym same) (small (suc j) (omega (arith, lt)))) i
 
-four_from : (a : AbstractState) (b : Born) (va : ℕ) → va + 4 < 2 ^ 32 →
+pub four_from : (a : AbstractState) (b : Born) (va : ℕ) → va + 4 < 2 ^ 32 →
     bytes_from a b va 4 ≡ byte_at a b va ∷ byte_at a b (va + 1) ∷ byte_at a b (va + 2) ∷ byte_at a b (va + 3) ∷ []
 unfolding bytes_from
 four_from a b va below =
@@ -75,7 +75,7 @@ four_from a b va below =
     let three : (((va + 1) % 2 ^ 32 + 1) % 2 ^ 32 + 1) % 2 ^ 32 ≡ va + 3 = omega (arith, below, two) in
     λ i. byte_at a b va ∷ byte_at a b (one i) ∷ byte_at a b (two i) ∷ byte_at a b (three i) ∷ []
 
-one_from : (a : AbstractState) (b : Born) (va : ℕ) → bytes_from a b va 1 ≡ byte_at a b va ∷ []
+pub one_from : (a : AbstractState) (b : Born) (va : ℕ) → bytes_from a b va 1 ≡ byte_at a b va ∷ []
 unfolding bytes_from
 one_from a b va = refl
 

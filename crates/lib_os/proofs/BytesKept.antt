@@ -428,14 +428,14 @@ drop_one (suc n) [] = refl
 drop_one (suc n) (byte ∷ rest) = drop_one n rest
 
 -- Of the bytes from a place on, which are the lowest of a word, the first is taken away.
-word_behind : (bytes : List ℕ) (done word left : ℕ) → left ≤ 3 → take (suc left) (to_le_bytes w32 word) ≡ drop done bytes →
+pub word_behind : (bytes : List ℕ) (done word left : ℕ) → left ≤ 3 → take (suc left) (to_le_bytes w32 word) ≡ drop done bytes →
     take left (to_le_bytes w32 (word / 256)) ≡ drop (done + 1) bytes
 word_behind bytes done word left few is =
     let next : suc done ≡ done + 1 = omega arith in
     bytes_behind word left few ∙ ap (λ (l : List ℕ). drop 1 l) is ∙ drop_one done bytes ∙ ap (λ (m : ℕ). drop m bytes) next
 
 -- each of them
-word_byte : (bytes : List ℕ) (done word left i : ℕ) → take left (to_le_bytes w32 word) ≡ drop done bytes → i < left →
+pub word_byte : (bytes : List ℕ) (done word left i : ℕ) → take left (to_le_bytes w32 word) ≡ drop done bytes → i < left →
     slice_index (to_le_bytes w32 word) i ≡ slice_index bytes (done + i)
 word_byte bytes done word left i is lt =
     sym (get_or-take left (to_le_bytes w32 word) i 0 lt)
@@ -443,7 +443,7 @@ word_byte bytes done word left i is lt =
     ∙ get_or-drop done bytes i 0
 
 -- The first bytes stand in a page, and the next are put behind them.
-more_there : (page bytes put : List ℕ) (done : ℕ) → done + length put ≤ length page →
+pub more_there : (page bytes put : List ℕ) (done : ℕ) → done + length put ≤ length page →
     ((i : ℕ) → i < done → slice_index page i ≡ slice_index bytes i) →
     ((i : ℕ) → i < length put → slice_index put i ≡ slice_index bytes (done + i)) →
     (i : ℕ) → i < done + length put → slice_index (bytes_put page done put) i ≡ slice_index bytes i
@@ -515,7 +515,7 @@ working_outside = refl
 pub working_no_descriptor : is_descriptor working_page ≡ false
 working_no_descriptor = refl
 
-working_below : working_page < page_limit
+pub working_below : working_page < page_limit
 unfolding page_limit
 working_below = omega arith
 

@@ -329,6 +329,7 @@ module _ {names : Names} {s : KernelState} {a : AbstractState} {sp : SpacesState
 -- where nothing is kept in mind at the beginning, no page is kept later
 holds_none : (s : Service) → minds_page (place.InService s step.Entered) ≡ false → (at : Step) → holds_page (place.InService s at) ≡ false
 holds_none (service.Write fd va len) calm at = absurd (let contradiction : true ≡ false = calm in cc)
+holds_none (service.Remove path) calm at = absurd (let contradiction : true ≡ false = calm in cc)
 holds_none _ calm at = refl
 
 -- where it was at its beginning

@@ -141,9 +141,11 @@ module _ {names : Names} {s : KernelState} {a : AbstractState} (h : StandsFor na
 -- ---- the services that want to know what a descriptor names
 
 -- none of them keeps a page before it knows it
-pub holds_none : (s : Service) (at : Step) → keeps_page at ≡ false → holds_page (place.InService s at) ≡ false
-holds_none (service.Write fd va len) at none = none
-holds_none _ at none = refl
+pub holds_none : (s : Service) (fd : ℕ) → descriptor_given s ≡ Some fd → (at : Step) → keeps_page at ≡ false →
+    holds_page (place.InService s at) ≡ false
+holds_none (service.Write given va len) fd is at none = none
+holds_none (service.Remove path) fd is at none = absurd (none-some fd is)
+holds_none _ fd is at none = refl
 
 -- none bears a child
 given_unborne : (s : Service) (fd : ℕ) → descriptor_given s ≡ Some fd → (at : Step) → borne_in (place.InService s at) ≡ None
@@ -243,7 +245,7 @@ module _ (s : KernelState) (n : ℕ) (service : Service) (fd : ℕ) (given : des
           (
             h.0,
             back_stands h.1 n v.b v.is (record regs { eax = negated E_INVAL }) (ap borne_in v.place ∙ unborne_at step.Entered)
-                (ap holds_page v.place ∙ holds_none service step.Entered refl) here.silent here.awake v.outside refl refl,
+                (ap holds_page v.place ∙ holds_none service fd given step.Entered refl) here.silent here.awake v.outside refl refl,
           ),
         )
 
@@ -254,7 +256,7 @@ module _ (s : KernelState) (n : ℕ) (service : Service) (fd : ℕ) (given : des
       pub table_missing : tells_page (table_word s n) ≡ false → GoesOn n (service_answered (loaded s n table_va) n (negated E_INVAL)) a []
       table_missing told =
           let none = sym (table_told s n) ∙ told in
-          look_answers h n service step.Entered at_entry (unborne_at step.Entered) (holds_none service step.Entered refl) table_va order at_entry.at
+          look_answers h n service step.Entered at_entry (unborne_at step.Entered) (holds_none service fd given step.Entered refl) table_va order at_entry.at
           (negated E_INVAL)
           (no_object_refuses a n at_entry.b (slot_at s n).registers service fd given
           (object_missing h n at_entry.b at_entry.is fd (no_table_row h n at_entry.b at_entry.is none fd below)))
@@ -264,7 +266,7 @@ module _ (s : KernelState) (n : ℕ) (service : Service) (fd : ℕ) (given : des
       table_found told =
           read_goes_on h n service step.Entered at_entry (unborne_at step.Entered) table_va order (step.DescriptorEntry fd)
           (unborne_at (step.DescriptorEntry fd))
-          (holds_none service step.Entered refl ∙ sym (holds_none service (step.DescriptorEntry fd) refl))
+          (holds_none service fd given step.Entered refl ∙ sym (holds_none service fd given (step.DescriptorEntry fd) refl))
           (looks_up space (record (slot_at s n) { extra = words_at (number_of service) (step.DescriptorEntry fd) }) at_entry.b fd fd service given
           (record {
             is_in = in_with_words (words_at (number_of service) (step.DescriptorEntry fd)) at_entry.at;
@@ -293,7 +295,7 @@ module _ (s : KernelState) (n : ℕ) (service : Service) (fd : ℕ) (given : des
       pub entry_missing : tells_page (page_word s n fd) ≡ false → GoesOn n (service_answered (loaded s n (entry_va fd)) n (negated E_INVAL)) a []
       entry_missing told =
           look_answers h n service (step.DescriptorEntry at) at_page (unborne_at (step.DescriptorEntry at))
-          (holds_none service (step.DescriptorEntry at) refl) (entry_va fd) order looking.is_in (negated E_INVAL)
+          (holds_none service fd given (step.DescriptorEntry at) refl) (entry_va fd) order looking.is_in (negated E_INVAL)
           (no_object_refuses a n at_page.b (slot_at s n).registers service fd given
           (object_missing h n at_page.b at_page.is fd (none_there (space.row (descriptor_page fd)) (sym told_open ∙ told))))
 
@@ -302,7 +304,7 @@ module _ (s : KernelState) (n : ℕ) (service : Service) (fd : ℕ) (given : des
       entry_found told =
           read_goes_on h n service (step.DescriptorEntry at) at_page (unborne_at (step.DescriptorEntry at)) (entry_va fd) order step.ReadingDevice
           (unborne_at step.ReadingDevice)
-          (holds_none service (step.DescriptorEntry at) refl ∙ sym (holds_none service step.ReadingDevice refl))
+          (holds_none service fd given (step.DescriptorEntry at) refl ∙ sym (holds_none service fd given step.ReadingDevice refl))
           (subst
           (λ (o : Option ℕ). StandsAtDevice space (record (slot_at s n) { extra = words_at (number_of service) step.ReadingDevice }) at_page.b service o)
           (sym given) (record {
@@ -375,7 +377,7 @@ module _ (s : KernelState) (n : ℕ) (service : Service) (fd : ℕ) (given : des
         library_step a n at_device.b (slot_at s n).registers service entered ≡ Some (answered a n at_device.b (slot_at s n).registers word) →
         GoesOn n (service_answered (loaded s n (device_va fd)) n word) a []
     device_answers order word is =
-        look_answers h n service step.ReadingDevice at_device (unborne_at step.ReadingDevice) (holds_none service step.ReadingDevice refl)
+        look_answers h n service step.ReadingDevice at_device (unborne_at step.ReadingDevice) (holds_none service fd given step.ReadingDevice refl)
         (device_va fd) order reading_device.is_in word is
 
     -- or go on
@@ -384,4 +386,4 @@ module _ (s : KernelState) (n : ℕ) (service : Service) (fd : ℕ) (given : des
         StandsFor names (with_extra (loaded s n (device_va fd)) n (words_at (number_of service) to)) a
     device_goes_on order to plain so =
         read_goes_on h n service step.ReadingDevice at_device (unborne_at step.ReadingDevice) (device_va fd) order to (unborne_at to)
-        (holds_none service step.ReadingDevice refl ∙ sym (holds_none service to plain)) so
+        (holds_none service fd given step.ReadingDevice refl ∙ sym (holds_none service fd given to plain)) so

@@ -117,6 +117,8 @@ passed_from (step.Faulting done word) p = every p
 passed_from (step.Asking id) p = every p
 passed_from (step.Awaiting id) p = every p
 passed_from (step.ReadingReply id) p = every p
+passed_from step.Identifying p = every p
+passed_from (step.Clearing id) p = every p
 
 stack_kept : is_programs (page_number UXSTACK) ≡ false
 unfolding in_fence

@@ -65,6 +65,7 @@ pub mod FilesLeft
 pub mod StepsAsk
 pub mod ServedStay
 pub mod Fences
+pub mod Paths
 pub mod BytesRead
 pub mod EntryWords
 pub mod WindowWords
@@ -91,6 +92,15 @@ pub mod Sending
 pub mod Looking
 pub mod Tried
 pub mod ServerAsked
+pub mod PageAsked
+pub mod PathAwaited
+pub mod PathCleared
+pub mod PathAnswered
+pub mod PathStopped
+pub mod PathGathered
+pub mod PathKept
+pub mod PathRefused
+pub mod PathTaken
 pub mod Sums
 pub mod Covering
 pub mod NeedReached

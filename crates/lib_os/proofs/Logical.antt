@@ -142,6 +142,8 @@ fork_plain (step.Faulting done word) row plain p = refl
 fork_plain (step.Asking id) row plain p = refl
 fork_plain (step.Awaiting id) row plain p = refl
 fork_plain (step.ReadingReply id) row plain p = refl
+fork_plain step.Identifying row plain p = refl
+fork_plain (step.Clearing id) row plain p = refl
 
 service_plain : (s : Service) (at : Step) (row : EntryRow) → is_plain (place.InService s at) ≡ true → (p : ℕ) →
     counted (place.InService s at) row p ≡ row p
@@ -218,6 +220,8 @@ fork_unremapped (step.Faulting done word) p plain = refl
 fork_unremapped (step.Asking id) p plain = refl
 fork_unremapped (step.Awaiting id) p plain = refl
 fork_unremapped (step.ReadingReply id) p plain = refl
+fork_unremapped step.Identifying p plain = refl
+fork_unremapped (step.Clearing id) p plain = refl
 
 pub plain_unremapped : (at : Place) (p : ℕ) → is_plain at ≡ true → is_remapped at p ≡ false
 plain_unremapped place.Guest p plain = refl
@@ -312,6 +316,8 @@ fork_elsewhere (step.Faulting done word) row p other = refl
 fork_elsewhere (step.Asking id) row p other = refl
 fork_elsewhere (step.Awaiting id) row p other = refl
 fork_elsewhere (step.ReadingReply id) row p other = refl
+fork_elsewhere step.Identifying row p other = refl
+fork_elsewhere (step.Clearing id) row p other = refl
 
 service_elsewhere : (s : Service) (at : Step) (row : EntryRow) (p : ℕ) → is_remapped (place.InService s at) p ≡ false →
     counted (place.InService s at) row p ≡ row p
@@ -445,6 +451,8 @@ fork_some (step.Faulting done word) row p x is = itself (row p) x is
 fork_some (step.Asking id) row p x is = itself (row p) x is
 fork_some (step.Awaiting id) row p x is = itself (row p) x is
 fork_some (step.ReadingReply id) row p x is = itself (row p) x is
+fork_some step.Identifying row p x is = itself (row p) x is
+fork_some (step.Clearing id) row p x is = itself (row p) x is
 
 service_some : (s : Service) (at : Step) (row : EntryRow) (p : ℕ) (x : Entry) → counted (place.InService s at) row p ≡ Some x → StandsAs (row p) x
 unfolding counted

@@ -31,6 +31,7 @@ number_of (service.Write fd va len) = 13
 number_of (service.Seek fd offset) = 14
 number_of (service.Stat fd va) = 15
 number_of (service.SetSize fd size) = 16
+number_of (service.Remove path) = 17
 number_of service.Sync = 18
 number_of (service.Dup old new) = 19
 number_of _ = 22
@@ -57,7 +58,7 @@ numbered r built =
     by_number r.eax 4 _ _ refl (λ n4. by_number r.eax 5 _ _ refl (λ n5. by_number r.eax 6 _ _ refl (λ n6. by_number r.eax 7 _ _ refl (λ n7.
     by_number r.eax 8 _ _ refl (λ n8. by_number r.eax 9 _ _ refl (λ n9. past r.eax 10 _ _ (unbuilt 10 refl) (by_number r.eax 11 _ _ refl (λ n11.
     by_number r.eax 12 _ _ refl (λ n12. by_number r.eax 13 _ _ refl (λ n13. by_number r.eax 14 _ _ refl (λ n14. by_number r.eax 15 _ _ refl (λ n15.
-    by_number r.eax 16 _ _ refl (λ n16. past r.eax 17 _ _ (unbuilt 17 refl) (by_number r.eax 18 _ _ refl (λ n18. by_number r.eax 19 _ _ refl (λ n19.
+    by_number r.eax 16 _ _ refl (λ n16. by_number r.eax 17 _ _ refl (λ n17. by_number r.eax 18 _ _ refl (λ n18. by_number r.eax 19 _ _ refl (λ n19.
     let no_number : ⊥ = grind (arith, nat_tests) in absurd no_number))))))))))))))))))))
   where
     unbuilt : (k : ℕ) → is_built k ≡ false → r.eax ≢ k

@@ -99,8 +99,12 @@ numbers_kept s after n others copies then_so live a h m b ne at lives =
     let kept = copies live a h m b ne at in
     stays_lower s after m (all.stay m ne (born_live (born_at h.1 m b at)) lives) kept.fewer
 
-pub working_kept : (s after : KernelState) (n : ℕ) → KeepsCopies n s after → KeepsWorking n s after
-working_kept s after n copies live a h m b ne at = let kept = copies live a h m b ne at in kept.working
+pub working_kept : (s after : KernelState) (n : ℕ) → KeepsOthers n s after → KeepsCopies n s after → KeepsWorking n s after
+working_kept s after n others copies then_so live a h m b ne at lives =
+    let all = others h.1.in_order then_so live in
+    let kept = all.stay m ne (born_live (born_at h.1 m b at)) lives in
+    let space = copies live a h m b ne at in
+    ap (λ (d : ℕ). rows_of after.spaces d (page_number UTEMP)) kept.directory ∙ space.working
 
 kept_in : (Q : ℕ → Type 0) (s t : SpacesState) (d : ℕ) → Q d → NoMoreWait Q s t → SpaceKept d s t
 kept_in Q s t d here wait = record {

@@ -15,7 +15,7 @@ use Rattle.lib_os.specs.declared.place.Place.TheVariants as place
 use Rattle.lib_os.specs.declared.place.Step.TheVariants as step
 use Rattle.lib_os.specs.declared.progress.Progress.TheVariants as progress
 use Rattle.lib_os.specs.declared.service.Service.TheVariants as service
-use Rattle.lib_os.specs.AbstractState.{AbstractState}
+use Rattle.lib_os.specs.AbstractState.{AbstractState, Born, born}
 use Rattle.lib_os.specs.InOrder.{IsInOrder}
 use Rattle.lib_os.specs.LibrarySteps.{KeepsStanding, Lowers, TakesAtMost, copies_left, copy_steps, hidden_left, left_at, service_answered}
 use Rattle.lib_os.specs.Places.{place_of}
@@ -33,7 +33,7 @@ use Rattle.lib_os.proofs.PageTaken.{working_page, working_stands}
 use Rattle.lib_os.proofs.Removing.{unmapped_removed}
 use Rattle.lib_os.proofs.Serving.{IsServed, served, words_of_none}
 use Rattle.lib_os.proofs.Slots.{slot_put}
-use Rattle.lib_os.proofs.SlotsStand.{HasTables}
+use Rattle.lib_os.proofs.SlotsStand.{HasTables, born_at}
 use Rattle.lib_os.proofs.Trying.{LivesOn}
 use Rattle.lib_os.proofs.WordsTell.{outside_stack}
 use Rattle.jos_base.proofs.Puts.{put-other}
@@ -70,14 +70,45 @@ module _ (s : KernelState) (n : ℕ) where
       Removed s.spaces without_working (slot_at s n).directory working_page
   give_removes h = unmapped_removed s.spaces (slot_at s n).directory working_page h.in_order.frames
 
+-- ---- the space behind it
+
+module _ {names : Names} {s : KernelState} {a : AbstractState} {sp : SpacesState} (h : StandsFor names s a) (n : ℕ) (b : Born) (is : a.slots n ≡ born b)
+    (removed : Removed s.spaces sp (slot_at s n).directory working_page) where
+  abbrev d : ℕ
+  d = (slot_at s n).directory
+
+  pub given_puts : Puts names names s.spaces sp d working_page None
+  given_puts = record {
+    rows = removed.rows;
+    bytes = λ q r x ne hx.
+        removed.bytes q r x (ap (λ (rows : Rows). rows q r) removed.rows ∙ put-other (rows_of s.spaces) d working_page None q r ne ∙ hx);
+    named_so = λ q r x hx shared_page. refl;
+    regions = λ q r ne. removed.regions q r;
+  }
+
+  pub given_row : PutsRow names names s.spaces.pages a.shared sp.pages a.shared (things_in s a) a.next_name a.next_name
+      (logical s.spaces s.environments.slots) n working_page None
+  given_row = record {
+    bytes = bytes_elsewhere h n b is given_puts;
+    agree = λ m q x e ne hx is_some same. absurd (none-some e is_some);
+    user = λ e is_some. absurd (none-some e is_some);
+    whole = λ e is_some. absurd (none-some e is_some);
+    beside = λ q e y is_some there. absurd (none-some e is_some);
+    named_new = λ e is_some. absurd (none-some e is_some);
+    named_old = λ m q x ne hx shared_page was. named_bytes (sym (bytes_elsewhere h n b is given_puts m q x ne hx)) was;
+  }
+
+  pub given_tables : HasTables sp d b.regions
+  given_tables = record {
+    have = λ r has. removed.regions d r ∙ (born_at h n b is).regions_have r has;
+    only = λ r has. (born_at h n b is).regions_only r (sym (removed.regions d r) ∙ has);
+  }
+
 -- ---- the state behind it
 
 module _ {names : Names} {s : KernelState} {a : AbstractState} {sp : SpacesState} (h : StandsFor names s a) (n fd va len : ℕ)
     (stands : place_of (slot_at s n) ≡ place.InService (service.Write fd va len) step.Releasing)
     (removed : Removed s.spaces sp (slot_at s n).directory working_page) (in_order : IsInOrder (with_spaces s sp)) where
-  abbrev d : ℕ
-  d = (slot_at s n).directory
-
   -- the registers of the program, with the answer
   abbrev regs : Regs
   regs = record (slot_at s n).registers { eax = wanted_of len }
@@ -91,33 +122,6 @@ module _ {names : Names} {s : KernelState} {a : AbstractState} {sp : SpacesState
   printed : HasPrinted (slot_at s n) v.b len
   printed = v.at
 
-  given_puts : Puts names names s.spaces sp d working_page None
-  given_puts = record {
-    rows = removed.rows;
-    bytes = λ q r x ne hx.
-        removed.bytes q r x (ap (λ (rows : Rows). rows q r) removed.rows ∙ put-other (rows_of s.spaces) d working_page None q r ne ∙ hx);
-    named_so = λ q r x hx shared_page. refl;
-    regions = λ q r ne. removed.regions q r;
-  }
-
-  given_row : PutsRow names names s.spaces.pages a.shared sp.pages a.shared (things_in s a) a.next_name a.next_name
-      (logical s.spaces s.environments.slots) n working_page None
-  given_row = record {
-    bytes = bytes_elsewhere h n v.b v.is given_puts;
-    agree = λ m q x e ne hx is same. absurd (none-some e is);
-    user = λ e is. absurd (none-some e is);
-    whole = λ e is. absurd (none-some e is);
-    beside = λ q e y is there. absurd (none-some e is);
-    named_new = λ e is. absurd (none-some e is);
-    named_old = λ m q x ne hx shared_page was. named_bytes (sym (bytes_elsewhere h n v.b v.is given_puts m q x ne hx)) was;
-  }
-
-  given_tables : HasTables sp d v.b.regions
-  given_tables = record {
-    have = λ r is. removed.regions d r ∙ v.own.regions_have r is;
-    only = λ r is. v.own.regions_only r (sym (removed.regions d r) ∙ is);
-  }
-
   given_at : IsAtGuest back v.b
   given_at = record {
     program = printed.program;
@@ -129,9 +133,9 @@ module _ {names : Names} {s : KernelState} {a : AbstractState} {sp : SpacesState
 
   pub page_given_stands : StandsFor names (service_answered (with_spaces s sp) n (wanted_of len)) a
   page_given_stands =
-      working_stands h n v.b v.is v.own v.outside (ap borne_in v.place) given_puts regs no_extra place.Guest
+      working_stands h n v.b v.is v.own v.outside (ap borne_in v.place) (given_puts h n v.b v.is removed) regs no_extra place.Guest
       (words_of_none regs no_extra v.outside refl) refl refl refl refl (λ is. absurd (let contradiction : false ≡ true = is in cc)) (λ is. refl)
-      given_tables given_at given_row in_order
+      (given_tables h n v.b v.is removed) given_at (given_row h n v.b v.is removed) in_order
 
 -- ---- what the step comes to
 

@@ -11,7 +11,7 @@ use Rattle.jos_base.specs.declared.called.Called.TheVariants.{Answered}
 use Rattle.jos_base.specs.declared.numbers.TheConstants.{E_NO_MEM, FDTABLE, NPTENTRIES, PTE_P, PTE_SYSCALL, PTE_U, PTE_W}
 use Rattle.jos_base.specs.declared.numbers.TheConstants.{SYS_PAGE_ALLOC, USTACKTOP, UTEMP}
 use Rattle.jos_base.specs.declared.registers.Regs.{Regs}
-use Rattle.jos_base.specs.Environments.{Slot, is_live as is_live_slot}
+use Rattle.jos_base.specs.Environments.{Slot, is_live as is_live_slot, no_extra}
 use Rattle.jos_base.specs.KernelState.{KernelState, slot_at, with_extra, with_refusal, with_slot_at, with_spaces}
 use Rattle.jos_base.specs.Reach.{Entry}
 use Rattle.jos_base.specs.SpacesState.{SpacesState, put}
@@ -25,7 +25,8 @@ use Rattle.lib_os.specs.declared.place.Step.TheVariants as step
 use Rattle.lib_os.specs.declared.progress.Progress.TheVariants as progress
 use Rattle.lib_os.specs.declared.service.Service.{Service}
 use Rattle.lib_os.specs.declared.service.Service.TheVariants as service
-use Rattle.lib_os.specs.AbstractState.{AbstractState, Born, born, entered}
+use Rattle.lib_os.specs.AbstractState.{AbstractState, Born, Phase, ProgramState, at_guest, born, entered, guest}
+use Rattle.lib_os.specs.Answers.{back_with}
 use Rattle.lib_os.specs.DescriptorPages.{device_of}
 use Rattle.lib_os.specs.Fence.{in_fence, is_resident}
 use Rattle.lib_os.specs.InOrder.{IsInOrder}
@@ -34,7 +35,7 @@ use Rattle.lib_os.specs.LibrarySteps.{KeepsStanding, TakesAtMost, copies_left, i
 use Rattle.lib_os.specs.Places.{is_handlers, place_of, words_at}
 use Rattle.lib_os.specs.Rows.{IsPage, IsUsers, Names, Rows, descriptor_page, descriptor_seen, is_descriptor, is_programs, is_shared, logical}
 use Rattle.lib_os.specs.Rows.{is_clients, is_cow, lasting, page_by, page_seen, rows_of, seen_where, shown_at}
-use Rattle.lib_os.specs.StandsFor.{IsIn, IsTaking, StandsAt, StandsFor, StandsForBorn, borne_in, things_in, view_of}
+use Rattle.lib_os.specs.StandsFor.{HasTaken, IsIn, IsStatusFor, IsTaking, StandsAt, StandsFor, StandsForBorn, borne_in, things_in, view_of}
 use Rattle.lib_os.specs.StandsInHandler.{IsGiven, wanted_of}
 use Rattle.lib_os.specs.UserCalls.{CallStep, giving, system}
 use Rattle.lib_os.proofs.CallersStay.{alloc_answers}
@@ -51,7 +52,7 @@ use Rattle.lib_os.proofs.PagesStand.{Puts, bytes_elsewhere, elsewhere, other_reg
 use Rattle.lib_os.proofs.PageBytes.{zero_page_whole}
 use Rattle.lib_os.proofs.Placing.{allocated_made}
 use Rattle.lib_os.proofs.Serving.{IsServed, plain_copy, plain_upcall, served}
-use Rattle.lib_os.proofs.SlotsStand.{HasTables, SeenAlike, descriptors_off}
+use Rattle.lib_os.proofs.SlotsStand.{HasTables, SeenAlike, born_at, descriptors_off}
 use Rattle.lib_os.proofs.StatesStand.{clients_live, others_count, own_moves, slot_in_order}
 use Rattle.lib_os.proofs.Trying.{LivesOn}
 use Rattle.lib_os.proofs.WordsTell.{handler_runs, is_in_handler, place_at}
@@ -140,21 +141,25 @@ module _ {names : Names} {s t : SpacesState} {d : ℕ} {v : Option Entry} (puts 
         working_beside p other ∙ h.none p outside_it no_descriptor no_stack no_copy other;
   }
 
-  -- What the environment has of its own, where it stands elsewhere in those spaces, by other registers and words.
-  own_part : (k : Slot) (b : Born) (regs : Regs) (words : List ℕ) (after : Place) → k.directory ≡ d → StandsForBorn names s k b →
+  -- What the environment has of its own, where it stands elsewhere in those spaces, by other registers and words, and its
+  -- program at another place.
+  own_part : (k : Slot) (b : Born) (program : ProgramState) (phase : Phase) (blocked : Bool) (regs : Regs) (words : List ℕ) (after : Place) →
+      IsStatusFor k.status blocked → k.directory ≡ d → StandsForBorn names s k b →
       place_of (record k { registers = regs; extra = words }) ≡ after → is_in_handler (place_of k) ≡ false → is_in_handler after ≡ false →
       regs.esp ≡ k.registers.esp → regs.eflags ≡ k.registers.eflags →
       (has_working after words ≡ true → IsOwnWritable (rows_of t d) working_page) → (has_working after words ≡ false → v ≡ None) →
-      HasTables t d b.regions → StandsAt after (view_of t d) (record k { registers = regs; extra = words }) b →
-      StandsForBorn names t (record k { registers = regs; extra = words }) b
-  own_part k b regs words after home h there outside outside_after esp eflags working no_working tables at =
+      HasTables t d b.regions →
+      StandsAt after (view_of t d) (record k { registers = regs; extra = words }) (record b { program = program; phase = phase; blocked = blocked }) →
+      StandsForBorn names t (record k { registers = regs; extra = words }) (record b { program = program; phase = phase; blocked = blocked })
+  own_part k b program phase blocked regs words after runs home h there outside outside_after esp eflags working no_working tables at =
       let moved : Slot = record k { registers = regs; extra = words } in
+      let later : Born = record b { program = program; phase = phase; blocked = blocked } in
       record {
         id = h.id;
         id_small = h.id_small;
         parent = h.parent;
         env_type = h.env_type;
-        runs = h.runs;
+        runs = runs;
         upcall = h.upcall ∙ plain_upcall (place_of k) outside ∙ sym (plain_upcall (place_of moved) (ap is_in_handler there ∙ outside_after));
         descriptors = λ fd. h.descriptors fd
             ∙ subst (λ (e : ℕ). descriptor_seen names s e fd ≡ descriptor_seen names t e fd) (sym home) (sym (descriptors_kept fd));
@@ -168,8 +173,8 @@ module _ {names : Names} {s t : SpacesState} {d : ℕ} {v : Option Entry} (puts 
             tables.only;
         stack = ap (λ (p : ℕ). is_handlers p || not (is_resident p)) esp ∙ h.stack;
         flags = subst (λ (f : ℕ). f ≡ user_flags f) (sym eflags) h.flags;
-        at = subst (λ (p : Place). StandsAt p (view_of t k.directory) moved b) (sym there)
-            (subst (λ (e : ℕ). StandsAt after (view_of t e) moved b) (sym home) at);
+        at = subst (λ (p : Place). StandsAt p (view_of t k.directory) moved later) (sym there)
+            (subst (λ (e : ℕ). StandsAt after (view_of t e) moved later) (sym home) at);
       }
 
 -- ---- and the slot is another
@@ -237,10 +242,28 @@ module _ {names : Names} {s : KernelState} {a : AbstractState} {sp : SpacesState
         subst (λ (x : AbstractState). StandsFor names (with_slot_at (with_spaces s sp) n moved) x) (born_back a n b is)
         (own_moves h n b is sp moved b a.shared a.next_name refl (record { id = refl; env_type = refl; calm = λ runs. runs }) unborne
         (ap borne_in there ∙ unborne_after) others
-        (own_part puts (slot_at s n) b regs words after refl own there unhandled outside_after esp eflags working no_working tables at)
+        (own_part puts (slot_at s n) b b.program b.phase b.blocked regs words after own.runs refl own there unhandled outside_after esp eflags working no_working tables at)
         (rows_same (put (logical s.spaces s.environments.slots) n working_page v) (logical sp (upd s.environments.slots n moved)) counts
         (rows_put (rows_stand h) row))
         (slot_in_order (with_spaces s sp) n moved refl refl in_order))
+
+    -- The service has answered: its program goes on in both, and the page is given back.
+    pub working_back : words ≡ no_extra → after ≡ place.Guest → v ≡ None → (slot_at s n).rendezvous.receiving ≡ false → b.blocked ≡ false →
+        regs.esp ≡ (slot_at s n).registers.esp → regs.eflags ≡ (slot_at s n).registers.eflags → HasTables sp dir b.regions →
+        PutsRow names names s.spaces.pages a.shared sp.pages a.shared (things_in s a) a.next_name a.next_name
+        (logical s.spaces s.environments.slots) n working_page v → IsInOrder (with_spaces s sp) →
+        StandsFor names (with_slot_at (with_spaces s sp) n moved) (back_with a n b regs)
+    working_back no_words at_program gone silent awake esp eflags tables row in_order =
+        own_moves h n b is sp moved (record b { program = guest regs; phase = at_guest; blocked = false }) a.shared a.next_name refl
+        (record { id = refl; env_type = refl; calm = λ runs. runs }) unborne (ap borne_in there ∙ unborne_after) others
+        (own_part puts (slot_at s n) b (guest regs) at_guest false regs words after
+        (subst (λ (blocked : Bool). IsStatusFor (slot_at s n).status blocked) awake own.runs) refl own there unhandled outside_after esp eflags
+        (λ has. absurd (let contradiction : false ≡ true = sym (ap (λ (p : Place). has_working p words) at_program) ∙ has in cc)) (λ none. gone) tables
+        (subst (λ (p : Place). StandsAt p (view_of sp dir) moved (record b { program = guest regs; phase = at_guest; blocked = false })) (sym at_program)
+        (record { program = refl; phase = refl; words = no_words; silent = silent; awake = refl })))
+        (rows_same (put (logical s.spaces s.environments.slots) n working_page v) (logical sp (upd s.environments.slots n moved)) counts
+        (rows_put (rows_stand h) row))
+        (slot_in_order (with_spaces s sp) n moved refl refl in_order)
 
 -- ---- the call that takes it
 
@@ -287,6 +310,70 @@ module _ (s : KernelState) (n : ℕ) where
       not_to_copy : (e : Entry) → e.perm ≡ working_perm → is_to_copy (option_map lasting (Some e)) ≡ false
       not_to_copy e bits = ap (λ (p : ℕ). is_cow (bit_and p PTE_SYSCALL)) bits
 
+-- ---- the space behind it
+
+module _ {names : Names} {s : KernelState} {a : AbstractState} {sp : SpacesState} (h : StandsFor names s a) (n : ℕ) (b : Born) (is : a.slots n ≡ born b)
+    (made : Made s.spaces sp (slot_at s n).directory working_page working_perm) where
+  abbrev d : ℕ
+  d = (slot_at s n).directory
+
+  abbrev new_entry : Entry
+  new_entry = record { frame = made.frame; perm = working_perm }
+
+  pub taken_puts : Puts names names s.spaces sp d working_page (Some new_entry)
+  taken_puts = record {
+    rows = made.placed.rows;
+    bytes = λ q r x ne hx. made.placed.bytes q r x (row_elsewhere made.placed q r ne ∙ hx) (made.new q r x hx);
+    named_so = λ q r x hx shared_page. refl;
+    regions = other_regions made.placed;
+  }
+
+  pub taken_row : PutsRow names names s.spaces.pages a.shared sp.pages a.shared (things_in s a) a.next_name a.next_name
+      (logical s.spaces s.environments.slots) n working_page (Some new_entry)
+  taken_row = record {
+    bytes = bytes_elsewhere h n b is taken_puts;
+    agree = λ m q x e ne hx is_new same.
+        let found = elsewhere h n b is taken_puts m q x ne hx in
+        absurd (made.new _ q found.1.entry found.1.stands (found.1.frame ∙ same ∙ ap (λ (y : Entry). y.frame) (sym (same_Some new_entry e is_new))));
+    user = λ e is_new. subst (λ (y : Entry). IsUsers y.perm) (same_Some new_entry e is_new) working_user;
+    whole = λ e is_new. subst (λ (y : Entry). IsPage (sp.pages y.frame)) (same_Some new_entry e is_new)
+        (subst (λ (page : List ℕ). IsPage page) (sym made.zero) zero_page_whole);
+    beside = λ q e y is_new there same.
+        absurd (made.new _ q y there (sym same ∙ ap (λ (z : Entry). z.frame) (sym (same_Some new_entry e is_new))));
+    named_new = λ e is_new shared_page.
+        let contradiction : false ≡ true = ap (λ (y : Entry). is_shared y.perm) (same_Some new_entry e is_new) ∙ shared_page in cc;
+    named_old = λ m q x ne hx shared_page was.
+        named_bytes (sym (bytes_elsewhere h n b is taken_puts m q x ne hx)) was;
+  }
+
+  pub taken_own : IsOwnWritable (rows_of sp d) working_page
+  taken_own = record { entry = new_entry; stands = working_here taken_puts; own_page = refl; writes = refl }
+
+  -- it has no bytes yet
+  pub taken_none : HasTaken (view_of sp d) [] 0
+  taken_none = record { entry = new_entry; stands = working_here taken_puts; own_page = refl; same = λ i lt. absurd (omega (arith, lt)) }
+
+  -- the region of the page is one of the library's
+  pub taken_tables : HasTables sp d b.regions
+  taken_tables = record {
+    have = λ r has. table_is r ∙ stood r ((born_at h n b is).regions_have r has);
+    only = λ r has. by_region r (r == working_page / NPTENTRIES) refl (sym (table_is r) ∙ has);
+  }
+    where
+      here : (d == d) ≡ true
+      here = grind (arith, nat_tests)
+
+      table_is : (r : ℕ) → is_some (sp.regions d r) ≡ ((r == working_page / NPTENTRIES) || is_some (s.spaces.regions d r))
+      table_is r = made.placed.regions d r ∙ ap (λ (c : Bool). (c && (r == working_page / NPTENTRIES)) || is_some (s.spaces.regions d r)) here
+
+      stood : (r : ℕ) → is_some (s.spaces.regions d r) ≡ true → ((r == working_page / NPTENTRIES) || is_some (s.spaces.regions d r)) ≡ true
+      stood r has = or_true (r == working_page / NPTENTRIES) (is_some (s.spaces.regions d r)) has
+
+      by_region : (r : ℕ) (c : Bool) → (r == working_page / NPTENTRIES) ≡ c → (c || is_some (s.spaces.regions d r)) ≡ true →
+          (b.regions r || is_library_region r) ≡ true
+      by_region r true test has = or_true (b.regions r) (is_library_region r) (working_region r test)
+      by_region r false test has = (born_at h n b is).regions_only r has
+
 -- ---- the state behind it
 
 module _ {names : Names} {s : KernelState} {a : AbstractState} {sp : SpacesState} (h : StandsFor names s a) (n fd va len : ℕ)
@@ -295,11 +382,8 @@ module _ {names : Names} {s : KernelState} {a : AbstractState} {sp : SpacesState
   abbrev to : Step
   to = step.BufferRegion 0 0
 
-  abbrev d : ℕ
-  d = (slot_at s n).directory
-
-  abbrev new_entry : Entry
-  new_entry = record { frame = made.frame; perm = working_perm }
+  abbrev home : ℕ
+  home = (slot_at s n).directory
 
   abbrev goes_to : Slot
   goes_to = record (slot_at s n) { extra = words_at SERVICE_WRITE to }
@@ -310,63 +394,17 @@ module _ {names : Names} {s : KernelState} {a : AbstractState} {sp : SpacesState
   is_in : IsIn (slot_at s n) v.b (service.Write fd va len) entered
   is_in = let at = v.at in at.0
 
-  given : IsGiven (view_of s.spaces d) fd va len
+  given : IsGiven (view_of s.spaces home) fd va len
   given = let at = v.at in at.1
 
   some : 0 < len
   some = let at = v.at in at.2
 
-  taken_puts : Puts names names s.spaces sp d working_page (Some new_entry)
-  taken_puts = record {
-    rows = made.placed.rows;
-    bytes = λ q r x ne hx. made.placed.bytes q r x (row_elsewhere made.placed q r ne ∙ hx) (made.new q r x hx);
-    named_so = λ q r x hx shared_page. refl;
-    regions = other_regions made.placed;
-  }
-
-  taken_row : PutsRow names names s.spaces.pages a.shared sp.pages a.shared (things_in s a) a.next_name a.next_name
-      (logical s.spaces s.environments.slots) n working_page (Some new_entry)
-  taken_row = record {
-    bytes = bytes_elsewhere h n v.b v.is taken_puts;
-    agree = λ m q x e ne hx is same.
-        let found = elsewhere h n v.b v.is taken_puts m q x ne hx in
-        absurd (made.new _ q found.1.entry found.1.stands (found.1.frame ∙ same ∙ ap (λ (y : Entry). y.frame) (sym (same_Some new_entry e is))));
-    user = λ e is. subst (λ (y : Entry). IsUsers y.perm) (same_Some new_entry e is) working_user;
-    whole = λ e is. subst (λ (y : Entry). IsPage (sp.pages y.frame)) (same_Some new_entry e is)
-        (subst (λ (page : List ℕ). IsPage page) (sym made.zero) zero_page_whole);
-    beside = λ q e y is there same. absurd (made.new _ q y there (sym same ∙ ap (λ (z : Entry). z.frame) (sym (same_Some new_entry e is))));
-    named_new = λ e is shared_page.
-        let contradiction : false ≡ true = ap (λ (y : Entry). is_shared y.perm) (same_Some new_entry e is) ∙ shared_page in cc;
-    named_old = λ m q x ne hx shared_page was.
-        named_bytes (sym (bytes_elsewhere h n v.b v.is taken_puts m q x ne hx)) was;
-  }
-
-  taken_own : IsOwnWritable (rows_of sp d) working_page
-  taken_own = record { entry = new_entry; stands = working_here taken_puts; own_page = refl; writes = refl }
-
-  -- the region of the page is one of the library's
-  taken_tables : HasTables sp d v.b.regions
-  taken_tables = record {
-    have = λ r is. table_is r ∙ stood r (v.own.regions_have r is);
-    only = λ r is. by_region r (r == working_page / NPTENTRIES) refl (sym (table_is r) ∙ is);
-  }
-    where
-      here : (d == d) ≡ true
-      here = grind (arith, nat_tests)
-
-      table_is : (r : ℕ) → is_some (sp.regions d r) ≡ ((r == working_page / NPTENTRIES) || is_some (s.spaces.regions d r))
-      table_is r = made.placed.regions d r ∙ ap (λ (c : Bool). (c && (r == working_page / NPTENTRIES)) || is_some (s.spaces.regions d r)) here
-
-      stood : (r : ℕ) → is_some (s.spaces.regions d r) ≡ true → ((r == working_page / NPTENTRIES) || is_some (s.spaces.regions d r)) ≡ true
-      stood r is = or_true (r == working_page / NPTENTRIES) (is_some (s.spaces.regions d r)) is
-
-      by_region : (r : ℕ) (c : Bool) → (r == working_page / NPTENTRIES) ≡ c → (c || is_some (s.spaces.regions d r)) ≡ true →
-          (v.b.regions r || is_library_region r) ≡ true
-      by_region r true test is = or_true (v.b.regions r) (is_library_region r) (working_region r test)
-      by_region r false test is = v.own.regions_only r is
+  puts : Puts names names s.spaces sp home working_page (Some (record { frame = made.frame; perm = working_perm }))
+  puts = taken_puts h n v.b v.is made
 
   -- it stands before the first byte of its buffer, of which nothing is taken
-  taken_at : IsTaking (view_of sp d) goes_to v.b fd va len 0
+  taken_at : IsTaking (view_of sp home) goes_to v.b fd va len 0
   taken_at = record {
     bytes = [];
     program = is_in.program;
@@ -376,9 +414,9 @@ module _ {names : Names} {s : KernelState} {a : AbstractState} {sp : SpacesState
         below = given.below;
         console = record {
           entry = given.console.entry;
-          stands = working_beside taken_puts (descriptor_page fd) beside ∙ given.console.stands;
+          stands = working_beside puts (descriptor_page fd) beside ∙ given.console.stands;
           device =
-              ap device_of (taken_puts.bytes d (descriptor_page fd) given.console.entry (λ same too. beside too) given.console.stands)
+              ap device_of (puts.bytes home (descriptor_page fd) given.console.entry (λ same too. beside too) given.console.stands)
               ∙ given.console.device;
         };
         buffer = given.buffer;
@@ -386,7 +424,7 @@ module _ {names : Names} {s : KernelState} {a : AbstractState} {sp : SpacesState
       fewer = few;
     };
     many = refl;
-    kept = record { entry = new_entry; stands = working_here taken_puts; own_page = refl; same = λ i lt. absurd (omega (arith, lt)) };
+    kept = taken_none h n v.b v.is made;
     silent = is_in.silent;
     awake = is_in.awake;
   }
@@ -399,12 +437,12 @@ module _ {names : Names} {s : KernelState} {a : AbstractState} {sp : SpacesState
 
   pub page_taken_stands : StandsFor names (with_extra (with_spaces s sp) n (words_at SERVICE_WRITE to)) a
   page_taken_stands =
-      working_stands h n v.b v.is v.own v.outside (ap borne_in v.place) taken_puts (slot_at s n).registers (words_at SERVICE_WRITE to)
+      working_stands h n v.b v.is v.own v.outside (ap borne_in v.place) puts (slot_at s n).registers (words_at SERVICE_WRITE to)
       (place.InService (service.Write fd va len) to)
       (place_at (slot_at s n).registers SERVICE_WRITE to v.outside
       ∙ ap (λ (x : Service). place.InService x to) (named_at (slot_at s n) (service.Write fd va len) step.TakingPage v.place))
-      refl refl refl refl (λ is. taken_own) (λ is. absurd (let contradiction : true ≡ false = is in cc)) taken_tables (taken_at, tt) taken_row
-      in_order
+      refl refl refl refl (λ is. taken_own h n v.b v.is made) (λ is. absurd (let contradiction : true ≡ false = is in cc)) (taken_tables h n v.b v.is made)
+      (taken_at, tt) (taken_row h n v.b v.is made) in_order
 
 -- ---- what the step comes to
 

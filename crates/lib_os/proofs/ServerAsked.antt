@@ -211,11 +211,11 @@ module _ {names : Names} {s : KernelState} {a : AbstractState} (h : StandsFor na
 
 -- ---- by its answer
 
-abbrev word_in : Called → ℕ
+abbrev pub word_in : Called → ℕ
 word_in (Answered word) = word
 word_in _ = 0
 
-abbrev word_got : Got Called → ℕ
+abbrev pub word_got : Got Called → ℕ
 word_got (got called) = word_in called
 word_got _ = 0
 
@@ -296,11 +296,11 @@ module _ (s : KernelState) (n id : ℕ) (stands : place_of (slot_at s n) ≡ pla
       by_outcome (asks is so call_is) =
           subst (λ (t : KernelState). LeavesOrAsks n s t) (sym (came_to (server_asked s n) 0 call_is))
           (asked_it (record {
+            by_service = service.Sync;
             id = id;
             at = stands;
             waited = so;
-            slot = upd-at s.environments.slots 0 (with_word (slot_at s 0) (slot_at s n).id FSREQ_SYNC);
-            spaces = refl;
+            brings = (upd-at s.environments.slots 0 (with_word (slot_at s 0) (slot_at s n).id FSREQ_SYNC), refl);
           }))
       by_outcome (waits not_idle call_is) =
           subst (λ (t : KernelState). LeavesOrAsks n s t) (sym (came_to s (negated E_IPC_NOT_RECV) call_is))

@@ -40,7 +40,9 @@ use Rattle.jos_base.specs.UserMemory.{reach_in, touched, all_touched, stored_byt
 use Rattle.jos_base.specs.Words.{page_number, upd}
 use Rattle.lib_os.specs.AbstractState.{AbstractState, AbstractSlot}
 use Rattle.lib_os.specs.InOrder.{HasOneUse, IsInOrder, AreFree}
-use Rattle.lib_os.specs.LibrarySteps.{Stands, KeepsServer, LeavesOrAsks, asked_it, left_alone}
+use Rattle.lib_os.specs.declared.service.Service.{Service}
+use Rattle.lib_os.specs.declared.service.Service.TheVariants as service
+use Rattle.lib_os.specs.LibrarySteps.{BringsRequest, Stands, KeepsServer, LeavesOrAsks, asked_it, left_alone}
 use Rattle.lib_os.specs.Rows.{Names}
 use Rattle.lib_os.specs.StandsFor.{StandsFor, StandsForSlot, StandsForServer}
 use Rattle.lib_os.specs.UserCalls.{CallStep, giving, accessing, by_access, faulting, user_byte, user_word, with_user_byte, with_user_word}
@@ -600,10 +602,15 @@ own_server s n mid slot status directory_is h then_so other live a stands =
     kept : slot_at (with_slot_at mid n slot) 0 ≡ slot_at mid 0
     kept = slot_kept mid n slot 0 (λ same. other (sym same))
 
+    brought : (x : Service) → BringsRequest x n s mid → BringsRequest x n s (with_slot_at mid n slot)
+    brought service.Sync it = (kept ∙ it.0, it.1)
+    brought (service.Remove path) it = (kept ∙ it.0, record { entry = it.1.entry; stands = it.1.stands; spaces = it.1.spaces })
+    brought _ it = absurd it
+
     by_way : LeavesOrAsks n s mid → LeavesOrAsks n s (with_slot_at mid n slot)
     by_way (left_alone it) = left_alone (record { slot = kept ∙ it.slot; entries = it.entries; regions = it.regions; pages = it.pages })
     by_way (asked_it it) =
-        asked_it (record { id = it.id; at = it.at; waited = it.waited; slot = kept ∙ it.slot; spaces = it.spaces })
+        asked_it (record { by_service = it.by_service; id = it.id; at = it.at; waited = it.waited; brings = brought it.by_service it.brings })
 
 module _ (s : KernelState) (n number : ℕ) (args : List ℕ) where
   server_by : (d : ℕ) → IsAside d s n → ((number == SYS_EXOFORK) ≡ true → NextIsFree s) → sends_aside number args ≡ true →

@@ -15,6 +15,7 @@ use Rattle.fs_layout.specs.FileActs.{file_act}
 use Rattle.fs_layout.specs.FileTree.{sync_files}
 use Rattle.lib_os.specs.declared.numbers.TheConstants.{REQUEST, SHORT_QUANTUM}
 use Rattle.lib_os.specs.declared.place.Place.{Place}
+use Rattle.lib_os.specs.declared.place.Place.TheVariants as place
 use Rattle.lib_os.specs.declared.service.Service.{Service}
 use Rattle.lib_os.specs.declared.service.Service.TheVariants as service
 use Rattle.lib_os.specs.AbstractRun.{abs_step, may_wait, reply_may_wait, slot_may_wait, slot_step}
@@ -22,14 +23,14 @@ use Rattle.lib_os.specs.AbstractState.{AbstractSlot, AbstractState, Born, Phase,
 use Rattle.lib_os.specs.AbstractState.{leaving, replied, with_born}
 use Rattle.lib_os.specs.FileServer.{act_done, reply, reply_at, reply_to, served, server_step}
 use Rattle.lib_os.specs.GuestStep.{born_in}
-use Rattle.lib_os.specs.LibraryPages.{has_copy, has_working}
+use Rattle.lib_os.specs.LibraryPages.{View, has_copy, has_working}
 use Rattle.lib_os.specs.MadeCalls.{SetsWords}
 use Rattle.lib_os.specs.Places.{handler_step_in, place_in_words, place_of}
 use Rattle.lib_os.specs.Rows.{Names, rows_of}
 use Rattle.lib_os.specs.StandsFor.{HasReply, IsServerStatus, StandsAt, StandsFor, StandsForBorn, StandsForServer, has_reply, upcall_at}
 use Rattle.lib_os.specs.StandsFor.{view_of}
 use Rattle.lib_os.specs.UserCalls.{CallStep, IsCallStep, Output, Prints, got, giving, system}
-use Rattle.lib_os.proofs.AskedPlaces.{AskedPlace, AwaitingPlace, asked_place, awaiting_place}
+use Rattle.lib_os.proofs.AskedPlaces.{AskedPlace, AwaitingPlace, asked_place, awaiting_place, awaiting_step, is_requests}
 use Rattle.lib_os.proofs.Calls.{comes_to, ipc_recv_is, receives_at, waits_is}
 use Rattle.lib_os.proofs.Logical.{is_plain}
 use Rattle.lib_os.proofs.Sends.{found_where, not_waited_for, received_in, with_message, word_comes}
@@ -145,17 +146,30 @@ told_at : (k : Slot) (sender value perm : ℕ) → place_of (received_in k sende
 unfolding place_in_words handler_step_in
 told_at k sender value perm = refl
 
--- the client to which the reply has come
-abbrev pub replied_born : Born → ℕ → Born
-replied_born b answer = record b { phase = in_service service.Sync (replied [] answer); blocked = false }
+-- it stands where it will read the reply, or give its page back, when that has come
+reply_there : (call : Service) → is_requests call ≡ true → (v : View) (k : Slot) (b : Born) (id : ℕ) → id ≡ k.id → HasReply k b call →
+    StandsAt (place.InService call (awaiting_step call id)) v k b
+reply_there service.Sync is v k b id self came = (self, has_reply came)
+reply_there (service.Remove path) is v k b id self came = (self, has_reply came)
+reply_there _ is v k b id self came = absurd (let contradiction : false ≡ true = is in cc)
 
-replied_own : {names : Names} {s : SpacesState} {k : Slot} {b : Born} (sender answer : ℕ) → AwaitingPlace (place_of k) k b service.Sync →
-    StandsForBorn names s k b → answer < 2 ^ 32 → StandsForBorn names s (received_in k sender answer 0) (replied_born b answer)
-replied_own {s = s} {k = k} {b = b} sender answer there own_part small =
+plain_there : (call : Service) → is_requests call ≡ true → (id : ℕ) → is_plain (place.InService call (awaiting_step call id)) ≡ true
+plain_there service.Sync is id = refl
+plain_there (service.Remove path) is id = refl
+plain_there _ is id = absurd (let contradiction : false ≡ true = is in cc)
+
+-- the client to which the reply has come
+abbrev pub replied_born : Service → Born → ℕ → Born
+replied_born call b answer = record b { phase = in_service call (replied [] answer); blocked = false }
+
+replied_own : {names : Names} {s : SpacesState} {k : Slot} {b : Born} (call : Service) (sender answer : ℕ) →
+    AwaitingPlace (place_of k) k b call → StandsForBorn names s k b → answer < 2 ^ 32 →
+    StandsForBorn names s (received_in k sender answer 0) (replied_born call b answer)
+replied_own {s = s} {k = k} {b = b} call sender answer there own_part small =
     let j : Slot = received_in k sender answer 0 in
-    let after : Born = replied_born b answer in
+    let after : Born = replied_born call b answer in
     let same : place_of j ≡ place_of k = told_at k sender answer 0 in
-    let came : HasReply j after service.Sync = record {
+    let came : HasReply j after call = record {
       regs = k.registers;
       program = there.so.program;
       registers = refl;
@@ -179,7 +193,8 @@ replied_own {s = s} {k = k} {b = b} sender answer there own_part small =
       regions_only = own_part.regions_only;
       stack = own_part.stack;
       flags = own_part.flags;
-      at = subst (λ (p : Place). StandsAt p (view_of s k.directory) j after) (sym (same ∙ there.at)) (there.self, has_reply came);
+      at = subst (λ (p : Place). StandsAt p (view_of s k.directory) j after) (sym (same ∙ there.at))
+          (reply_there call there.asks_it (view_of s k.directory) j after there.id there.self came);
     }
 
 -- the call with which it replies: a word, with no page
@@ -187,14 +202,14 @@ abbrev pub reply_call : KernelState → ℕ → ℕ → CallStep Called
 reply_call s id answer = system s 0 SYS_IPC_TRY_SEND (id ∷ answer ∷ UTOP ∷ 0 ∷ 0 ∷ [])
 
 -- the abstract state behind the reply
-abbrev pub replied_state : AbstractState → ℕ → Born → ℕ → AbstractState
-replied_state a client b answer = reply_to a client service.Sync [] (b, answer)
+abbrev pub replied_state : AbstractState → ℕ → Service → Born → ℕ → AbstractState
+replied_state a client call b answer = reply_to a client call [] (b, answer)
 
 -- The client waits: the word has come to it.
-pub record HasReplied (names : Names) (s : KernelState) (a : AbstractState) (client : ℕ) (b : Born) (answer : ℕ) : Type 0 where
+pub record HasReplied (names : Names) (s : KernelState) (a : AbstractState) (client : ℕ) (by : Service) (b : Born) (answer : ℕ) : Type 0 where
   pub call : reply_call s b.id answer ≡ giving (with_message s 0 client answer 0) (Answered 0)
-  pub step : abs_step a 0 ≡ Some (replied_state a client b answer)
-  pub stands : StandsFor names (with_message s 0 client answer 0) (replied_state a client b answer)
+  pub step : abs_step a 0 ≡ Some (replied_state a client by b answer)
+  pub stands : StandsFor names (with_message s 0 client answer 0) (replied_state a client by b answer)
 
 -- It does not wait yet, and neither is the reply taken.
 pub record HasToWait (s : KernelState) (a : AbstractState) (b : Born) (answer : ℕ) : Type 0 where
@@ -234,16 +249,16 @@ module _ {names : Names} {s : KernelState} {a : AbstractState} (h : StandsFor na
       ∙ ap (λ (slot : AbstractSlot). reply a client answer [] None (born_in slot)) at
       ∙ ap (λ (p : Phase). reply_at a client b answer [] None p) same
 
-  pub reply_comes : b.phase ≡ in_service service.Sync awaiting → answer < 2 ^ 32 → HasReplied names s a client b answer
-  reply_comes phase small = record {
+  pub reply_comes : (call : Service) → b.phase ≡ in_service call awaiting → answer < 2 ^ 32 → HasReplied names s a client call b answer
+  reply_comes call phase small = record {
     call = word_comes s 0 b.id answer UTOP 0 (0 ∷ []) (first_slot h).lives status.1 client names_client waits (omega arith);
-    step = replied_is (in_service service.Sync awaiting) phase;
+    step = replied_is (in_service call awaiting) phase;
     stands = server_goes_on come leaving still;
   }
     where
-      there : AwaitingPlace (place_of (slot_at s client)) (slot_at s client) b service.Sync
+      there : AwaitingPlace (place_of (slot_at s client)) (slot_at s client) b call
       there =
-          let k : Slot = slot_at s client in awaiting_place (place_of k) (view_of s.spaces k.directory) k b service.Sync own.at phase
+          let k : Slot = slot_at s client in awaiting_place (place_of k) (view_of s.spaces k.directory) k b call own.at phase
 
       waits : accepts (slot_at s client).rendezvous (slot_at s 0).id ≡ true
       waits = λ i. there.so.rendezvous i && ((there.so.wanted i == 0) || (there.so.wanted i == (first_slot h).id_is i))
@@ -251,18 +266,22 @@ module _ {names : Names} {s : KernelState} {a : AbstractState} (h : StandsFor na
       k : Slot
       k = received_in (slot_at s client) (slot_at s 0).id answer 0
 
-      come : StandsFor names (with_message s 0 client answer 0) (with_born a client (replied_born b answer))
+      plain : is_plain (place.InService call (awaiting_step call there.id)) ≡ true
+      plain = plain_there call there.asks_it there.id
+
+      come : StandsFor names (with_message s 0 client answer 0) (with_born a client (replied_born call b answer))
       come =
-          slot_changed h client b at k (replied_born b answer) refl (stopped_settles (slot_at s client) k refl refl refl)
-          (ap is_plain there.at) (ap is_plain (told_at (slot_at s client) (slot_at s 0).id answer 0 ∙ there.at))
-          (replied_own (slot_at s 0).id answer there own small)
+          slot_changed h client b at k (replied_born call b answer) refl (stopped_settles (slot_at s client) k refl refl refl)
+          (ap is_plain there.at ∙ plain)
+          (ap is_plain (told_at (slot_at s client) (slot_at s 0).id answer 0 ∙ there.at) ∙ plain)
+          (replied_own call (slot_at s 0).id answer there own small)
 
       still : IsServerStatus leaving (slot_at (with_message s 0 client answer 0) 0)
       still = subst (λ (x : Slot). IsServerStatus leaving x) (sym (slot_kept s client k 0 (born_not_first h client b at))) status
 
-  pub reply_waits : b.phase ≡ in_service service.Sync asked → HasToWait s a b answer
+  pub reply_waits : (call : Service) → b.phase ≡ in_service call asked → HasToWait s a b answer
   unfolding may_wait
-  reply_waits phase = record {
+  reply_waits call phase = record {
     call = not_waited_for s 0 b.id answer UTOP 0 (0 ∷ []) (first_slot h).lives status.1 client names_client deaf;
     step = none;
     waits = ap (λ (slot : AbstractSlot). slot_may_wait a 0 slot SHORT_QUANTUM) h.first
@@ -270,9 +289,9 @@ module _ {names : Names} {s : KernelState} {a : AbstractState} (h : StandsFor na
         ∙ ap (λ (x : Server). reply_may_wait x None) is;
   }
     where
-      there : AskedPlace (place_of (slot_at s client)) (slot_at s client) b service.Sync
+      there : AskedPlace (place_of (slot_at s client)) (slot_at s client) b call
       there =
-          let k : Slot = slot_at s client in asked_place (place_of k) (view_of s.spaces k.directory) k b service.Sync own.at phase
+          let k : Slot = slot_at s client in asked_place (place_of k) (view_of s.spaces k.directory) k b call own.at phase
 
       deaf : accepts (slot_at s client).rendezvous (slot_at s 0).id ≡ false
       deaf =
@@ -280,11 +299,11 @@ module _ {names : Names} {s : KernelState} {a : AbstractState} (h : StandsFor na
           ap (λ (waiting : Bool). waiting && ((r.wanted == 0) || (r.wanted == (slot_at s 0).id))) there.so.silent
 
       none : abs_step a 0 ≡ None
-      none = replied_is (in_service service.Sync asked) phase
+      none = replied_is (in_service call asked) phase
 
-  pub replies_stand : IsThere b service.Sync → answer < 2 ^ 32 → HasReplied names s a client b answer ⊎ HasToWait s a b answer
-  replies_stand (inl phase) small = inr (reply_waits phase)
-  replies_stand (inr phase) small = inl (reply_comes phase small)
+  pub replies_stand : (call : Service) → IsThere b call → answer < 2 ^ 32 → HasReplied names s a client call b answer ⊎ HasToWait s a b answer
+  replies_stand call (inl phase) small = inr (reply_waits call phase)
+  replies_stand call (inr phase) small = inl (reply_comes call phase small)
 
 -- ---- behind the call, where the server's own words are set
 
@@ -312,11 +331,12 @@ left_stands {names = names} {a = a} state mid after same stands twelve left = by
         }
 
 -- The reply came, or the client does not wait for it yet.
-pub data ReplyLeaves (names : Names) (a : AbstractState) (client : ℕ) (b : Born) (answer : ℕ) (called : Called) (after : KernelState) : Type 0 where
-  came : called ≡ Answered 0 → abs_step a 0 ≡ Some (replied_state a client b answer) → CallLeaves names after (replied_state a client b answer) →
-      ReplyLeaves names a client b answer called after
+pub data ReplyLeaves (names : Names) (a : AbstractState) (client : ℕ) (by : Service) (b : Born) (answer : ℕ) (called : Called) (after : KernelState) :
+    Type 0 where
+  came : called ≡ Answered 0 → abs_step a 0 ≡ Some (replied_state a client by b answer) → CallLeaves names after (replied_state a client by b answer) →
+      ReplyLeaves names a client by b answer called after
   not_yet : called ≡ Answered (negated E_IPC_NOT_RECV) → abs_step a 0 ≡ None → may_wait a 0 SHORT_QUANTUM ≡ true → CallLeaves names after a →
-      ReplyLeaves names a client b answer called after
+      ReplyLeaves names a client by b answer called after
 
 module _ {names : Names} {s : KernelState} {a : AbstractState} (h : StandsFor names s a) (twelve : length (slot_at s 0).extra ≡ 12) where
   pub receive_leaves : (mid after : KernelState) (called : Called) (output : Output) →
@@ -331,18 +351,20 @@ module _ {names : Names} {s : KernelState} {a : AbstractState} (h : StandsFor na
             (ap (λ (x : Slot). length x.extra) (upd-at s.environments.slots 0 (ready_slot (slot_at s 0))) ∙ twelve) left,
       )
 
-  pub reply_leaves : (client answer : ℕ) → a.server ≡ acted client answer [] None → (b : Born) → a.slots client ≡ born b →
-      IsThere b service.Sync → answer < 2 ^ 32 → (mid after : KernelState) (called : Called) (output : Output) →
+  pub reply_leaves : (client answer : ℕ) → a.server ≡ acted client answer [] None → (b : Born) → a.slots client ≡ born b → (by : Service) →
+      IsThere b by → answer < 2 ^ 32 → (mid after : KernelState) (called : Called) (output : Output) →
       IsCallStep (reply_call s b.id answer) (Ok called) mid output → (after ≡ mid) ⊎ SetsWords mid after 0 →
-      Prints output [] × ReplyLeaves names a client b answer called after
-  reply_leaves client answer is b at there small mid after called output call left = by_phase (replies_stand h client answer is b at there small)
+      Prints output [] × ReplyLeaves names a client by b answer called after
+  reply_leaves client answer is b at by there small mid after called output call left =
+      by_phase (replies_stand h client answer is b at by there small)
     where
       kept : length (slot_at (with_message s 0 client answer 0) 0).extra ≡ 12
       kept =
           let k : Slot = received_in (slot_at s client) (slot_at s 0).id answer 0 in
           ap (λ (x : Slot). length x.extra) (slot_kept s client k 0 (born_not_first h client b at)) ∙ twelve
 
-      by_phase : HasReplied names s a client b answer ⊎ HasToWait s a b answer → Prints output [] × ReplyLeaves names a client b answer called after
+      by_phase : HasReplied names s a client by b answer ⊎ HasToWait s a b answer →
+          Prints output [] × ReplyLeaves names a client by b answer called after
       by_phase (inl so) =
           let it = comes_to (reply_call s b.id answer) (Answered 0) called (with_message s 0 client answer 0) mid [] output so.call call in
           (it.2, came it.0 so.step (left_stands (with_message s 0 client answer 0) mid after it.1 so.stands kept left))

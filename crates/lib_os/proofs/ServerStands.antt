@@ -18,7 +18,7 @@ use Rattle.lib_os.specs.DescriptorPages.{HasObject, IsConsole, IsOpenFile, Thing
 use Rattle.lib_os.specs.InOrder.{IsInOrder}
 use Rattle.lib_os.specs.MadeCalls.{SetsWords}
 use Rattle.lib_os.specs.Places.{is_handlers, service_word}
-use Rattle.lib_os.specs.Rows.{IsNamed, MayBeHad, Names, Rows, ShowsBy, logical, rows_of, server_row}
+use Rattle.lib_os.specs.Rows.{IsNamed, MayBeHad, Names, Rows, ShowsBy, is_shared, logical, rows_of, server_row}
 use Rattle.lib_os.specs.StandsFor.{HasServer, IsServerStatus, StandsFor, StandsForServer, StandsForSlot, IsStatusFor, is_servers_page}
 use Rattle.lib_os.specs.StandsFor.{is_servers_region, things_in}
 use Rattle.lib_os.proofs.Children.{BearsNone, children_kept}
@@ -151,10 +151,13 @@ others_alike names kept q ne = record {
 abbrev pub AreAlike : ℕ → ℕ → Type 0
 AreAlike r q = (r ≡ q) ⊎ (IsPlainPage r × IsPlainPage q)
 
--- A page of this space had the frame of one, or no page had it.
-pub data HadOrNew (s : SpacesState) (d q f : ℕ) : Type 0 where
-  had : (r : ℕ) (y : Entry) → rows_of s d r ≡ Some y → y.frame ≡ f → AreAlike r q → HadOrNew s d q f
-  new : ((o r : ℕ) (x : Entry) → rows_of s o r ≡ Some x → x.frame ≢ f) → HadOrNew s d q f
+-- A page of this space had the frame of one, or no page had it; or it is that of a request, whose frame the page of a client at UTEMP has, and
+-- here none but that of a request.
+pub data HadOrNew (s : SpacesState) (d q f : ℕ) (rows : Rows) : Type 0 where
+  had : (r : ℕ) (y : Entry) → rows_of s d r ≡ Some y → y.frame ≡ f → AreAlike r q → HadOrNew s d q f rows
+  new : ((o r : ℕ) (x : Entry) → rows_of s o r ≡ Some x → x.frame ≢ f) → HadOrNew s d q f rows
+  lent : q ≡ page_number REQUEST → ((n p : ℕ) (x : Entry) → rows n p ≡ Some x → x.frame ≡ f → MayBeHad true p x) →
+      ((r : ℕ) (y : Entry) → rows_of s d r ≡ Some y → y.frame ≡ f → r ≡ page_number REQUEST) → HadOrNew s d q f rows
 
 -- what stands in the frame of a place's page is that page
 abbrev pub PlacesAlone : SpacesState → ℕ → Type 0
@@ -169,7 +172,7 @@ StandsIn t d q f = (y : Entry) × (rows_of t d q ≡ Some y) × (y.frame ≡ f)
 pub record OwnKept (s t : SpacesState) (d : ℕ) (opened : ℕ → TablePlace) (blocks : ℕ) (rows : Rows) : Type 0 where
   pub pages : (p : ℕ) → is_some (rows_of t d p) ≡ true → is_servers_page opened blocks p ≡ true
   pub tables : (r : ℕ) → is_some (t.regions d r) ≡ true → is_servers_region r ≡ true
-  pub frames : (p : ℕ) (e : Entry) → rows_of t d p ≡ Some e → HadOrNew s d p e.frame
+  pub frames : (p : ℕ) (e : Entry) → rows_of t d p ≡ Some e → HadOrNew s d p e.frame rows
   pub alone : PlacesAlone t d
   pub places : (j : ℕ) (x : Entry) → j < MAXOPEN → rows_of s d (place_page j) ≡ Some x → IsPrivate rows x.frame ⊎ StandsIn t d (place_page j) x.frame
 
@@ -187,7 +190,7 @@ module _ {s t : SpacesState} {k : Slot} {opened : ℕ → TablePlace} {blocks : 
   }
 
   -- A page is put there that it may have: in the place of a page that a client has, one of the same frame.
-  pub placed_own : (p : ℕ) (e : Entry) → Placed s t k.directory p e → HadOrNew s k.directory p e.frame →
+  pub placed_own : (p : ℕ) (e : Entry) → Placed s t k.directory p e → HadOrNew s k.directory p e.frame rows →
       (IsPlacePage p → (z : Entry) → rows_of s k.directory p ≡ Some z → IsPrivate rows z.frame ⊎ (z.frame ≡ e.frame)) →
       is_servers_page opened blocks p ≡ true → is_servers_region (p / NPTENTRIES) ≡ true → OwnKept s t k.directory opened blocks rows
   placed_own p e placed from left page region = record {
@@ -207,10 +210,10 @@ module _ {s t : SpacesState} {k : Slot} {opened : ℕ → TablePlace} {blocks : 
       found : (q : ℕ) (x : Entry) → rows_of t k.directory q ≡ Some x → IsHere q x ⊎ (rows_of s k.directory q ≡ Some x)
       found q x is = put-some (rows_of s) k.directory p e x k.directory q ((λ i. sym placed.rows i k.directory q) ∙ is)
 
-      from_here : (q : ℕ) (x : Entry) → IsHere q x → HadOrNew s k.directory p e.frame → HadOrNew s k.directory q x.frame
+      from_here : (q : ℕ) (x : Entry) → IsHere q x → HadOrNew s k.directory p e.frame rows → HadOrNew s k.directory q x.frame rows
       from_here q x here it =
-          subst (λ (r : ℕ). HadOrNew s k.directory r x.frame) (sym here.1)
-          (subst (λ (y : Entry). HadOrNew s k.directory p y.frame) (sym here.2) it)
+          subst (λ (r : ℕ). HadOrNew s k.directory r x.frame rows) (sym here.1)
+          (subst (λ (y : Entry). HadOrNew s k.directory p y.frame rows) (sym here.2) it)
 
       by_entry : (q : ℕ) (o : Option Entry) → rows_of t k.directory q ≡ o → is_some o ≡ true → is_servers_page opened blocks q ≡ true
       by_entry q None at none = absurd (let contradiction : false ≡ true = none in cc)
@@ -226,22 +229,27 @@ module _ {s t : SpacesState} {k : Slot} {opened : ℕ → TablePlace} {blocks : 
       by_region r true false test is = h.tables r is
       by_region r false here test is = h.tables r is
 
+      no_request : (j : ℕ) → j < MAXOPEN → place_page j ≡ page_number REQUEST → ⊥
+      no_request j below is = omega (arith, below, is)
+
       -- the page that is put is a place's
       placed_alone : (j q : ℕ) (y : Entry) → j < MAXOPEN → p ≡ place_page j → rows_of s k.directory q ≡ Some y → e.frame ≡ y.frame →
-          HadOrNew s k.directory p e.frame → q ≡ place_page j
+          HadOrNew s k.directory p e.frame rows → q ≡ place_page j
       placed_alone j q y below at stands same (new none) = absurd (none k.directory q y stands (sym same))
       placed_alone j q y below at stands same (had r z there frame (inl is)) =
           h.alone j q z y below (ap (rows_of s k.directory) (sym (is ∙ at)) ∙ there) stands (frame ∙ same)
       placed_alone j q y below at stands same (had r z there frame (inr plain)) = absurd (plain.1.no_place (j, below, at))
+      placed_alone j q y below at stands same (lent is may none) = absurd (no_request j below (sym at ∙ is))
 
       -- a place's page stands beside it
       beside_alone : (j : ℕ) (x : Entry) → j < MAXOPEN → rows_of s k.directory (place_page j) ≡ Some x → x.frame ≡ e.frame →
-          HadOrNew s k.directory p e.frame → p ≡ place_page j
+          HadOrNew s k.directory p e.frame rows → p ≡ place_page j
       beside_alone j x below stands same (new none) = absurd (none k.directory (place_page j) x stands same)
       beside_alone j x below stands same (had r z there frame (inl is)) =
           sym is ∙ h.alone j r x z below stands there (same ∙ sym frame)
       beside_alone j x below stands same (had r z there frame (inr plain)) =
           absurd (plain.0.no_place (j, below, h.alone j r x z below stands there (same ∙ sym frame)))
+      beside_alone j x below stands same (lent is may none) = absurd (no_request j below (none (place_page j) x stands same))
 
       by_found : (j q : ℕ) (x y : Entry) → j < MAXOPEN → x.frame ≡ y.frame →
           IsHere (place_page j) x ⊎ (rows_of s k.directory (place_page j) ≡ Some x) → IsHere q y ⊎ (rows_of s k.directory q ≡ Some y) →
@@ -392,24 +400,29 @@ module _ {names : Names} {s : KernelState} {a : AbstractState} (h : StandsFor na
         counts : logical s.spaces s.environments.slots n p ≡ Some x
         counts = sym (same_counts n p) ∙ is
 
-        by_frame : HadOrNew s.spaces (slot_at s 0).directory q e.frame → MayBeHad (q == page_number REQUEST) p x
+        by_frame : HadOrNew s.spaces (slot_at s 0).directory q e.frame (logical s.spaces s.environments.slots) → MayBeHad (q == page_number REQUEST) p x
         by_frame (had r y there frame alike) = had_alike p x r q alike (h.beside n p r x y counts there (same ∙ sym frame))
         by_frame (new none) =
             let found = logical_of s.spaces s.environments.slots n p x counts in
             absurd (none (slot_at s n).directory p found.1.entry found.1.stands (found.1.frame ∙ same))
+        by_frame (lent at may none) =
+            let test : (q == page_number REQUEST) ≡ true = grind (arith, nat_tests, at) in
+            subst (λ (c : Bool). MayBeHad c p x) (sym test) (may n p x counts same)
 
     -- and what is shown of a client's entry, its own pages show
-    still_shown : (n p : ℕ) (x : Entry) → logical s.spaces s.environments.slots n p ≡ Some x → (name : ℕ) (object : Bool) (page bytes : List ℕ) →
+    still_shown : (n p : ℕ) (x : Entry) → logical s.spaces s.environments.slots n p ≡ Some x → is_shared x.perm ≡ true → (name : ℕ) (object : Bool) (page bytes : List ℕ) →
         ShowsBy (things_in s a) name x.frame object page bytes → ShowsBy (things_in (with_spaces s sp) a) name x.frame object page bytes
-    still_shown n p x counts name false page bytes is = is
-    still_shown n p x counts name true page bytes is = by_object (a.objects name) is
+    still_shown n p x counts shared_page name false page bytes is = is
+    still_shown n p x counts shared_page name true page bytes is = by_object (a.objects name) is
       where
-        none_has : (q : ℕ) (e : Entry) → HadOrNew s.spaces (slot_at s 0).directory q e.frame → IsConsole (things_in s a) x.frame bytes →
+        none_has : (q : ℕ) (e : Entry) → HadOrNew s.spaces (slot_at s 0).directory q e.frame (logical s.spaces s.environments.slots) → IsConsole (things_in s a) x.frame bytes →
             e.frame ≢ x.frame
         none_has q e (had r y there frame alike) console same = console.apart r y there (frame ∙ same)
         none_has q e (new none) console same =
             let found = logical_of s.spaces s.environments.slots n p x counts in
             none (slot_at s n).directory p found.1.entry found.1.stands (found.1.frame ∙ sym same)
+        none_has q e (lent at may none) console same =
+            let contradiction : true ≡ false = sym shared_page ∙ (may n p x counts (sym same)).1 in cc
 
         by_place : (f : OpenFile) → (is : IsOpenFile (things_in s a) name x.frame f bytes) →
             IsPrivate (logical s.spaces s.environments.slots) is.entry.frame
@@ -450,7 +463,7 @@ module _ {names : Names} {s : KernelState} {a : AbstractState} (h : StandsFor na
               record {
                 home = was.home;
                 kind = was.kind;
-                shows = still_shown n p x (sym (same_counts n p) ∙ is) name (names.is_object name) (a.shared name) (sp.pages x.frame) was.shows;
+                shows = still_shown n p x (sym (same_counts n p) ∙ is) shared_page name (names.is_object name) (a.shared name) (sp.pages x.frame) was.shows;
                 old = was.old;
               };
           users = rows.users;

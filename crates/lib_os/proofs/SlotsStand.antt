@@ -34,10 +34,12 @@ use Rattle.lib_os.specs.Rows.{descriptor_page, descriptor_seen, is_descriptor, n
 use Rattle.lib_os.specs.StandsInHandler.{IsAtGuest, IsToCopy, IsCopiedTo, HasWord, IsMappedTwice, CopiesAt}
 use Rattle.lib_os.specs.StandsInHandler.{CopiesOrEnds, copies, ends, IsInHandler, is_refused_by, is_write}
 use Rattle.lib_os.specs.StandsInHandler.{IsDelivering, StandsDelivering, StandsPutting, buffer_of, next_page, IsGiven, WantsMore}
-use Rattle.lib_os.specs.StandsFor.{AwaitsOrHas, HasAsked, awaits, has_reply}
-use Rattle.lib_os.specs.StandsInHandler.{StandsBeneath, at_program, in_delivery, IsStoppedAt, marked, reading, telling, writing}
+use Rattle.lib_os.specs.StandsInHandler.{may_follow}
+use Rattle.lib_os.specs.StandsFor.{AwaitsOrHas, HasAsked, HasReply, awaits, has_reply}
+use Rattle.lib_os.specs.StandsInHandler.{StandsBeneath, at_program, in_delivery, IsStoppedAt, marked, reading, telling, writing, removing}
 use Rattle.lib_os.specs.StandsFor.{StandsFor, StandsForSlot, StandsForBorn, StandsAt, StandsAtStep, view_of, IsStatusFor, MaySend}
 use Rattle.lib_os.specs.StandsFor.{IsLookingUp, StandsAtDevice, StandsBefore, HasTaken, IsTaking, IsKeeping, IsPrinting}
+use Rattle.lib_os.specs.StandsFor.{HasWholePath, IsGatheringPath, IsKeepingPath, IsTakingPath}
 use Rattle.lib_os.specs.StandsFor.{descriptor_given, refuses_next}
 use Rattle.lib_os.specs.StandsFor.{borne_in, IsMapping, IsRemapping, IsDuplicating, IsOpen, NoneIsOpenBelow}
 use Rattle.lib_os.specs.StandsFor.{IsIn, IsTrying, IsWaiting, IsLooking, IsAboutToWait, IsReceiving, HasReceived, WaitsOrHas, waits, has}
@@ -67,6 +69,7 @@ minds_page_at (service.Write fd va len) at = true
 minds_page_at (service.Seek fd offset) at = true
 minds_page_at (service.Stat fd va) at = true
 minds_page_at (service.SetSize fd size) at = true
+minds_page_at (service.Remove path) at = true
 minds_page_at _ _ = false
 
 -- or a step of fork that bears a child, or one of the handler, which keeps its stack and its copy in mind
@@ -237,6 +240,8 @@ module _ (v w : View) (row : w.row ≡ v.row) (devices : SameDevices v w) where
         telling fd buffer bytes answer writes (phase_kept ∙ phase) some
     stopped_kept write va ip (writing fd buffer len bytes reads wants there) =
         writing fd buffer len bytes reads (wants_kept fd buffer len bytes wants) there
+    stopped_kept write va ip (removing path bytes reads wants there) =
+        removing path bytes reads (record { phase = phase_kept ∙ wants.phase; no_end = wants.no_end; follows = wants.follows }) there
 
 -- ---- where it stands
 
@@ -303,6 +308,17 @@ module _ (v w : View) (k : Slot) (b : Born) (status : Status) (runs : ℕ) (memo
   asked_kept : (s : Service) → HasAsked k b s → HasAsked kernel_slot environment s
   asked_kept s h = record { program = h.program; phase = h.phase; silent = h.silent; awake = h.awake }
 
+  reply_kept : (s : Service) → HasReply k b s → HasReply kernel_slot environment s
+  reply_kept s h = record {
+    regs = h.regs;
+    program = h.program;
+    registers = h.registers;
+    phase = h.phase;
+    awake = h.awake;
+    silent = h.silent;
+    small = h.small;
+  }
+
   awaits_kept : (s : Service) → AwaitsOrHas k b s → AwaitsOrHas kernel_slot environment s
   awaits_kept s (awaits h) = awaits (record {
     program = h.program;
@@ -312,15 +328,7 @@ module _ (v w : View) (k : Slot) (b : Born) (status : Status) (runs : ℕ) (memo
     wanted = h.wanted;
     destination = h.destination;
   })
-  awaits_kept s (has_reply h) = has_reply (record {
-    regs = h.regs;
-    program = h.program;
-    registers = h.registers;
-    phase = h.phase;
-    awake = h.awake;
-    silent = h.silent;
-    small = h.small;
-  })
+  awaits_kept s (has_reply h) = has_reply (reply_kept s h)
 
   mapping_kept : (page perm : ℕ) → w.row ≡ v.row → IsMapping v.row page perm → IsMapping w.row page perm
   mapping_kept page perm row h = subst (λ (r : EntryRow). IsMapping r page perm) (sym row) h
@@ -391,6 +399,51 @@ module _ (v w : View) (k : Slot) (b : Born) (status : Status) (runs : ℕ) (memo
     kept = taken_kept h.bytes (length h.bytes) row page.0 h.kept;
   }
 
+  taking_path_kept : (path done : ℕ) → w.row ≡ v.row → SamePages v w → IsTakingPath v k b path done →
+      IsTakingPath w kernel_slot environment path done
+  taking_path_kept path done row page h = record {
+    bytes = h.bytes;
+    program = h.program;
+    wants = record { phase = h.wants.phase; no_end = h.wants.no_end; follows = h.wants.follows };
+    many = h.many;
+    kept = taken_kept h.bytes done row page.0 h.kept;
+    silent = h.silent;
+    awake = h.awake;
+  }
+
+  gathering_path_kept : (c : Bool) (path done : ℕ) → w.row ≡ v.row → SamePages v w → IsGatheringPath c v k b path done →
+      IsGatheringPath c w kernel_slot environment path done
+  gathering_path_kept true path done row page h =
+      (taking_path_kept path done row page h.0, ap (λ (r : EntryRow). refuses_next r (service.Remove path) done) row ∙ h.1)
+  gathering_path_kept false path done row page h =
+      record { bytes = h.bytes; is_in = in_kept _ _ h.is_in; no_end = h.no_end; many = h.many; few = h.few; ends = h.ends }
+
+  keeping_path_kept : (path done word left : ℕ) → w.row ≡ v.row → SamePages v w → IsKeepingPath v k b path done word left →
+      IsKeepingPath w kernel_slot environment path done word left
+  keeping_path_kept path done word left row page h = record {
+    bytes = h.bytes;
+    is_in = in_kept _ _ h.is_in;
+    many = h.many;
+    few = h.few;
+    some = h.some;
+    last = h.last;
+    word_is = h.word_is;
+    small = h.small;
+    no_end = h.no_end;
+    allowed = ap (λ (r : EntryRow). refuses_next r (service.Remove path) (done + left - 1)) row ∙ h.allowed;
+    kept = taken_kept h.bytes done row page.0 h.kept;
+  }
+
+  whole_path_kept : (path : ℕ) → w.row ≡ v.row → SamePages v w → HasWholePath v k b path → HasWholePath w kernel_slot environment path
+  whole_path_kept path row page h = record {
+    bytes = h.bytes;
+    is_in = in_kept _ _ h.is_in;
+    few = h.few;
+    small = h.small;
+    ended = h.ended;
+    kept = taken_kept h.bytes _ row page.0 h.kept;
+  }
+
   delivering_kept : (s : Service) (at : ℕ) (bytes : List ℕ) (answer : ℕ) → IsDelivering k b s at bytes answer →
       IsDelivering kernel_slot environment s at bytes answer
   delivering_kept s at bytes answer h = record {
@@ -418,6 +471,7 @@ module _ (v w : View) (k : Slot) (b : Born) (status : Status) (runs : ℕ) (memo
   before_kept so_too (service.Read fd va len) done word row page h = (delivering_kept _ _ _ _ h.0, so_too h.1)
   before_kept so_too (service.Stat fd va) done word row page h = (delivering_kept _ _ _ _ h.0, so_too h.1)
   before_kept so_too (service.Write fd va len) done word row page h = (taking_kept fd va len done row page h.0, so_too h.1)
+  before_kept so_too (service.Remove path) done word row page h = (taking_path_kept path done row page h.0, so_too h.1)
   before_kept so_too _ done word row page h = absurd h
 
   -- who stands before a byte of a buffer keeps it in mind
@@ -426,6 +480,7 @@ module _ (v w : View) (k : Slot) (b : Born) (status : Status) (runs : ℕ) (memo
   before_minds so (service.Read fd va len) at done word h = refl
   before_minds so (service.Stat fd va) at done word h = refl
   before_minds so (service.Write fd va len) at done word h = refl
+  before_minds so (service.Remove path) at done word h = refl
   before_minds so _ at done word h = absurd h
 
   device_minds : (s : Service) (at : Step) → StandsAtDevice v k b s (descriptor_given s) → minds_page (place.InService s at) ≡ true
@@ -470,6 +525,17 @@ module _ (v w : View) (k : Slot) (b : Born) (status : Status) (runs : ℕ) (memo
   step_kept (service.Write fd va len) step.Printing row tables taken h = printing_kept fd va len (row refl) (taken refl) h
   step_kept (service.Write fd va len) step.Releasing row tables taken h =
       record { program = h.program; phase = h.phase; silent = h.silent; awake = h.awake }
+  step_kept (service.Remove path) step.TakingPage row tables taken h = (in_kept _ _ h.0, h.1)
+  step_kept (service.Remove path) (step.Gathering done) row tables taken h =
+      gathering_path_kept (may_follow path done) path done (row refl) (taken refl) h
+  step_kept (service.Remove path) (step.Keeping done word left) row tables taken h =
+      keeping_path_kept path done word left (row refl) (taken refl) h
+  step_kept (service.Remove path) step.Identifying row tables taken h = whole_path_kept path (row refl) (taken refl) h
+  step_kept (service.Remove path) (step.Asking id) row tables taken h = (h.0, whole_path_kept path (row refl) (taken refl) h.1)
+  step_kept (service.Remove path) (step.Pausing id) row tables taken h = (h.0, whole_path_kept path (row refl) (taken refl) h.1)
+  step_kept (service.Remove path) (step.Awaiting id) row tables taken h = (h.0, asked_kept (service.Remove path) h.1)
+  step_kept (service.Remove path) (step.Clearing id) row tables taken h = (h.0, awaits_kept (service.Remove path) h.1)
+  step_kept (service.Remove path) (step.ReadingReply id) row tables taken h = (h.0, reply_kept (service.Remove path) h.1)
   step_kept (service.Wait id) (step.Trying perm) row tables taken h = waiting_kept id h
   step_kept (service.Wait id) (step.Pausing perm) row tables taken h = waiting_kept id h
   step_kept (service.Send id value va) (step.Trying perm) row tables taken h = trying_kept id value va perm (row refl) h

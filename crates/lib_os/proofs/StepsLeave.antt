@@ -74,7 +74,7 @@ stays s after n done h = record {
   uses = h.used;
   places = places_kept s after n h.others;
   numbers = numbers_kept s after n h.others h.copies;
-  working = working_kept s after n h.copies;
+  working = working_kept s after n h.others h.copies;
   server = h.server;
 }
 

@@ -11,6 +11,7 @@ use Rattle.jos_base.specs.KernelState.{KernelState, slot_at}
 use Rattle.jos_base.specs.Reach.{Entry}
 use Rattle.jos_base.specs.SystemCalls.{has_write}
 use Rattle.jos_base.specs.Words.{page_number}
+use Rattle.fs_layout.specs.declared.numbers.TheConstants.{MAXPATHLEN}
 use Rattle.lib_os.specs.declared.service.Service.{Service}
 use Rattle.lib_os.specs.declared.service.Service.TheVariants as service
 use Rattle.lib_os.specs.AbstractMemory.{page_allows, page_at}
@@ -19,18 +20,19 @@ use Rattle.lib_os.specs.AbstractState.{AbstractState, Born, Stage, born, deliver
 use Rattle.lib_os.specs.Answers.{bytes_gathered, ended_at}
 use Rattle.lib_os.specs.Descriptors.{object_of}
 use Rattle.lib_os.specs.Fence.{is_buffer, is_inside}
-use Rattle.lib_os.specs.FileServices.{write_step, write_with}
+use Rattle.lib_os.specs.FileServices.{remove_asked, remove_step, write_step, write_with}
 use Rattle.lib_os.specs.GuestStep.{ends_with}
 use Rattle.lib_os.specs.LibraryCall.{library_step}
 use Rattle.lib_os.specs.Places.{place_of}
 use Rattle.lib_os.specs.Rows.{EntryRow, IsUsers, Names, is_cow, rows_of}
 use Rattle.lib_os.specs.StandsFor.{StandsFor, view_of}
-use Rattle.lib_os.specs.StandsInHandler.{IsStoppedAt, is_refused_by, marked, reading, stage_with, telling, wanted_of, writing}
+use Rattle.lib_os.specs.StandsInHandler.{HasNoEnd, IsStoppedAt, is_refused_by, marked, may_follow, reading, removing, stage_with, telling, wanted_of, writing}
 use Rattle.lib_os.proofs.BytesRead.{user_allows, user_lost, users_inside}
 use Rattle.lib_os.proofs.DeviceLooks.{names_console}
 use Rattle.lib_os.proofs.FaultEnds.{access_of, access_refused, faulted_step}
 use Rattle.lib_os.proofs.Fences.{inside_below, inside_number}
 use Rattle.lib_os.proofs.Logical.{inside_programs, is_plain, plain_unborne}
+use Rattle.lib_os.proofs.Paths.{path_gathers}
 use Rattle.lib_os.proofs.Serving.{service_step}
 
 -- ---- an access that a page refuses
@@ -115,6 +117,25 @@ module _ (a : AbstractState) (n : ℕ) (b : Born) (regs : Regs) (va : ℕ) where
           rw object
           (gathering_ends (service.Write fd buffer len) fd buffer (wanted_of len) (byte ∷ rest) (grind (arith, nat_tests)) (small (byte ∷ rest) there) off)
 
+  remove_ends : (path : ℕ) (bytes : List ℕ) → HasNoEnd bytes → may_follow path (length bytes) ≡ true → va ≡ path + length bytes →
+      page_allows (page_at b va) Read ≡ false → library_step a n b regs (service.Remove path) (stage_with bytes) ≡ Some ended
+  unfolding library_step
+  remove_ends path bytes none follows there off = by_bytes bytes none follows there
+    where
+      ends : (bytes : List ℕ) → va ≡ path + length bytes → (stage : List ℕ → Stage) →
+          bytes_gathered a n b regs (service.Remove path) (path + length bytes) (MAXPATHLEN - length bytes) stage ≡ ended
+      ends bytes there stage =
+          ap (λ (at : ℕ). bytes_gathered a n b regs (service.Remove path) at (MAXPATHLEN - length bytes) stage) (sym there) ∙ rw off refl
+
+      by_bytes : (bytes : List ℕ) → HasNoEnd bytes → may_follow path (length bytes) ≡ true → va ≡ path + length bytes →
+          remove_step a n b regs (service.Remove path) path (stage_with bytes) ≡ Some ended
+      by_bytes [] none follows there =
+          path_gathers a n b regs (service.Remove path) path [] (remove_asked a n b (service.Remove path)) none follows
+          ∙ ap (λ (x : AbstractState). Some x) (ends [] there (λ more. gathering ([] ++ more)))
+      by_bytes (byte ∷ rest) none follows there =
+          path_gathers a n b regs (service.Remove path) path (byte ∷ rest) (remove_asked a n b (service.Remove path)) none follows
+          ∙ ap (λ (x : AbstractState). Some x) (ends (byte ∷ rest) there (λ more. gathering ((byte ∷ rest) ++ more)))
+
 module _ {names : Names} {s : KernelState} {a : AbstractState} (h : StandsFor names s a) (n : ℕ) (b : Born) (at : a.slots n ≡ born b) where
   pub stopped_step : is_plain (place_of (slot_at s n)) ≡ true → (write : Bool) (va : ℕ) (regs : Regs) → b.program ≡ guest regs → b.blocked ≡ false →
       is_inside va ≡ true → is_refused_by write (rows_of s.spaces (slot_at s n).directory (page_number va)) ≡ true →
@@ -133,4 +154,8 @@ module _ {names : Names} {s : KernelState} {a : AbstractState} (h : StandsFor na
       ∙ write_ends a n b regs va fd buffer len bytes
       (names_console h n b at (plain_unborne (place_of (slot_at s n)) plain) fd wants.given.below wants.given.console) wants.given.buffer
       wants.fewer there inside
+      (ap (λ (w : Bool). page_allows (page_at b va) (access_of w)) (sym reads) ∙ page_refuses h n b at write va inside refused)
+  stopped_step plain write va regs program awake inside refused (removing path bytes reads wants there) =
+      service_step a n b regs (service.Remove path) (stage_with bytes) at program wants.phase awake
+      ∙ remove_ends a n b regs va path bytes wants.no_end wants.follows there
       (ap (λ (w : Bool). page_allows (page_at b va) (access_of w)) (sym reads) ∙ page_refuses h n b at write va inside refused)

@@ -28,7 +28,8 @@ use Rattle.lib_os.specs.StandsFor.{StandsFor, StandsAt, StandsAtStep, view_of, I
 use Rattle.lib_os.specs.StandsFor.{AwaitsOrHas, awaits, has_reply}
 use Rattle.lib_os.specs.StandsFor.{WaitsOrHas, waits, has, destination_of, StandsAtDevice, StandsBefore, IsTaking, descriptor_given}
 use Rattle.lib_os.specs.StandsInHandler.{CopiesOrEnds, copies, ends, StandsDelivering, StandsBeneath, at_program, in_delivery}
-use Rattle.lib_os.specs.StandsInHandler.{IsStoppedAt, marked, reading, telling, writing}
+use Rattle.lib_os.specs.StandsFor.{IsGatheringPath, IsTakingPath}
+use Rattle.lib_os.specs.StandsInHandler.{IsStoppedAt, marked, may_follow, reading, removing, telling, writing}
 use Rattle.lib_os.proofs.Logical.{page_inside_programs}
 use Rattle.lib_os.proofs.SlotsStand.{born_at, born_live}
 use Rattle.lib_os.proofs.StatesStand.{born_not_first}
@@ -85,10 +86,18 @@ delivers _ done word h = absurd h
 takes_bytes : {v : View} {k : Slot} {c : Born} (fd va len done : ℕ) → IsTaking v k c fd va len done → WaitsNot k c
 takes_bytes fd va len done h = record { deaf = quiet h.silent; nowhere = ap (λ (p : Phase). waiting_in p) h.wants.phase }
 
+takes_path : {v : View} {k : Slot} {c : Born} (path done : ℕ) → IsTakingPath v k c path done → WaitsNot k c
+takes_path path done h = record { deaf = quiet h.silent; nowhere = ap (λ (p : Phase). waiting_in p) h.wants.phase }
+
+gathers_bytes : (v : View) {k : Slot} {c : Born} (t : Bool) (path done : ℕ) → IsGatheringPath t v k c path done → WaitsNot k c
+gathers_bytes v true path done h = takes_path path done h.0
+gathers_bytes v false path done h = record { deaf = quiet h.is_in.silent; nowhere = ap (λ (p : Phase). waiting_in p) h.is_in.phase }
+
 before_byte : (so : Type 0) (v : View) {k : Slot} {c : Born} (s : Service) (done word : ℕ) → StandsBefore so v k c s done word → WaitsNot k c
 before_byte so v (service.Read fd va len) done word h = delivers (service.Read fd va len) done word h.0
 before_byte so v (service.Stat fd va) done word h = delivers (service.Stat fd va) done word h.0
 before_byte so v (service.Write fd va len) done word h = takes_bytes fd va len done h.0
+before_byte so v (service.Remove path) done word h = takes_path path done h.0
 before_byte so v _ done word h = absurd h
 
 at_device : (v : View) {k : Slot} {c : Born} (s : Service) (o : Option ℕ) → StandsAtDevice v k c s o → WaitsNot k c
@@ -117,6 +126,25 @@ at_step v k c (service.Write fd va len) (step.Keeping done word left) h =
 at_step v k c (service.Write fd va len) step.Printing h =
     inl (record { deaf = quiet h.is_in.silent; nowhere = ap (λ (p : Phase). waiting_in p) h.is_in.phase })
 at_step v k c (service.Write fd va len) step.Releasing h = inl (record { deaf = quiet h.silent; nowhere = ap (λ (p : Phase). waiting_in p) h.phase })
+at_step v k c (service.Remove path) step.TakingPage h = inl (in_silence _ h.0)
+at_step v k c (service.Remove path) (step.Gathering done) h = inl (gathers_bytes v (may_follow path done) path done h)
+at_step v k c (service.Remove path) (step.Keeping done word left) h =
+    inl (record { deaf = quiet h.is_in.silent; nowhere = ap (λ (p : Phase). waiting_in p) h.is_in.phase })
+at_step v k c (service.Remove path) step.Identifying h =
+    inl (record { deaf = quiet h.is_in.silent; nowhere = ap (λ (p : Phase). waiting_in p) h.is_in.phase })
+at_step v k c (service.Remove path) (step.Asking id) h =
+    inl (record { deaf = quiet h.1.is_in.silent; nowhere = ap (λ (p : Phase). waiting_in p) h.1.is_in.phase })
+at_step v k c (service.Remove path) (step.Pausing id) h =
+    inl (record { deaf = quiet h.1.is_in.silent; nowhere = ap (λ (p : Phase). waiting_in p) h.1.is_in.phase })
+at_step v k c (service.Remove path) (step.Awaiting id) h =
+    inl (record { deaf = quiet h.1.silent; nowhere = ap (λ (p : Phase). waiting_in p) h.1.phase })
+at_step v k c (service.Remove path) (step.Clearing id) h = by_reply h.1
+  where
+    by_reply : AwaitsOrHas k c (service.Remove path) → WaitsNot k c ⊎ Waits (place.InService (service.Remove path) (step.Clearing id)) k c
+    by_reply (awaits so) = inl (record { deaf = for_server so.rendezvous so.wanted so.destination; nowhere = ap (λ (p : Phase). waiting_in p) so.phase })
+    by_reply (has_reply so) = inl (record { deaf = quiet so.silent; nowhere = ap (λ (p : Phase). waiting_in p) so.phase })
+at_step v k c (service.Remove path) (step.ReadingReply id) h =
+    inl (record { deaf = quiet h.1.silent; nowhere = ap (λ (p : Phase). waiting_in p) h.1.phase })
 at_step v k c (service.Wait id) (step.Trying perm) h = inl (in_silence _ h.is_in)
 at_step v k c (service.Wait id) (step.Pausing perm) h = inl (in_silence _ h.is_in)
 at_step v k c (service.Send id value va) (step.Trying perm) h = inl (in_silence _ h.is_in)
@@ -168,6 +196,7 @@ stopped_nowhere (marked phase) = ap (λ (p : Phase). waiting_in p) phase
 stopped_nowhere (reading fd buffer len bytes answer writes phase some) = ap (λ (p : Phase). waiting_in p) phase
 stopped_nowhere (telling fd buffer bytes answer writes phase some) = ap (λ (p : Phase). waiting_in p) phase
 stopped_nowhere (writing fd buffer len bytes reads wants there) = ap (λ (p : Phase). waiting_in p) wants.phase
+stopped_nowhere (removing path bytes reads wants there) = ap (λ (p : Phase). waiting_in p) wants.phase
 
 in_handler : (stands : HandlerStep) (v : View) {k : Slot} {c : Born} (fault : PageFault) (regs : Regs) →
     CopiesOrEnds stands v k c fault regs → WaitsNot k c

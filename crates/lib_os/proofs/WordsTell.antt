@@ -60,6 +60,8 @@ place_at regs number at outside =
     by_step (step.Asking id) some back = rw (outside, some, back) refl
     by_step (step.Awaiting id) some back = rw (outside, some, back) refl
     by_step (step.ReadingReply id) some back = rw (outside, some, back) refl
+    by_step step.Identifying some back = rw (outside, some, back) refl
+    by_step (step.Clearing id) some back = rw (outside, some, back) refl
 
 -- ---- the handler's registers
 

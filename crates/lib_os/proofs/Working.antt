@@ -4,20 +4,23 @@ use Rattle.std.proofs.Common.{◌≡◌, ◌≢◌, ◌∙◌, ◌==◌, ◌&&�
 use Rattle.std.proofs.lemmas.Bool.Decides.{nat_tests}
 use Rattle.jos_base.specs.declared.registers.Regs.{Regs}
 use Rattle.jos_base.specs.Environments.{Slot}
-use Rattle.lib_os.specs.declared.numbers.TheConstants.{SERVICE_WRITE}
+use Rattle.lib_os.specs.declared.numbers.TheConstants.{SERVICE_REMOVE, SERVICE_WRITE}
 use Rattle.lib_os.specs.declared.place.Place.TheVariants as place
 use Rattle.lib_os.specs.declared.place.Step.{Step}
 use Rattle.lib_os.specs.declared.service.Service.{Service}
 use Rattle.lib_os.specs.declared.service.Service.TheVariants as service
-use Rattle.lib_os.specs.LibraryPages.{has_working, keeps_page, keeps_page_beneath}
+use Rattle.lib_os.specs.LibraryPages.{has_working, keeps_page, keeps_page_beneath, keeps_path}
 use Rattle.lib_os.specs.Places.{place_in_words, place_of, service_word, step_in}
 use Rattle.lib_os.specs.Services.{is_built, named_service, service_of}
 use Rattle.lib_os.proofs.Numbered.{number_of, numbered}
 use Rattle.lib_os.proofs.WordsTell.{by_esp}
 
+-- whether one is kept, by a number and a step
+abbrev kept_by : ℕ → Step → Bool
+kept_by number at = if number == SERVICE_WRITE then keeps_page at else (number == SERVICE_REMOVE) && keeps_path at
+
 -- a service keeps one by its number and its step
-by_number : (s : Service) (at : Step) (words : List ℕ) →
-    has_working (place.InService s at) words ≡ ((number_of s == SERVICE_WRITE) && keeps_page at)
+by_number : (s : Service) (at : Step) (words : List ℕ) → has_working (place.InService s at) words ≡ kept_by (number_of s) at
 by_number service.Exit at words = refl
 by_number (service.Cputs va len) at words = refl
 by_number service.GetId at words = refl
@@ -42,18 +45,18 @@ by_number service.Pipe at words = refl
 by_number (service.Spawn path argv) at words = refl
 by_number service.Unknown at words = refl
 
--- and that of write names no other service
-named_write : (r : Regs) → (number_of (service_of r) == SERVICE_WRITE) ≡ (r.eax == SERVICE_WRITE)
+-- and a number that is built names no other service
+named_so : (number : ℕ) → is_built number ≡ true → (number_of service.Unknown == number) ≡ false → (r : Regs) →
+    (number_of (service_of r) == number) ≡ (r.eax == number)
 unfolding service_of
-named_write r = by_test (is_built r.eax) refl
+named_so number is_one other_one r = by_test (is_built r.eax) refl
   where
-    by_test : (t : Bool) → is_built r.eax ≡ t →
-        (number_of (if t then named_service r else service.Unknown) == SERVICE_WRITE) ≡ (r.eax == SERVICE_WRITE)
-    by_test true built = ap (λ (n : ℕ). n == SERVICE_WRITE) (numbered r built)
+    by_test : (t : Bool) → is_built r.eax ≡ t → (number_of (if t then named_service r else service.Unknown) == number) ≡ (r.eax == number)
+    by_test true built = ap (λ (n : ℕ). n == number) (numbered r built)
     by_test false none =
-        let other : r.eax ≢ SERVICE_WRITE = λ same. let contradiction : true ≡ false = sym (ap is_built same) ∙ none in cc in
-        let off : (r.eax == SERVICE_WRITE) ≡ false = grind (arith, nat_tests, other) in
-        sym off
+        let other : r.eax ≢ number = λ same. let contradiction : true ≡ false = sym is_one ∙ sym (ap is_built same) ∙ none in cc in
+        let off : (r.eax == number) ≡ false = grind (arith, nat_tests, other) in
+        other_one ∙ sym off
 
 pub working_is : (regs : Regs) (words : List ℕ) → has_working (place_in_words regs words) words ≡ keeps_page_beneath words
 unfolding place_in_words
@@ -61,18 +64,22 @@ working_is regs words =
     by_esp _ (service_word words == 0) _ _ _ (λ p. has_working p words ≡ keeps_page_beneath words) (λ esp none. at_guest none)
     (λ esp some. in_service some) (λ esp. refl)
   where
-    at_guest : (service_word words == 0) ≡ true → false ≡ ((service_word words == SERVICE_WRITE + 1) && keeps_page (step_in words))
+    at_guest : (service_word words == 0) ≡ true → false ≡ keeps_page_beneath words
     at_guest none =
-        let off : (service_word words == SERVICE_WRITE + 1) ≡ false = grind (arith, nat_tests) in
-        sym (ap (λ (t : Bool). t && keeps_page (step_in words)) off)
+        let write : (service_word words == SERVICE_WRITE + 1) ≡ false = grind (arith, nat_tests) in
+        let remove : (service_word words == SERVICE_REMOVE + 1) ≡ false = grind (arith, nat_tests) in
+        sym (λ i. if write i then keeps_page (step_in words) else remove i && keeps_path (step_in words))
 
     in_service : (service_word words == 0) ≡ false →
-        has_working (place.InService (service_of (record regs { eax = service_word words - 1 })) (step_in words)) words
-        ≡ ((service_word words == SERVICE_WRITE + 1) && keeps_page (step_in words))
+        has_working (place.InService (service_of (record regs { eax = service_word words - 1 })) (step_in words)) words ≡ keeps_page_beneath words
     in_service some =
-        let same : (service_word words - 1 == SERVICE_WRITE) ≡ (service_word words == SERVICE_WRITE + 1) = grind (arith, nat_tests) in
-        by_number (service_of (record regs { eax = service_word words - 1 })) (step_in words) words
-        ∙ ap (λ (t : Bool). t && keeps_page (step_in words)) (named_write (record regs { eax = service_word words - 1 }) ∙ same)
+        let r : Regs = record regs { eax = service_word words - 1 } in
+        let write : (service_word words - 1 == SERVICE_WRITE) ≡ (service_word words == SERVICE_WRITE + 1) = grind (arith, nat_tests) in
+        let remove : (service_word words - 1 == SERVICE_REMOVE) ≡ (service_word words == SERVICE_REMOVE + 1) = grind (arith, nat_tests) in
+        let write_is = named_so SERVICE_WRITE refl refl r ∙ write in
+        let remove_is = named_so SERVICE_REMOVE refl refl r ∙ remove in
+        by_number (service_of r) (step_in words) words
+        ∙ (λ i. if write_is i then keeps_page (step_in words) else remove_is i && keeps_path (step_in words))
 
 -- So it is the same whatever the registers.
 pub words_work : (k : Slot) (regs : Regs) → has_working (place_of k) k.extra ≡ has_working (place_of (record k { registers = regs })) k.extra

@@ -2,7 +2,7 @@
 -- frame of a page fault on the stack of its handler.
 -- (MIT 6.828, inc/memlayout.h, and lib/pfentry.S.)
 use Rattle.std.specs.Prelude.{◌≡◌, ◌≢◌, ◌<◌, ℕ, ◌+◌, ◌-◌, ◌/◌, ◌==◌, ◌&&◌, ◌||◌, Bool, true, false, List, None, Some}
-use Rattle.std.specs.Prelude.{slice_index}
+use Rattle.std.specs.Prelude.{slice_index, if◌then◌else◌}
 use Rattle.jos_base.specs.declared.memory.PageFault.{PageFault}
 use Rattle.jos_base.specs.declared.numbers.TheConstants.{FDTABLE, NPTENTRIES, PGSIZE, USTACKTOP, UTEMP, UXSTACKTOP}
 use Rattle.jos_base.specs.declared.registers.Regs.{Regs}
@@ -10,7 +10,7 @@ use Rattle.jos_base.specs.Reach.{Entry}
 use Rattle.jos_base.specs.SystemCalls.{has_write}
 use Rattle.jos_base.specs.TrapFrames.{frame_bytes, frame_size}
 use Rattle.jos_base.specs.Words.{page_number}
-use Rattle.lib_os.specs.declared.numbers.TheConstants.{PFTEMP, SERVICE_WRITE, UXSTACK}
+use Rattle.lib_os.specs.declared.numbers.TheConstants.{PFTEMP, SERVICE_REMOVE, SERVICE_WRITE, UXSTACK}
 use Rattle.lib_os.specs.declared.place.HandlerStep.TheVariants as handler
 use Rattle.lib_os.specs.declared.place.Place.{Place}
 use Rattle.lib_os.specs.declared.place.Place.TheVariants as place
@@ -66,13 +66,30 @@ keeps_page step.Releasing = true
 keeps_page (step.Faulting done word) = true
 keeps_page _ = false
 
+-- so has remove with its path, from when it has taken the page until it gives it back, behind the reply or where it refuses
+abbrev pub keeps_path : Step → Bool
+keeps_path (step.BufferRegion done word) = true
+keeps_path (step.BufferEntry done word) = true
+keeps_path (step.Gathering done) = true
+keeps_path (step.Keeping done word left) = true
+keeps_path (step.Faulting done word) = true
+keeps_path step.Identifying = true
+keeps_path (step.Asking id) = true
+keeps_path (step.Pausing id) = true
+keeps_path (step.Awaiting id) = true
+keeps_path (step.Clearing id) = true
+keeps_path _ = false
+
 -- the same beneath the handler of page faults, by the words that are kept for the service
 abbrev pub keeps_page_beneath : List ℕ → Bool
-keeps_page_beneath words = (service_word words == SERVICE_WRITE + 1) && keeps_page (step_in words)
+keeps_page_beneath words =
+    if service_word words == SERVICE_WRITE + 1 then keeps_page (step_in words)
+    else (service_word words == SERVICE_REMOVE + 1) && keeps_path (step_in words)
 
 -- there is such a page
 abbrev pub has_working : Place → List ℕ → Bool
 has_working (place.InService (service.Write fd va len) at) words = keeps_page at
+has_working (place.InService (service.Remove path) at) words = keeps_path at
 has_working (place.InHandler at) words = keeps_page_beneath words
 has_working _ words = false
 

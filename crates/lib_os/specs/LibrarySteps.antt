@@ -5,7 +5,8 @@ use Rattle.std.specs.Prelude.{◌≡◌, ◌≢◌, ◌<◌, ◌≤◌, ℕ, ◌
 use Rattle.std.specs.Prelude.{Option, Some, None, Result, Ok, Err}
 use Rattle.jos_host.specs.declared.host.Failed.{Failed}
 use Rattle.jos_host.specs.Frames.{Around}
-use Rattle.jos_base.specs.declared.numbers.TheConstants.{NPTENTRIES, SYS_EXOFORK, SYS_IPC_TRY_SEND, SYS_PAGE_ALLOC, SYS_PAGE_MAP, UTEMP}
+use Rattle.jos_base.specs.declared.numbers.TheConstants.{NPTENTRIES, PTE_P, PTE_U, PTE_W, SYS_EXOFORK}
+use Rattle.jos_base.specs.declared.numbers.TheConstants.{SYS_IPC_TRY_SEND, SYS_PAGE_ALLOC, SYS_PAGE_MAP, UTEMP}
 use Rattle.jos_base.specs.Counting.{page_limit}
 use Rattle.jos_base.specs.declared.environment.Status.TheVariants.{Runnable}
 use Rattle.jos_base.specs.declared.registers.Regs.{Regs}
@@ -13,19 +14,20 @@ use Rattle.jos_base.specs.Reach.{Entry}
 use Rattle.jos_base.specs.Environments.{Slot, is_live, is_runnable, is_running, no_extra}
 use Rattle.jos_base.specs.KernelState.{KernelState, slot_at, with_slot_at}
 use Rattle.jos_base.specs.Messages.{delivered}
-use Rattle.jos_base.specs.SpacesState.{SpacesState}
+use Rattle.jos_base.specs.SpacesState.{SpacesState, inserted}
 use Rattle.jos_base.specs.Words.{page_number}
 use Rattle.lib_os.specs.declared.user_os.Stop.{Stop}
 use Rattle.lib_os.specs.declared.user_os.Stop.TheVariants as stop
 use Rattle.lib_os.specs.declared.progress.Progress.{Progress}
 use Rattle.lib_os.specs.declared.progress.Progress.TheVariants as progress
-use Rattle.lib_os.specs.declared.numbers.TheConstants.{DESCRIPTORS, FSREQ_SYNC, PAGE_WORDS, SHORT_QUANTUM}
+use Rattle.lib_os.specs.declared.numbers.TheConstants.{DESCRIPTORS, FSREQ_REMOVE, FSREQ_SYNC, PAGE_WORDS, REQUEST, SHORT_QUANTUM}
 use Rattle.lib_os.specs.declared.place.HandlerStep.{HandlerStep}
 use Rattle.lib_os.specs.declared.place.HandlerStep.TheVariants as handler
 use Rattle.lib_os.specs.declared.place.Place.{Place}
 use Rattle.lib_os.specs.declared.place.Place.TheVariants as place
 use Rattle.lib_os.specs.declared.place.Step.{Step}
 use Rattle.lib_os.specs.declared.place.Step.TheVariants as step
+use Rattle.lib_os.specs.declared.service.Service.{Service}
 use Rattle.lib_os.specs.declared.service.Service.TheVariants as service
 use Rattle.lib_os.specs.AbstractState.{AbstractState, Born, born}
 use Rattle.lib_os.specs.AbstractRun.{abs_step, may_wait}
@@ -82,6 +84,7 @@ abbrev pub is_pausing : Place → Bool
 is_pausing (place.InService (service.Wait id) (step.Pausing perm)) = true
 is_pausing (place.InService (service.Send id value va) (step.Pausing perm)) = true
 is_pausing (place.InService service.Sync (step.Pausing id)) = true
+is_pausing (place.InService (service.Remove path) (step.Pausing id)) = true
 is_pausing _ = false
 
 -- What a step leaves, whatever it stands for: the last turn and the number of turns, and how many frames there are; where
@@ -106,13 +109,15 @@ frames_asked number =
 
 -- How many frames a step may take from the list, by where its environment stands: fork takes one for the child's directory, one for a
 -- table of the child's with each page that it maps there, and two for the child's stack; the handler takes two for a page and its table;
--- write and page_new take as many, and a message or a request that is tried one, for a table of the page that goes with it. A page that is mapped over another
--- takes none, since its table is there; a step of a program takes none, and so does each other step.
+-- write, remove and page_new take as many, and a message or a request that is tried one, for a table of the page that goes with it. A page that is
+-- mapped over another takes none, since its table is there; a step of a program takes none, and so does each other step.
 abbrev pub frames_at : Place → ℕ
 frames_at (place.InService (service.PageNew va flags) at) = 2
 frames_at (place.InService (service.Send id value va) (step.Trying perm)) = 1
 frames_at (place.InService (service.Wait id) (step.Trying perm)) = 1
 frames_at (place.InService service.Sync (step.Asking id)) = 1
+frames_at (place.InService (service.Remove path) (step.Asking id)) = 1
+frames_at (place.InService (service.Remove path) step.TakingPage) = 2
 frames_at (place.InService service.Fork step.Entered) = 1
 frames_at (place.InService service.Fork (step.MapChild id page perm)) = 1
 frames_at (place.InService service.Fork (step.ChildStack id)) = 2
@@ -196,6 +201,8 @@ steps_left step.Releasing = 1
 steps_left (step.Asking id) = 6
 steps_left (step.Awaiting id) = 2
 steps_left (step.ReadingReply id) = 1
+steps_left step.Identifying = 7
+steps_left (step.Clearing id) = 2
 
 -- those behind which pages are copied: read and stat put their bytes into the program's memory, an access raises the fault that ends the
 -- environment, and the program goes on
@@ -276,11 +283,13 @@ KeepsNumbers n before after =
     IsInOrder after → is_live (slot_at before n) ≡ true → (a : AbstractState) → Stands before a →
     (m : ℕ) (b : Born) → m ≢ n → a.slots m ≡ born b → is_live (slot_at after m) ≡ true → hidden_left after m ≤ hidden_left before m
 
--- Where the state stands for an abstract one, a step leaves each other environment the page in which a service keeps what it moves.
+-- Where the state stands for an abstract one, a step leaves each other environment that is there behind it the page in which a service keeps what
+-- it moves.
 abbrev pub KeepsWorking : ℕ → KernelState → KernelState → Type 0
 KeepsWorking n before after =
-    is_live (slot_at before n) ≡ true → (a : AbstractState) → Stands before a → (m : ℕ) (b : Born) → m ≢ n → a.slots m ≡ born b →
-    rows_of after.spaces (slot_at before m).directory (page_number UTEMP) ≡ rows_of before.spaces (slot_at before m).directory (page_number UTEMP)
+    IsInOrder after → is_live (slot_at before n) ≡ true → (a : AbstractState) → Stands before a →
+    (m : ℕ) (b : Born) → m ≢ n → a.slots m ≡ born b → is_live (slot_at after m) ≡ true →
+    rows_of after.spaces (slot_at after m).directory (page_number UTEMP) ≡ rows_of before.spaces (slot_at before m).directory (page_number UTEMP)
 
 -- none of the pages of the environment in slot n has this frame
 abbrev pub LacksFrame : KernelState → ℕ → ℕ → Type 0
@@ -295,21 +304,44 @@ pub record LeavesServer (n : ℕ) (before after : KernelState) : Type 0 where
   pub pages : (p : ℕ) (e : Entry) → before.spaces.entries (slot_at before 0).directory p ≡ Some e → LacksFrame before n e.frame →
       after.spaces.pages e.frame ≡ before.spaces.pages e.frame
 
--- the slot of one who waited, to whom a word has come with no page: it may run again, and is answered 0
-abbrev pub with_word : Slot → ℕ → ℕ → Slot
-with_word k sender value = record k {
-  rendezvous = delivered k.rendezvous sender value 0;
+-- the slot of one who waited, to whom a word has come, with a page whose entry has these bits, or 0 with none: it may run again, and is answered 0
+abbrev pub with_message_in : Slot → ℕ → ℕ → ℕ → Slot
+with_message_in k sender value perm = record k {
+  rendezvous = delivered k.rendezvous sender value perm;
   status = Runnable;
   registers = record k.registers { eax = 0 };
 }
 
--- The environment in slot n has asked the server, which waited: the word of its request has come.
+-- with no page
+abbrev pub with_word : Slot → ℕ → ℕ → Slot
+with_word k sender value = with_message_in k sender value 0
+
+-- the bits of the page of a request, as the server has it
+abbrev pub request_perm : ℕ
+request_perm = PTE_P + PTE_U + PTE_W
+
+-- The page at UTEMP of the environment in slot n has come to the server, where it receives requests.
+pub record GivesPage (n : ℕ) (before after : KernelState) : Type 0 where
+  pub entry : Entry
+  pub stands : before.spaces.entries (slot_at before n).directory (page_number UTEMP) ≡ Some entry
+  pub spaces : inserted before.spaces (slot_at before 0).directory (page_number REQUEST) (record { frame = entry.frame; perm = request_perm })
+      ≡ Some after.spaces
+
+-- What comes to the server by a service that asks it: the word of its request, and a page or none; ⊥ for one that doesn't ask.
+abbrev pub BringsRequest : Service → ℕ → KernelState → KernelState → Type 0
+BringsRequest service.Sync n before after =
+    (slot_at after 0 ≡ with_word (slot_at before 0) (slot_at before n).id FSREQ_SYNC) × (after.spaces ≡ before.spaces)
+BringsRequest (service.Remove path) n before after =
+    (slot_at after 0 ≡ with_message_in (slot_at before 0) (slot_at before n).id FSREQ_REMOVE request_perm) × GivesPage n before after
+BringsRequest _ n before after = ⊥
+
+-- The environment in slot n has asked the server, which waited: its request has come.
 pub record AsksServer (n : ℕ) (before after : KernelState) : Type 0 where
+  pub by_service : Service
   pub id : ℕ
-  pub at : place_of (slot_at before n) ≡ place.InService service.Sync (step.Asking id)
+  pub at : place_of (slot_at before n) ≡ place.InService by_service (step.Asking id)
   pub waited : AwaitsRequest (slot_at before 0)
-  pub slot : slot_at after 0 ≡ with_word (slot_at before 0) (slot_at before n).id FSREQ_SYNC
-  pub spaces : after.spaces ≡ before.spaces
+  pub brings : BringsRequest by_service n before after
 
 -- It is left alone, or asked.
 pub data LeavesOrAsks (n : ℕ) (before after : KernelState) : Type 0 where

@@ -28,6 +28,7 @@ use Rattle.lib_os.specs.declared.numbers.TheConstants.{STEP_TARGET_ENTRY, STEP_D
 use Rattle.lib_os.specs.declared.numbers.TheConstants.{STEP_READING_DEVICE, STEP_BUFFER_REGION, STEP_BUFFER_ENTRY, STEP_TAKING_PAGE}
 use Rattle.lib_os.specs.declared.numbers.TheConstants.{STEP_GATHERING, STEP_KEEPING, STEP_PRINTING, STEP_RELEASING, STEP_GETTING}
 use Rattle.lib_os.specs.declared.numbers.TheConstants.{STEP_DELIVERING, STEP_FAULTING, STEP_ASKING, STEP_AWAITING, STEP_READING_REPLY}
+use Rattle.lib_os.specs.declared.numbers.TheConstants.{STEP_IDENTIFYING, STEP_CLEARING}
 use Rattle.lib_os.specs.Services.{service_of}
 
 -- ---- places
@@ -86,6 +87,8 @@ step_in words =
     else if n == STEP_ASKING then step.Asking (first_word words)
     else if n == STEP_AWAITING then step.Awaiting (first_word words)
     else if n == STEP_READING_REPLY then step.ReadingReply (first_word words)
+    else if n == STEP_IDENTIFYING then step.Identifying
+    else if n == STEP_CLEARING then step.Clearing (first_word words)
     else step.Undoing (first_word words) (second_word words)
 
 -- ESP lies on the stack of the handler of page faults
@@ -160,6 +163,8 @@ words_at number (step.Faulting done word) = place_words number STEP_FAULTING don
 words_at number (step.Asking id) = place_words number STEP_ASKING id 0 0
 words_at number (step.Awaiting id) = place_words number STEP_AWAITING id 0 0
 words_at number (step.ReadingReply id) = place_words number STEP_READING_REPLY id 0 0
+words_at number step.Identifying = place_words number STEP_IDENTIFYING 0 0 0
+words_at number (step.Clearing id) = place_words number STEP_CLEARING id 0 0
 
 -- the words with which a program's INT 0x40 leaves it; all numbers that name no service are kept as one
 abbrev pub words_entered : Regs → List ℕ

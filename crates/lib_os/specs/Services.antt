@@ -47,10 +47,10 @@ last_services r =
 unfoldable pub named_service : Regs → Service
 named_service r = first_services r (last_services r)
 
--- The numbers that name a service so far: those on paths, on pipes and on programs are not built yet.
+-- The numbers that name a service so far: that which opens a file, and those on pipes and on programs, are not built yet.
 abbrev pub is_built : ℕ → Bool
 is_built number =
-    nat_le number SERVICE_RECEIVE || (nat_le SERVICE_CLOSE number && nat_le number SERVICE_SET_SIZE) || (number == SERVICE_SYNC) || (number == SERVICE_DUP)
+    nat_le number SERVICE_RECEIVE || (nat_le SERVICE_CLOSE number && nat_le number SERVICE_DUP)
 
 unfoldable pub service_of : Regs → Service
 service_of r = if is_built r.eax then named_service r else service.Unknown
@@ -73,6 +73,7 @@ is_built_service (service.Write fd va len) = true
 is_built_service (service.Seek fd offset) = true
 is_built_service (service.Stat fd va) = true
 is_built_service (service.SetSize fd size) = true
+is_built_service (service.Remove path) = true
 is_built_service service.Sync = true
 is_built_service (service.Dup old new) = true
 is_built_service service.Unknown = true

@@ -6,6 +6,7 @@ use Rattle.std.specs.Prelude.{◌≡◌, ◌≢◌, ◌<◌, ◌≤◌, ℕ, ◌
 use Rattle.std.specs.Prelude.{is_some, List, [], ◌∷◌, Option, Some, None}
 use Rattle.std.specs.Prelude.{length, take, drop, slice_index, if◌then◌else◌}
 use Rattle.std.specs.Int.{w32, to_le_bytes}
+use Rattle.std.specs.List.{position_or_len}
 use Rattle.jos_base.specs.declared.environment.EnvType.TheVariants.{User, FileServer}
 use Rattle.jos_base.specs.declared.environment.Status.{Status}
 use Rattle.jos_base.specs.declared.environment.Status.TheVariants.{Runnable, Running, NotRunnable}
@@ -20,7 +21,7 @@ use Rattle.jos_base.specs.SystemCalls.{has_write}
 use Rattle.jos_base.specs.TrapFrames.{user_flags}
 use Rattle.jos_base.specs.Words.{page_number}
 use Rattle.lib_os.specs.declared.numbers.TheConstants.{DESCRIPTORS, DISKMAP, MAXOPEN, OPEN_RECORDS, PGFAULT_UPCALL, REQUEST, UXSTACK}
-use Rattle.fs_layout.specs.declared.numbers.TheConstants.{MAXBLOCKS}
+use Rattle.fs_layout.specs.declared.numbers.TheConstants.{MAXBLOCKS, MAXPATHLEN}
 use Rattle.lib_os.specs.declared.place.HandlerStep.TheVariants as handler
 use Rattle.lib_os.specs.declared.place.Place.{Place}
 use Rattle.lib_os.specs.declared.place.Place.TheVariants as place
@@ -33,7 +34,8 @@ use Rattle.lib_os.specs.AbstractState.{Stage, asked, awaiting, replied, bearing,
 use Rattle.lib_os.specs.AbstractMemory.{has_page_in}
 use Rattle.lib_os.specs.AbstractMessages.{is_page_or_none}
 use Rattle.lib_os.specs.DescriptorPages.{Things, place_page}
-use Rattle.lib_os.specs.Fence.{is_page_inside, is_resident}
+use Rattle.lib_os.specs.Fence.{is_inside, is_page_inside, is_resident}
+use Rattle.lib_os.specs.FileServices.{is_nul}
 use Rattle.lib_os.specs.InOrder.{IsInOrder}
 use Rattle.lib_os.specs.LibraryPages.{View, IsOwnWritable, LibraryPages, is_library_region, region_index}
 use Rattle.lib_os.specs.Places.{place_of, is_handlers, service_word}
@@ -42,6 +44,7 @@ use Rattle.lib_os.specs.Rows.{descriptor_page, descriptor_seen, is_descriptor}
 use Rattle.lib_os.specs.Rows.{AgreeWhereShared, AreBytes, AreNamed, AreBeside, AreUsers, IsUsers, AreWhole, server_row}
 use Rattle.lib_os.specs.StandsInHandler.{IsAtGuest, IsInHandler, IsGiven, WantsMore, StandsDelivering, StandsPutting, buffer_of, wanted_of}
 use Rattle.lib_os.specs.StandsInHandler.{is_refused_by, next_page}
+use Rattle.lib_os.specs.StandsInHandler.{HasNoEnd, WantsMoreOfPath, may_follow, stage_with}
 
 -- ---- an environment at its place
 
@@ -228,6 +231,7 @@ StandsAtDevice v k b s None = ⊥
 -- as it moves bytes, their pages are written or read
 abbrev pub writes_buffer : Service → Bool
 writes_buffer (service.Write fd va len) = false
+writes_buffer (service.Remove path) = false
 writes_buffer _ = true
 
 -- the page of the next byte refuses it
@@ -274,6 +278,54 @@ pub record IsPrinting (v : View) (k : Slot) (b : Born) (fd va len : ℕ) : Type 
   pub many : length bytes ≡ wanted_of len
   pub kept : HasTaken v bytes (length bytes)
 
+-- remove has taken so many bytes of its path, which its page has, and wants more
+pub record IsTakingPath (v : View) (k : Slot) (b : Born) (path done : ℕ) : Type 0 where
+  pub bytes : List ℕ
+  pub program : b.program ≡ guest k.registers
+  pub wants : WantsMoreOfPath b path bytes
+  pub many : length bytes ≡ done
+  pub kept : HasTaken v bytes done
+  pub silent : k.rendezvous.receiving ≡ false
+  pub awake : b.blocked ≡ false
+
+-- it has taken so many, none of them the end, and may take no other
+pub record IsRefusingPath (k : Slot) (b : Born) (path done : ℕ) : Type 0 where
+  pub bytes : List ℕ
+  pub is_in : IsIn k b (service.Remove path) (stage_with bytes)
+  pub no_end : HasNoEnd bytes
+  pub many : length bytes ≡ done
+  pub few : done ≤ MAXPATHLEN
+  pub ends : may_follow path done ≡ false
+
+-- It is about to take the next, whose page doesn't refuse that, or to refuse its path, by whether another may follow.
+abbrev pub IsGatheringPath : Bool → View → Slot → Born → ℕ → ℕ → Type 0
+IsGatheringPath true v k b path done = IsTakingPath v k b path done × (refuses_next v.row (service.Remove path) done ≡ false)
+IsGatheringPath false v k b path done = IsRefusingPath k b path done
+
+-- It has loaded the last so many of the bytes that it has taken, and its page has those before, none of which is the end.
+pub record IsKeepingPath (v : View) (k : Slot) (b : Born) (path done word left : ℕ) : Type 0 where
+  pub bytes : List ℕ
+  pub is_in : IsIn k b (service.Remove path) (gathering bytes)
+  pub many : length bytes ≡ done + left
+  pub few : length bytes ≤ MAXPATHLEN
+  pub some : 0 < left
+  pub last : left ≤ 4
+  pub word_is : take left (to_le_bytes w32 word) ≡ drop done bytes
+  pub small : AreBytes bytes
+  pub no_end : done ≤ position_or_len is_nul bytes
+  -- the page of the last of them did not refuse it
+  pub allowed : refuses_next v.row (service.Remove path) (done + left - 1) ≡ false
+  pub kept : HasTaken v bytes done
+
+-- The path is taken: its page has it, with its end.
+pub record HasWholePath (v : View) (k : Slot) (b : Born) (path : ℕ) : Type 0 where
+  pub bytes : List ℕ
+  pub is_in : IsIn k b (service.Remove path) (gathering bytes)
+  pub few : length bytes ≤ MAXPATHLEN
+  pub small : AreBytes bytes
+  pub ended : position_or_len is_nul bytes < length bytes
+  pub kept : HasTaken v bytes (position_or_len is_nul bytes + 1)
+
 -- they are printed, and the program goes on with the answer
 pub record HasPrinted (k : Slot) (b : Born) (len : ℕ) : Type 0 where
   pub program : b.program ≡ guest (record k.registers { eax = wanted_of len })
@@ -292,6 +344,7 @@ abbrev pub StandsBefore : Type 0 → View → Slot → Born → Service → ℕ 
 StandsBefore so v k b (service.Read fd va len) done word = StandsDelivering (service.Read fd va len) done word k b × so
 StandsBefore so v k b (service.Stat fd va) done word = StandsDelivering (service.Stat fd va) done word k b × so
 StandsBefore so v k b (service.Write fd va len) done word = IsTaking v k b fd va len done × so
+StandsBefore so v k b (service.Remove path) done word = IsTakingPath v k b path done × so
 StandsBefore so v k b _ done word = ⊥
 
 -- ---- fork
@@ -346,6 +399,15 @@ StandsAtStep v k b (service.Write fd va len) (step.Gathering done) =
 StandsAtStep v k b (service.Write fd va len) (step.Keeping done word left) = IsKeeping v k b fd va len done word left
 StandsAtStep v k b (service.Write fd va len) step.Printing = IsPrinting v k b fd va len
 StandsAtStep v k b (service.Write fd va len) step.Releasing = HasPrinted k b len
+StandsAtStep v k b (service.Remove path) step.TakingPage = IsIn k b (service.Remove path) entered × (is_inside path ≡ true)
+StandsAtStep v k b (service.Remove path) (step.Gathering done) = IsGatheringPath (may_follow path done) v k b path done
+StandsAtStep v k b (service.Remove path) (step.Keeping done word left) = IsKeepingPath v k b path done word left
+StandsAtStep v k b (service.Remove path) step.Identifying = HasWholePath v k b path
+StandsAtStep v k b (service.Remove path) (step.Asking id) = (id ≡ k.id) × HasWholePath v k b path
+StandsAtStep v k b (service.Remove path) (step.Pausing id) = (id ≡ k.id) × HasWholePath v k b path
+StandsAtStep v k b (service.Remove path) (step.Awaiting id) = (id ≡ k.id) × HasAsked k b (service.Remove path)
+StandsAtStep v k b (service.Remove path) (step.Clearing id) = (id ≡ k.id) × AwaitsOrHas k b (service.Remove path)
+StandsAtStep v k b (service.Remove path) (step.ReadingReply id) = (id ≡ k.id) × HasReply k b (service.Remove path)
 StandsAtStep v k b (service.Wait id) (step.Trying perm) = IsWaiting k b id
 StandsAtStep v k b (service.Wait id) (step.Pausing perm) = IsWaiting k b id
 StandsAtStep v k b (service.Send id value va) (step.Trying perm) = IsTrying v.row k b id value va perm

@@ -2,9 +2,10 @@
 -- hands of the library's handler: either its page is copied, and then the instruction, or the service's access, is made again, or the
 -- fault ends it.
 -- (MIT 6.828, lib/fork.c: pgfault.)
-use Rattle.std.specs.Prelude.{◌≡◌, ◌<◌, ◌^◌, ℕ, ◌+◌, ◌*◌, ◌&&◌, not, Bool, true, false, is_some, get_or, Option, None, Some}
+use Rattle.std.specs.Prelude.{◌≡◌, ◌<◌, ◌^◌, ℕ, ◌+◌, ◌*◌, ◌&&◌, nat_lt, not, Bool, true, false, is_some, get_or, Option, None, Some}
 use Rattle.std.specs.Prelude.{List, [], ◌∷◌, drop, length, min, slice_index}
 use Rattle.std.specs.Int.{w32, from_le_bytes}
+use Rattle.std.specs.List.{position_or_len}
 use Rattle.jos_base.specs.declared.memory.PageFault.{PageFault}
 use Rattle.jos_base.specs.declared.numbers.TheConstants.{FEC_PR, FEC_U, FEC_WR, PGSIZE, UTRAPFRAME_WORDS}
 use Rattle.jos_base.specs.declared.registers.Regs.{Regs}
@@ -13,6 +14,7 @@ use Rattle.jos_base.specs.Reach.{Entry}
 use Rattle.jos_base.specs.SystemCalls.{has_write}
 use Rattle.jos_base.specs.TrapFrames.{frame_words, user_flags}
 use Rattle.jos_base.specs.Words.{page_number, has_bit}
+use Rattle.fs_layout.specs.declared.numbers.TheConstants.{MAXPATHLEN}
 use Rattle.lib_os.specs.declared.numbers.TheConstants.{DESCRIPTORS, DEVICE_CONSOLE, PFTEMP, TRANSFER_MAX}
 use Rattle.lib_os.specs.declared.place.HandlerStep.{HandlerStep}
 use Rattle.lib_os.specs.declared.place.HandlerStep.TheVariants as handler
@@ -23,7 +25,7 @@ use Rattle.lib_os.specs.declared.service.Service.TheVariants as service
 use Rattle.lib_os.specs.AbstractState.{Born, guest, at_guest, faulted, in_service, Stage, delivering, entered, gathering}
 use Rattle.lib_os.specs.DescriptorPages.{device_of}
 use Rattle.lib_os.specs.Fence.{is_buffer, is_inside, is_resident}
-use Rattle.lib_os.specs.FileServices.{terminal_stat}
+use Rattle.lib_os.specs.FileServices.{is_nul, terminal_stat}
 use Rattle.lib_os.specs.LibraryPages.{View, HasFrame}
 use Rattle.lib_os.specs.Places.{place_of}
 use Rattle.lib_os.specs.Rows.{EntryRow, is_shared, is_cow, descriptor_page, AreBytes}
@@ -87,6 +89,7 @@ abbrev pub buffer_of : Service → ℕ
 buffer_of (service.Read fd va len) = va
 buffer_of (service.Write fd va len) = va
 buffer_of (service.Stat fd va) = va
+buffer_of (service.Remove path) = path
 buffer_of _ = 0
 
 -- the page of the byte behind so many
@@ -101,7 +104,7 @@ StandsPutting row s done word k b = StandsDelivering s done word k b × (is_refu
 abbrev pub wanted_of : ℕ → ℕ
 wanted_of len = min len TRANSFER_MAX
 
--- the stage of write with the bytes that it has taken
+-- the stage of write, and of one that is given a path, with the bytes that it has taken
 abbrev pub stage_with : List ℕ → Stage
 stage_with [] = entered
 stage_with (byte ∷ rest) = gathering (byte ∷ rest)
@@ -123,6 +126,22 @@ pub record WantsMore (v : View) (b : Born) (fd va len : ℕ) (bytes : List ℕ) 
   pub phase : b.phase ≡ in_service (service.Write fd va len) (stage_with bytes)
   pub given : IsGiven v fd va len
   pub fewer : length bytes < wanted_of len
+
+-- ---- a path
+
+-- none of these bytes is the end of a path
+abbrev pub HasNoEnd : List ℕ → Type 0
+HasNoEnd bytes = position_or_len is_nul bytes ≡ length bytes
+
+-- behind so many bytes of a path another may be taken
+abbrev pub may_follow : ℕ → ℕ → Bool
+may_follow path done = nat_lt done MAXPATHLEN && is_inside (path + done)
+
+-- remove has taken these bytes of its path, and wants more
+pub record WantsMoreOfPath (b : Born) (path : ℕ) (bytes : List ℕ) : Type 0 where
+  pub phase : b.phase ≡ in_service (service.Remove path) (stage_with bytes)
+  pub no_end : HasNoEnd bytes
+  pub follows : may_follow path (length bytes) ≡ true
 
 -- ---- what stands beneath the handler, where it copies a page
 
@@ -215,6 +234,8 @@ pub data IsStoppedAt (write : Bool) (v : View) (b : Born) (va ip : ℕ) : Type 0
   telling : (fd buffer : ℕ) (bytes : List ℕ) (answer : ℕ) → write ≡ true →
       b.phase ≡ in_service (service.Stat fd buffer) (delivering va bytes answer) → 0 < length bytes → IsStoppedAt write v b va ip
   writing : (fd buffer len : ℕ) (bytes : List ℕ) → write ≡ false → WantsMore v b fd buffer len bytes → va ≡ buffer + length bytes →
+      IsStoppedAt write v b va ip
+  removing : (path : ℕ) (bytes : List ℕ) → write ≡ false → WantsMoreOfPath b path bytes → va ≡ path + length bytes →
       IsStoppedAt write v b va ip
 
 -- The environment ends by the fault.

@@ -304,6 +304,12 @@ pub const STEP_AWAITING: u32 = 34;
 /// It waits for the reply, or is about to read its word.
 pub const STEP_READING_REPLY: u32 = 35;
 
+/// Its page tells the request, and it is about to ask for its id.
+pub const STEP_IDENTIFYING: u32 = 36;
+
+/// It waits for the reply, or is about to give back the page that told its request.
+pub const STEP_CLEARING: u32 = 37;
+
 // ---- how far the handler of page faults is, as the EIP of its environment. Nothing is fetched there: no page stands below the
 // exception stack, and that the handler runs is told by ESP.
 

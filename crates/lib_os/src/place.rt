@@ -10,12 +10,12 @@ use crate::numbers::{
     HANDLER_READING_IP, HANDLER_RESTORING, HANDLER_STORING, HANDLER_TAKING, HANDLER_TOUCHING,
     HANDLER_UNMAPPING, HANDLER_UNSETTING, PAGE_WORDS, PGFAULT_UPCALL, STEP_ASKING, STEP_AWAITING,
     STEP_BUFFER_ENTRY, STEP_BUFFER_REGION, STEP_CHILD_RUNS, STEP_CHILD_STACK, STEP_CHILD_UPCALL,
-    STEP_DELIVERING, STEP_DESCRIPTOR_ENTRY, STEP_DROPPING_DESCRIPTOR, STEP_ENDING, STEP_ENTERED,
-    STEP_FAULTING, STEP_FORK_ENTRY, STEP_FORK_REGION, STEP_GATHERING, STEP_GETTING, STEP_KEEPING,
-    STEP_MAP_CHILD, STEP_MAPPING_DESCRIPTOR, STEP_PAUSING, STEP_PRINTING, STEP_READING_DEVICE,
-    STEP_READING_ENTRY, STEP_READING_PERM, STEP_READING_REGION, STEP_READING_REPLY,
-    STEP_READING_SENDER, STEP_READING_VALUE, STEP_RECEIVING, STEP_RELEASING, STEP_REMAP,
-    STEP_TAKING_PAGE, STEP_TARGET_ENTRY, STEP_TRYING, STEP_UNDOING, UXSTACK,
+    STEP_CLEARING, STEP_DELIVERING, STEP_DESCRIPTOR_ENTRY, STEP_DROPPING_DESCRIPTOR, STEP_ENDING,
+    STEP_ENTERED, STEP_FAULTING, STEP_FORK_ENTRY, STEP_FORK_REGION, STEP_GATHERING, STEP_GETTING,
+    STEP_IDENTIFYING, STEP_KEEPING, STEP_MAP_CHILD, STEP_MAPPING_DESCRIPTOR, STEP_PAUSING,
+    STEP_PRINTING, STEP_READING_DEVICE, STEP_READING_ENTRY, STEP_READING_PERM, STEP_READING_REGION,
+    STEP_READING_REPLY, STEP_READING_SENDER, STEP_READING_VALUE, STEP_RECEIVING, STEP_RELEASING,
+    STEP_REMAP, STEP_TAKING_PAGE, STEP_TARGET_ENTRY, STEP_TRYING, STEP_UNDOING, UXSTACK,
 };
 use crate::service::{Service, service_of};
 use jos_base::{Extra, Regs, UXSTACKTOP};
@@ -69,16 +69,17 @@ pub enum Step {
     Ending,
     /// read, write, seek, stat and set_size: it is about to read what its descriptor names.
     ReadingDevice,
-    /// read, write and stat, which have moved so many bytes of their buffer: it is about to read whether the region of the next has a
-    /// table. read has the byte that it has taken.
+    /// read, write, stat and remove, which have moved so many bytes of their buffer, or of their path: it is about to read whether the region
+    /// of the next has a table. read has the byte that it has taken.
     BufferRegion { done: u32, word: u32 },
-    /// read, write and stat: it is about to read the entry of the next byte's page.
+    /// read, write, stat and remove: it is about to read the entry of the next byte's page.
     BufferEntry { done: u32, word: u32 },
-    /// write: it is about to take a page for the bytes of its buffer.
+    /// write and remove: it is about to take a page for the bytes of its buffer, or of its path.
     TakingPage,
-    /// write: it is about to load the next bytes.
+    /// write and remove: it is about to load the next bytes. remove: where no byte of its path may follow, it is about to give its page back.
     Gathering { done: u32 },
-    /// write: it has loaded these bytes of a word, the next to be kept lowest, and is about to put them, or the next of them, into its page.
+    /// write and remove: it has loaded these bytes of a word, the next to be kept lowest, and is about to put them, or the next of them, into
+    /// its page.
     Keeping { done: u32, word: u32, left: u32 },
     /// write: its page has all bytes, and it is about to print them.
     Printing,
@@ -88,15 +89,19 @@ pub enum Step {
     Getting,
     /// read and stat: it is about to put the next bytes into the buffer.
     Delivering { done: u32, word: u32 },
-    /// read, write and stat: the next byte of the buffer can't be moved, and it is about to raise the fault by which the environment ends.
+    /// read, write, stat and remove: the next byte can't be moved, and it is about to raise the fault by which the environment ends.
     Faulting { done: u32, word: u32 },
-    /// sync, with the environment's id: it is about to ask the file server. Where it has tried in vain, it is about to give up its turn, as above,
+    /// sync and remove, with the environment's id: it is about to ask the file server. Where it has tried in vain, it is about to give up its turn, as above,
     /// and has the id in the place of a page's bits.
     Asking { id: u32 },
-    /// sync: it has asked, and is about to wait for the reply.
+    /// sync and remove: it has asked, and is about to wait for the reply.
     Awaiting { id: u32 },
-    /// sync: it waits for the reply, or is about to read the word that came.
+    /// sync and remove: it waits for the reply, or is about to read the word that came. remove has the reply.
     ReadingReply { id: u32 },
+    /// remove: its page has the path, and it is about to ask for its id.
+    Identifying,
+    /// remove: it waits for the reply, or is about to give its page back.
+    Clearing { id: u32 },
 }
 
 /// How far the handler of page faults is, with what it has found out: the address of the fault, its error code, the address of
@@ -290,6 +295,8 @@ fn find_step(words: &Extra) -> Step
         STEP_ASKING => Step::Asking { id: first },
         STEP_AWAITING => Step::Awaiting { id: first },
         STEP_READING_REPLY => Step::ReadingReply { id: first },
+        STEP_IDENTIFYING => Step::Identifying,
+        STEP_CLEARING => Step::Clearing { id: first },
         _ => Step::Undoing {
             id: first,
             error: second,
@@ -363,6 +370,8 @@ pub fn words_at(number: u32, step: Step) -> Extra
         Step::Asking { id } => (STEP_ASKING, id, 0, 0),
         Step::Awaiting { id } => (STEP_AWAITING, id, 0, 0),
         Step::ReadingReply { id } => (STEP_READING_REPLY, id, 0, 0),
+        Step::Identifying => (STEP_IDENTIFYING, 0, 0, 0),
+        Step::Clearing { id } => (STEP_CLEARING, id, 0, 0),
     };
     Extra([number + 1, place, first, second, third, 0, 0, 0, 0, 0, 0, 0])
 }

@@ -394,8 +394,8 @@ module _ (s : KernelState) (n fd va len : ℕ) (live : is_live (slot_at s n) ≡
   read_holds (step.DescriptorEntry at) stands = entry_holds s n read fd refl live at stands
   read_holds step.ReadingDevice stands = device_told stands
   read_holds step.Getting stands = getting_holds stands
-  read_holds (step.BufferRegion done word) stands = buffer_region_holds s n read fd refl live done word word refl stands
-  read_holds (step.BufferEntry done word) stands = buffer_entry_holds s n read fd refl live done word word refl stands
+  read_holds (step.BufferRegion done word) stands = buffer_region_holds s n read live done word word refl stands
+  read_holds (step.BufferEntry done word) stands = buffer_entry_holds s n read live done word word refl stands
   read_holds (step.Delivering done word) stands = delivering_holds done word stands
   read_holds (step.Faulting done word) stands = read_faulting_holds s n small done word fd va len stands (word % 256)
   read_holds (step.Trying perm) stands = no_step (step.Trying perm) stands (λ view k b h. h)
@@ -426,3 +426,5 @@ module _ (s : KernelState) (n fd va len : ℕ) (live : is_live (slot_at s n) ≡
   read_holds (step.Asking own) stands = no_step (step.Asking own) stands (λ view k b h. h)
   read_holds (step.Awaiting own) stands = no_step (step.Awaiting own) stands (λ view k b h. h)
   read_holds (step.ReadingReply own) stands = no_step (step.ReadingReply own) stands (λ view k b h. h)
+  read_holds step.Identifying stands = no_step step.Identifying stands (λ view k b h. h)
+  read_holds (step.Clearing own) stands = no_step (step.Clearing own) stands (λ view k b h. h)

@@ -261,8 +261,8 @@ module _ (s : KernelState) (n fd va : ℕ) (live : is_live (slot_at s n) ≡ tru
   stat_holds step.Entered stands = region_holds s n stat fd refl live stands
   stat_holds (step.DescriptorEntry at) stands = entry_holds s n stat fd refl live at stands
   stat_holds step.ReadingDevice stands = device_told stands
-  stat_holds (step.BufferRegion done word) stands = buffer_region_holds s n stat fd refl live done word 0 tt stands
-  stat_holds (step.BufferEntry done word) stands = buffer_entry_holds s n stat fd refl live done word 0 tt stands
+  stat_holds (step.BufferRegion done word) stands = buffer_region_holds s n stat live done word 0 tt stands
+  stat_holds (step.BufferEntry done word) stands = buffer_entry_holds s n stat live done word 0 tt stands
   stat_holds (step.Delivering done word) stands = delivering_holds done word stands
   stat_holds (step.Faulting done word) stands = stat_faulting_holds s n small done word fd va stands 0
   stat_holds (step.Trying perm) stands = no_step (step.Trying perm) stands (λ view k b h. h)
@@ -294,3 +294,5 @@ module _ (s : KernelState) (n fd va : ℕ) (live : is_live (slot_at s n) ≡ tru
   stat_holds (step.Asking own) stands = no_step (step.Asking own) stands (λ view k b h. h)
   stat_holds (step.Awaiting own) stands = no_step (step.Awaiting own) stands (λ view k b h. h)
   stat_holds (step.ReadingReply own) stands = no_step (step.ReadingReply own) stands (λ view k b h. h)
+  stat_holds step.Identifying stands = no_step step.Identifying stands (λ view k b h. h)
+  stat_holds (step.Clearing own) stands = no_step (step.Clearing own) stands (λ view k b h. h)

@@ -1,3 +1,9 @@
 pub mod Asking
+pub mod PathFollows
+pub mod RemoveAsks
+pub mod RemoveBegins
+pub mod RemoveGathers
+pub mod RemoveKeeps
+pub mod RemoveLaw
 pub mod Replying
 pub mod SyncLaw

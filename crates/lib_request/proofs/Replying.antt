@@ -23,7 +23,7 @@ use Rattle.lib_os.proofs.ReplyRead.{awaiting_stands, awaiting_step, awake_reply,
 use Rattle.lib_os.proofs.Serving.{holds_page, printed_nothing, served}
 use Rattle.lib_os.proofs.SlotsStand.{born_live}
 use Rattle.lib_os.proofs.WindowWords.{read_at}
-use Rattle.lib_request.specs.SyncStages.{reply_place}
+use Rattle.lib_request.specs.Replies.{reply_place}
 
 module _ (s : KernelState) (n id : ℕ) where
   abbrev k : Slot

@@ -26,7 +26,8 @@ use Rattle.lib_stage.proofs.Laws.{Falls, IsAt, IsPlain, KeepsBy, plainly, kept_s
 use Rattle.lib_stage.proofs.Laws.{law_of_nowhere, law_of_pause}
 use Rattle.lib_request.specs.declared.sync.SyncStage.{SyncStage}
 use Rattle.lib_request.specs.declared.sync.SyncStage.TheVariants as stage
-use Rattle.lib_request.specs.SyncStages.{next_of, reply_place, sync_at, syncing}
+use Rattle.lib_request.specs.Replies.{reply_place}
+use Rattle.lib_request.specs.SyncStages.{next_of, sync_at, syncing}
 use Rattle.lib_request.proofs.Asking.{entered_keeps, tried, asking_keeps}
 use Rattle.lib_request.proofs.Replying.{awaiting_keeps, reply_there, reply_follows}
 
@@ -145,3 +146,5 @@ module _ (s : KernelState) (n : ℕ) (live : is_live (slot_at s n) ≡ true)
   sync_holds step.Getting stands = no_step step.Getting stands refl (λ view k b h. h)
   sync_holds (step.Delivering done word) stands = no_step (step.Delivering done word) stands refl (λ view k b h. h)
   sync_holds (step.Faulting done word) stands = no_step (step.Faulting done word) stands refl (λ view k b h. h)
+  sync_holds step.Identifying stands = no_step step.Identifying stands refl (λ view k b h. h)
+  sync_holds (step.Clearing id) stands = no_step (step.Clearing id) stands refl (λ view k b h. h)

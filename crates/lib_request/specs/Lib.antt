@@ -1,1 +1,3 @@
+pub mod RemoveStages
+pub mod Replies
 pub mod SyncStages

@@ -1,7 +1,7 @@
 -- sync: what it asks at each stage, and what it does next by the reply.
-use Rattle.std.specs.Prelude.{ℕ, ◌+◌, ◌*◌, ◌%◌, ◌==◌, not, [], ◌∷◌, Option, Some, None, if◌then◌else◌}
+use Rattle.std.specs.Prelude.{ℕ, ◌==◌, not, [], ◌∷◌, Option, Some, None, if◌then◌else◌}
 use Rattle.std.specs.Option.{option_map}
-use Rattle.jos_base.specs.declared.numbers.TheConstants.{E_IPC_NOT_RECV, ENV_IPC_VALUE, ENV_SIZE, FIRST_ENV_ID, NENV, UENVS, UTOP}
+use Rattle.jos_base.specs.declared.numbers.TheConstants.{E_IPC_NOT_RECV, FIRST_ENV_ID, UTOP}
 use Rattle.jos_base.specs.declared.numbers.TheConstants.{SYS_GETENVID, SYS_IPC_RECV, SYS_IPC_TRY_SEND, SYS_YIELD}
 use Rattle.jos_base.specs.Words.{negated}
 use Rattle.lib_os.specs.declared.numbers.TheConstants.{FSREQ_SYNC, SERVICE_SYNC}
@@ -14,6 +14,7 @@ use Rattle.lib_stage.specs.declared.ask.Next.{Next}
 use Rattle.lib_stage.specs.declared.ask.Next.TheVariants as next
 use Rattle.lib_stage.specs.Asks.{no_args}
 use Rattle.lib_stage.specs.ServiceSteps.{Plan}
+use Rattle.lib_request.specs.Replies.{reply_place}
 use Rattle.lib_request.specs.declared.sync.Sync.{Sync}
 use Rattle.lib_request.specs.declared.sync.SyncStage.{SyncStage}
 use Rattle.lib_request.specs.declared.sync.SyncStage.TheVariants as stage
@@ -33,10 +34,6 @@ abbrev pub sync_at : Step → Option Sync
 sync_at step = option_map (λ at. record { at = at }) (stage_at step)
 
 -- ---- what it asks
-
--- the address of the word that came, in the record of an environment's slot
-abbrev pub reply_place : ℕ → ℕ
-reply_place id = UENVS + ENV_SIZE * (id % NENV) + 4 * ENV_IPC_VALUE
 
 abbrev pub ask_of : SyncStage → Ask
 ask_of stage.Entered = ask.System SYS_GETENVID no_args

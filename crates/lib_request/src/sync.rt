@@ -1,12 +1,12 @@
 //! sync: what it asks at each stage, and what it does next.
 
-ghost use Rattle.std.specs.Prelude.{◌≡◌, ◌+◌, ◌*◌, ◌%◌};
-ghost use Rattle.jos_base.specs.declared.numbers.TheConstants.{ENV_IPC_VALUE, ENV_SIZE, NENV, UENVS};
+ghost use Rattle.std.specs.Prelude.{◌≡◌};
 ghost use Rattle.lib_request.specs.SyncStages.{sync_at};
 
+use crate::reply::reply_place;
 use jos_base::{
-    Called, E_IPC_NOT_RECV, ENV_IPC_VALUE, ENV_SIZE, FIRST_ENV_ID, NENV, SYS_GETENVID,
-    SYS_IPC_RECV, SYS_IPC_TRY_SEND, SYS_YIELD, UENVS, UTOP,
+    Called, E_IPC_NOT_RECV, FIRST_ENV_ID, SYS_GETENVID, SYS_IPC_RECV, SYS_IPC_TRY_SEND, SYS_YIELD,
+    UTOP,
 };
 use lib_os::{FSREQ_SYNC, SERVICE_SYNC, Step, answer_of};
 use lib_stage::{Ask, Next, Planned};
@@ -47,13 +47,6 @@ impl Sync {
         };
         Some(Sync { at })
     }
-}
-
-/// The address of the word that came, in the record of an environment's slot.
-fn reply_place(id: u32) -> u32
-    ensures { result ≡ UENVS + ENV_SIZE * (id % NENV) + 4 * ENV_IPC_VALUE }
-{
-    UENVS + ENV_SIZE * (id % NENV) + 4 * ENV_IPC_VALUE
 }
 
 impl Planned for Sync {

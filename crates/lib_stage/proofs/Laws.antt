@@ -593,7 +593,7 @@ module _ (s : KernelState) (n : ℕ) (service : Service) (from to : Step) (numbe
           uses = used;
           places = places_kept s after n (λ before then_so live. others);
           numbers = numbers_kept s after n (λ before then_so live. others) (copies_kept s after n (same_wait (IsBeside s n) s.spaces));
-          working = working_kept s after n (copies_kept s after n (same_wait (IsBeside s n) s.spaces));
+          working = working_kept s after n (λ before then_so live. others) (copies_kept s after n (same_wait (IsBeside s n) s.spaces));
           server = own_server s n ran (record (slot_at ran n) { extra = words_at number to }) refl refl server;
         };
         lowers = falling_lowers s n pause call service from stands numbered

@@ -33,7 +33,7 @@ use Rattle.lib_write.specs.declared.write.WriteStage.TheVariants as stage
 use Rattle.lib_write.specs.WriteStages.{writing}
 
 -- what a load comes to, by what it gives
-abbrev told_byte : CallStep ℕ → CallStep Called
+abbrev pub told_byte : CallStep ℕ → CallStep Called
 told_byte call = told_as (λ byte. byte) call
 
 got_byte : (called : Called) (g : Got ℕ) → got_as (λ byte. byte) g ≡ got called → (byte : ℕ) × (g ≡ got byte)
@@ -41,7 +41,7 @@ got_byte called (got byte) is = (byte, refl)
 got_byte called to_handler is = absurd (let contradiction : ◌≡◌ {A = Got Called} to_handler (got called) = is in cc)
 got_byte called gone is = absurd (let contradiction : ◌≡◌ {A = Got Called} gone (got called) = is in cc)
 
-byte_goes : (s : KernelState) (n : ℕ) (plan : Plan) (va : ℕ) → is_live (slot_at s n) ≡ true → GoesOn s n plan (told_byte (load_byte s n va))
+pub byte_goes : (s : KernelState) (n : ℕ) (plan : Plan) (va : ℕ) → is_live (slot_at s n) ≡ true → GoesOn s n plan (told_byte (load_byte s n va))
 byte_goes s n plan va live = record {
   live = λ called is stays. let it = got_byte called (load_byte s n va).gives is in
       ap (λ (k : Slot). is_live k) (load_byte_slots s n va it.0 it.1 n) ∙ live;

@@ -63,7 +63,7 @@ behind_falls fd va len done word left behind = by_tests (nat_le (wanted_of len) 
     by_tests false true = omega arith
     by_tests false false = omega arith
 
-some_kept : (done left : ℕ) → 0 < kept_at_once done left
+pub some_kept : (done left : ℕ) → 0 < kept_at_once done left
 some_kept done left = by_test ((done % 4 == 0) && (left == 4))
   where
     by_test : (t : Bool) → 0 < (if t then 4 else 1)
@@ -84,10 +84,10 @@ keeping_falls fd va len done word left =
 -- ---- what it asks
 
 -- the store of the bytes
-abbrev told_done : CallStep (Unit {0}) → CallStep Called
+abbrev pub told_done : CallStep (Unit {0}) → CallStep Called
 told_done call = told_as (λ x. 0) call
 
-got_done : (called : Called) (g : Got (Unit {0})) → got_as (λ x. 0) g ≡ got called → (x : Unit {0}) × (g ≡ got x)
+pub got_done : (called : Called) (g : Got (Unit {0})) → got_as (λ x. 0) g ≡ got called → (x : Unit {0}) × (g ≡ got x)
 got_done called (got x) is = (x, refl)
 got_done called to_handler is = absurd (let contradiction : ◌≡◌ {A = Got Called} to_handler (got called) = is in cc)
 got_done called gone is = absurd (let contradiction : ◌≡◌ {A = Got Called} gone (got called) = is in cc)

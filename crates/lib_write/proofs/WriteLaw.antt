@@ -38,8 +38,8 @@ module _ (s : KernelState) (n fd va len : ℕ) (live : is_live (slot_at s n) ≡
   write_holds (step.DescriptorEntry at) stands = entry_holds s n write fd refl live at stands
   write_holds step.ReadingDevice stands = write_device_holds s n fd va len live stands
   write_holds step.TakingPage stands = taking_holds s n fd va len live stands
-  write_holds (step.BufferRegion done word) stands = buffer_region_holds s n write fd refl live done word 0 tt stands
-  write_holds (step.BufferEntry done word) stands = buffer_entry_holds s n write fd refl live done word 0 tt stands
+  write_holds (step.BufferRegion done word) stands = buffer_region_holds s n write live done word 0 tt stands
+  write_holds (step.BufferEntry done word) stands = buffer_entry_holds s n write live done word 0 tt stands
   write_holds (step.Gathering done) stands = gathering_holds s n fd va len done live stands
   write_holds (step.Keeping done word left) stands = keeping_holds s n fd va len done word left live stands
   write_holds step.Printing stands = printing_holds s n fd va len live stands
@@ -70,3 +70,5 @@ module _ (s : KernelState) (n fd va len : ℕ) (live : is_live (slot_at s n) ≡
   write_holds (step.Asking own) stands = no_step (step.Asking own) stands (λ view k b h. h)
   write_holds (step.Awaiting own) stands = no_step (step.Awaiting own) stands (λ view k b h. h)
   write_holds (step.ReadingReply own) stands = no_step (step.ReadingReply own) stands (λ view k b h. h)
+  write_holds step.Identifying stands = no_step step.Identifying stands (λ view k b h. h)
+  write_holds (step.Clearing own) stands = no_step (step.Clearing own) stands (λ view k b h. h)

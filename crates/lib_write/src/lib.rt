@@ -8,4 +8,4 @@
 
 mod write;
 
-pub use write::{Write, WriteStage};
+pub use write::{Write, WriteStage, ask_keeping, kept_at_once};

@@ -133,14 +133,14 @@ impl Write {
 }
 
 /// How many of the bytes that are left of a word are put into the page at once.
-fn kept_at_once(done: u32, left: u32) -> u32
+pub fn kept_at_once(done: u32, left: u32) -> u32
     ensures { result ≡ stages.kept_at_once done left }
 {
     if done % 4 == 0 && left == 4 { 4 } else { 1 }
 }
 
-/// What write asks to put them there.
-fn ask_keeping(done: u32, word: u32, left: u32) -> Ask
+/// What is asked to put them there.
+pub fn ask_keeping(done: u32, word: u32, left: u32) -> Ask
     ensures { result ≡ stages.keeping_asked done word left }
 {
     let va = UTEMP + done % PGSIZE;

@@ -29,6 +29,7 @@ enum {
     SERVICE_seek = 14,
     SERVICE_stat = 15,
     SERVICE_set_size = 16,
+    SERVICE_remove = 17,
     SERVICE_sync = 18,
     SERVICE_dup = 19,
 };
@@ -111,6 +112,10 @@ int set_size(uint32_t fd, uint32_t size);
 
 /* ---- requests.c: what the file server is asked for, beside what has a descriptor. */
 
-int sync(void); /* it writes what the disk lacks, and replies: 0 */
+/* the most bytes of a path, with its NUL */
+#define MAXPATHLEN 1024
+
+int remove(uint32_t path); /* the file goes from the disk */
+int sync(void);            /* it writes what the disk lacks, and replies: 0 */
 
 #endif

@@ -11,6 +11,7 @@ use Rattle.fs_requests.specs.ServerPlans.{next_at}
 use Rattle.fs_tree.specs.declared.steps.Acted.{Acted}
 use Rattle.fs_tree.specs.TreeMakes.{CallsWhereTold}
 use Rattle.fs_tree.specs.TreeSteps.{LivesWhereAnswered, StepsWhereTold}
+use Rattle.fs_tree.proofs.TiesLaw.{quiet_still}
 use Rattle.fs_server.specs.ServerSteps.{WorksWhereTold, gone_on}
 use Rattle.fs_server.proofs.JobsWorked.{works_answers, works_going}
 use Rattle.fs_server.proofs.ServerMade.{server_sets}
@@ -47,6 +48,17 @@ returns-in-Ok-Answer-clause-told g c =
     subst (λ (done : Progress). WorksWhereTold c.args.state (Ok done) disk n (from_to s after) files)
     (sym (c.go_on.ensures.seen ∙ ap (λ (next : ServerNext). next.seen) c.next_at.ensures))
     (works_answers c.args.state disk n c.in-Ok-Answer.word s mid after files told calls is)
+
+pub returns-in-Ok-Going-clause-quiet : goal.returns-in-Ok-Going-clause-quiet
+returns-in-Ok-Going-clause-quiet g c = c.in-Ok-Going.ensures.quiet
+
+pub returns-in-Ok-Answer-clause-quiet : goal.returns-in-Ok-Answer-clause-quiet
+returns-in-Ok-Answer-clause-quiet g c =
+    let printed = output g.H.Host.console g.O.UserOs.written (from_to c.args.host.now c.tree_step.new.host) (from_to c.args.os.now c.tree_step.new.os) in
+    λ before is h lawful. quiet_still printed (g.O.UserOs.written c.go_on.new.os) c.go_on.ensures.written (c.in-Ok-Answer.ensures.quiet before is h lawful)
+
+pub returns-in-Err-clause-quiet : goal.returns-in-Err-clause-quiet
+returns-in-Err-clause-quiet g c = c.in-Err.ensures.quiet
 
 pub returns-in-Ok-Going-clause-made : goal.returns-in-Ok-Going-clause-made
 returns-in-Ok-Going-clause-made g c = c.in-Ok-Going.ensures.made

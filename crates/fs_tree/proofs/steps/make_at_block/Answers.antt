@@ -1,4 +1,4 @@
-use Rattle.std.proofs.Common.{◌≡◌, ◌≢◌, ◌∙◌, ◌+◌, ◌/◌, ◌%◌, ℕ, true, Ok, Err, arith, sym, subst}
+use Rattle.std.proofs.Common.{◌≡◌, ◌≢◌, ◌∙◌, ◌+◌, ◌/◌, ◌%◌, ℕ, true, Ok, Err, arith, refl, sym, subst}
 use Rattle.jos_host.specs.Frames.{around, from_to}
 use Rattle.jos_base.specs.KernelState.{KernelState}
 use Rattle.jos_base.specs.Words.{page_number}
@@ -16,7 +16,7 @@ use Rattle.fs_cache.proofs.GoneMade.{gone_makes}
 use Rattle.fs_tree.specs.declared.steps.Done.TheVariants.{Going, NoPage, Word}
 use Rattle.fs_tree.specs.TreeMakes.{IsAccess}
 use Rattle.fs_tree.proofs.AccessMade.{access_failed, access_faulted, access_made}
-use Rattle.fs_tree.proofs.TiesLaw.{access_rest, access_slot, cache_calls, cache_going, cache_lacks, cache_leaves, lacking_lives, quiet_from, ready_calls, ready_leaves}
+use Rattle.fs_tree.proofs.TiesLaw.{access_rest, access_slot, cache_calls, cache_failed, cache_going, cache_lacks, cache_leaves, lacking_lives, quiet_from, ready_calls, ready_failed, ready_leaves}
 use Rattle.fs_tree.proofs.TiesLaw.{ready_never_calls, ready_stopped, ready_word}
 use Rattle.fs_tree.proofs.steps.make_at_block.Goals as goal
 
@@ -94,9 +94,10 @@ returns-in-Ok-Going-clause-told g c =
     let files = around g.H.Host.files c.args.host.now c.block_step.new.host in
     let ready = g.O.UserOs.state c.block_step.new.os in
     let printed = output g.H.Host.console g.O.UserOs.written (from_to c.args.host.now c.block_step.new.host) (from_to c.args.os.now c.block_step.new.os) in
-    cache_going c.args.ask block called (omega arith) files ready printed
+    cache_going c.args.ask block called (omega arith) files ready printed c.args.at c.requires.place refl
     (subst (λ (x : Cached). IsBlockStep block called (Ok x) files ready printed) c.in-Ok-Going.field-0-is c.in-Ok-Going.ensures.made)
     (subst (λ (x : Cached). KeepsCacheWhereDone (Ok x) called.disk n (from_to s ready) files) c.in-Ok-Going.field-0-is c.in-Ok-Going.ensures.cache)
+    (subst (λ (x : Cached). FetchTold block (Ok x) called.disk n (from_to s ready) files.before) c.in-Ok-Going.field-0-is c.in-Ok-Going.ensures.tells)
 
 pub returns-in-Ok-NoPage-clause-told : goal.returns-in-Ok-NoPage-clause-told
 returns-in-Ok-NoPage-clause-told g c =
@@ -174,6 +175,37 @@ returns-in-Ok-NoPage-clause-leaves g c =
     let made = subst (λ (x : Cached). IsBlockStep block called (Ok x) files ready printed) c.in-Ok-NoPage.field-0-is c.in-Ok-NoPage.ensures.made in
     cache_leaves c.args.ask block called (omega arith) files ready printed made.0 NoPage made.2
 
+pub returns-in-Err-Failed-clause-leaves : goal.returns-in-Err-Failed-clause-leaves
+returns-in-Err-Failed-clause-leaves g c =
+    let s = g.O.UserOs.state c.args.os.now in
+    let n = g.O.UserOs.slot c.args.os.now in
+    let called = caller s n (g.O.UserOs.disk c.args.os.now) in
+    let block = c.args.at / BLKSIZE % CACHE_BLOCKS in
+    let files = around g.H.Host.files c.args.host.now c.block_step.new.host in
+    let ready = g.O.UserOs.state c.block_step.new.os in
+    let printed = output g.H.Host.console g.O.UserOs.written (from_to c.args.host.now c.block_step.new.host) (from_to c.args.os.now c.block_step.new.os) in
+    let va = c.in-Ok-Ready.va in
+    let made = subst (λ (x : Cached). IsBlockStep block called (Ok x) files ready printed) c.in-Ok-Ready.field-0-is c.in-Ok-Ready.ensures.made in
+    let mid = g.O.UserOs.state c.access.new.os in
+    let told = output g.H.Host.console g.O.UserOs.written (from_to c.block_step.new.host c.access.new.host) (from_to c.block_step.new.os c.access.new.os) in
+    let there = subst (λ (why : Stop). IsAccess c.args.ask (va + c.args.at % BLKSIZE) ready (g.O.UserOs.slot c.block_step.new.os) (Err why) mid told)
+    c.in-Err-Failed.field-0-is c.in-Err-Failed.ensures.step in
+    let call = subst (λ (k : KernelState). IsAccess c.args.ask (va + c.args.at % BLKSIZE) k n (Err stop.Failed) mid told) made.2
+    (subst (λ (m : ℕ). IsAccess c.args.ask (va + c.args.at % BLKSIZE) ready m (Err stop.Failed) mid told) c.block_step.ensures.slot there) in
+    ready_failed c.args.ask c.args.at called c.requires.place mid told c.access.ensures.in_order va made.0 made.1 files.before (record {})
+    (output g.H.Host.console g.O.UserOs.written (from_to c.args.host.now c.access.new.host) (from_to c.args.os.now c.access.new.os)) call
+
+pub returns-in-Err-clause-leaves : goal.returns-in-Err-clause-leaves
+returns-in-Err-clause-leaves g c =
+    let s = g.O.UserOs.state c.args.os.now in
+    let n = g.O.UserOs.slot c.args.os.now in
+    let called = caller s n (g.O.UserOs.disk c.args.os.now) in
+    let block = c.args.at / BLKSIZE % CACHE_BLOCKS in
+    let files = around g.H.Host.files c.args.host.now c.block_step.new.host in
+    let ready = g.O.UserOs.state c.block_step.new.os in
+    let printed = output g.H.Host.console g.O.UserOs.written (from_to c.args.host.now c.block_step.new.host) (from_to c.args.os.now c.block_step.new.os) in
+    cache_failed c.args.ask block called (omega arith) files ready printed c.in-Err.failed c.in-Err.ensures.made
+
 -- ---- the call
 
 pub returns-in-Ok-clause-call : goal.returns-in-Ok-clause-call
@@ -222,7 +254,7 @@ returns-in-Ok-Going-clause-call g c =
     let ready = g.O.UserOs.state c.block_step.new.os in
     let printed = output g.H.Host.console g.O.UserOs.written (from_to c.args.host.now c.block_step.new.host) (from_to c.args.os.now c.block_step.new.os) in
     let made = subst (λ (x : Cached). IsBlockStep block called (Ok x) files ready printed) c.in-Ok-Going.field-0-is c.in-Ok-Going.ensures.made in
-    cache_calls c.args.ask block called (omega arith) files ready printed made.0 Going made.2
+    cache_calls c.args.ask block called (omega arith) files ready printed c.args.at c.requires.place refl made.0 Going made.2
 
 pub returns-in-Ok-NoPage-clause-call : goal.returns-in-Ok-NoPage-clause-call
 returns-in-Ok-NoPage-clause-call g c =
@@ -234,7 +266,7 @@ returns-in-Ok-NoPage-clause-call g c =
     let ready = g.O.UserOs.state c.block_step.new.os in
     let printed = output g.H.Host.console g.O.UserOs.written (from_to c.args.host.now c.block_step.new.host) (from_to c.args.os.now c.block_step.new.os) in
     let made = subst (λ (x : Cached). IsBlockStep block called (Ok x) files ready printed) c.in-Ok-NoPage.field-0-is c.in-Ok-NoPage.ensures.made in
-    cache_calls c.args.ask block called (omega arith) files ready printed made.0 NoPage made.2
+    cache_calls c.args.ask block called (omega arith) files ready printed c.args.at c.requires.place refl made.0 NoPage made.2
 
 pub returns-in-Ok-clause-made : goal.returns-in-Ok-clause-made
 returns-in-Ok-clause-made g c =

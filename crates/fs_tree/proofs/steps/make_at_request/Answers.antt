@@ -1,14 +1,16 @@
-use Rattle.std.proofs.Common.{◌+◌, ◌%◌, ◌≢◌, arith}
+use Rattle.std.proofs.Common.{◌+◌, ◌%◌, ◌≢◌, Err, arith, subst}
 use Rattle.jos_host.specs.Frames.{around, from_to}
 use Rattle.jos_base.specs.declared.numbers.TheConstants.{PGSIZE}
+use Rattle.lib_os.specs.declared.user_os.Stop.{Stop}
 use Rattle.lib_os.specs.declared.user_os.Stop.TheVariants as stop
 use Rattle.lib_os.specs.UserCalls.{output}
 use Rattle.fs_cache.specs.CacheSteps.{caller}
 use Rattle.lib_os.specs.declared.numbers.TheConstants.{REQUEST}
 use Rattle.lib_os.proofs.CallsMade.{in_request}
 use Rattle.fs_tree.specs.declared.steps.Done.TheVariants.{Word}
+use Rattle.fs_tree.specs.TreeMakes.{IsAccess}
 use Rattle.fs_tree.proofs.AccessMade.{access_faulted, access_made}
-use Rattle.fs_tree.proofs.TiesLaw.{access_rest, access_slot, request_calls, request_leaves, request_never_calls, request_stopped, request_word}
+use Rattle.fs_tree.proofs.TiesLaw.{access_rest, access_slot, request_calls, request_failed, request_leaves, request_never_calls, request_stopped, request_word}
 use Rattle.fs_tree.proofs.steps.make_at_request.Goals as goal
 
 pub returns-in-Ok-clause-told : goal.returns-in-Ok-clause-told
@@ -60,6 +62,17 @@ returns-in-Err-Upcall-clause-leaves g c =
     let mid = g.O.UserOs.state c.access.new.os in
     let told = output g.H.Host.console g.O.UserOs.written (from_to c.args.host.now c.access.new.host) (from_to c.args.os.now c.access.new.os) in
     request_leaves c.args.ask c.args.at called c.requires.place mid told c.access.ensures.in_order files c.in-Err-Upcall.field-0 c.in-Err-Upcall.ensures.step
+
+pub returns-in-Err-Failed-clause-leaves : goal.returns-in-Err-Failed-clause-leaves
+returns-in-Err-Failed-clause-leaves g c =
+    let s = g.O.UserOs.state c.args.os.now in
+    let n = g.O.UserOs.slot c.args.os.now in
+    let called = caller s n (g.O.UserOs.disk c.args.os.now) in
+    let files = around g.H.Host.files c.args.host.now c.access.new.host in
+    let mid = g.O.UserOs.state c.access.new.os in
+    let told = output g.H.Host.console g.O.UserOs.written (from_to c.args.host.now c.access.new.host) (from_to c.args.os.now c.access.new.os) in
+    request_failed c.args.ask c.args.at called c.requires.place mid told c.access.ensures.in_order files (record {})
+    (subst (λ (why : Stop). IsAccess c.args.ask (REQUEST + c.args.at % PGSIZE) s n (Err why) mid told) c.in-Err-Failed.field-0-is c.in-Err-Failed.ensures.step)
 
 -- ---- the call
 

@@ -13,7 +13,7 @@ use Rattle.fs_places.specs.TreePlaces.{registers_with, words_with}
 use Rattle.fs_runs.specs.TreePlans.{ask_at, next_at}
 use Rattle.fs_tree.specs.TreeSteps.{StepsWhereTold, job_in}
 use Rattle.fs_tree.proofs.AccessMade.{job_sets}
-use Rattle.fs_tree.proofs.TiesLaw.{known_state, quiet_still, set_calls, set_leaves_rest, step_answers, step_calls, step_goes_on, step_going, step_lacks, step_leaves_rest}
+use Rattle.fs_tree.proofs.TiesLaw.{known_state, quiet_still, set_calls, set_leaves_rest, step_answers, step_calls, step_failed_quietly, step_goes_on, step_going, step_lacks, step_leaves_rest}
 use Rattle.fs_tree.proofs.TiesLaw.{step_prints}
 use Rattle.fs_tree.proofs.steps.tree_step.Goals as goal
 
@@ -139,6 +139,20 @@ returns-in-GoOn-clause-quiet g c =
     λ before is h lawful.
     quiet_still told (g.O.UserOs.written c.go_on.new.os) c.go_on.ensures.written
     (step_prints disk n s mid files c.ask_at.result asks (done.Word c.in-Ok-Word.word) told c.in-Ok-Word.ensures.leaves Going mid before is h lawful)
+
+pub returns-in-Err-clause-quiet : goal.returns-in-Err-clause-quiet
+returns-in-Err-clause-quiet g c =
+    let s = g.O.UserOs.state c.args.os.now in
+    let n = g.O.UserOs.slot c.args.os.now in
+    let disk = g.O.UserOs.disk c.args.os.now in
+    let files = around g.H.Host.files c.args.host.now c.make.new.host in
+    let mid = g.O.UserOs.state c.make.new.os in
+    let known : c.find_state-state.result ≡ job_in s n =
+    known_state s n c.find_state-state.result c.registers-registers.result c.extra-extra.result.0 c.find_state-state.ensures
+    c.registers-registers.ensures c.extra-extra.ensures in
+    let asks : c.ask_at.result ≡ ask_at (job_in s n) = c.ask_at.ensures ∙ ap (λ (t : TreeState). ask_at t) known in
+    let told = output g.H.Host.console g.O.UserOs.written (from_to c.args.host.now c.make.new.host) (from_to c.args.os.now c.make.new.os) in
+    step_failed_quietly disk n s mid files c.ask_at.result asks told c.in-Err.failed c.in-Err.ensures.leaves
 
 -- ---- the rest of the slots stays
 

@@ -1,6 +1,8 @@
-use Rattle.std.proofs.Common.{◌≡◌, ◌∙◌, [], Option, sym, ap, subst}
+use Rattle.std.proofs.Common.{◌≡◌, ◌∙◌, ◌≤◌, [], length, Option, refl, sym, ap, subst}
 use Rattle.jos_host.specs.Frames.{around, from_to}
 use Rattle.jos_base.specs.KernelState.{KernelState}
+use Rattle.jos_base.specs.declared.numbers.TheConstants.{TURN_MAX}
+use Rattle.jos_kernel.specs.Reports.{Reported}
 use Rattle.jos_sys.specs.System.{state_of}
 use Rattle.lib_os.specs.AbstractState.{AbstractState}
 use Rattle.lib_os.specs.Disk.{Disk, DiskFile, HasBlocks}
@@ -8,11 +10,14 @@ use Rattle.jos_run.specs.Begun.{IsNew}
 use Rattle.jos_run.specs.DiskTouches.{TouchesDiskOnly}
 use Rattle.jos_run.specs.Running as running
 use Rattle.jos_run.specs.Running.{Runs}
-use Rattle.jos_run.specs.declared.programs.RunEnd.TheVariants.{Ended, HostFault}
+use Rattle.jos_run.specs.declared.programs.RunEnd.TheVariants.{HostFault}
 use Rattle.jos_run.specs.RunEnds.{RunsFrom}
-use Rattle.jos_run.specs.Served.{kernel_state}
+use Rattle.jos_run.specs.Closing.{IsClosedSo}
+use Rattle.jos_run.specs.Served.{Parts, kernel_state}
 use Rattle.jos_run.specs.ServerStands.{StandsWhole}
 use Rattle.jos_run.specs.Worlds.{beside, told_disk}
+use Rattle.jos_run.proofs.DiskKept.{only_whole, touched_further}
+use Rattle.jos_run.proofs.RunEnds.{turns_within}
 use Rattle.jos_run.proofs.ProgramsRun.{ended_told, failed_told}
 use Rattle.jos_run.proofs.programs.run_booted.Given as given
 use Rattle.jos_run.proofs.programs.run_booted.Goals as goal
@@ -47,26 +52,46 @@ go-requires-clause-whole g c = whole g (goal.at.go-requires-clause-whole g c).Af
 
 -- ---- it has run
 
+pub close_run-requires-clause-most : goal.close_run-requires-clause-most
+close_run-requires-clause-most g c =
+    subst (λ (report : Reported). length report.turns ≤ TURN_MAX) (sym c.finish-report.ensures.report)
+    (turns_within c.go.new.self c.in-Ok.ensures.holds.has_room)
+
+pub close_run-requires-clause-whole : goal.close_run-requires-clause-whole
+close_run-requires-clause-whole g c =
+    let at = (goal.at.close_run-requires-clause-whole g c).After-begin-run in
+    let still = only_whole c.begin-run.result.served.disk (from_to (g.H.Host.files c.args.host.now) (g.H.Host.files c.go.new.host))
+    (from_to (g.H.Host.asked c.args.host.now) (g.H.Host.asked c.go.new.host)) c.in-Ok.ensures.disk_only (whole g at) in
+    subst (λ (d : DiskFile). HasBlocks (g.H.Host.files c.go.new.host) d)
+    (sym (ap (λ (served : Parts). served.disk) c.finish-report.ensures.served ∙ c.in-Ok.ensures.disk)) still
+
 pub returns-in-Ok-clause-runs : goal.returns-in-Ok-clause-runs
 returns-in-Ok-clause-runs g c =
     let at = (goal.at.returns-in-Ok-clause-runs g c).After-begin-run in
     let before = g.H.Host.files c.args.host.now in
-    let after = g.H.Host.files c.go.new.host in
-    let console = around g.H.Host.console c.args.host.now c.go.new.host in
+    let mid = g.H.Host.files c.go.new.host in
+    let after = g.H.Host.files c.close_run.new.host in
+    let console = around g.H.Host.console c.args.host.now c.close_run.new.host in
     let s = state_of c.args.system c.args.setup.input.items in
-    let told = ended_told c.in-Ok.end c.finish-report.result.0 c.args.setup.schedule c.args.setup.trace s c.finish-report.result.1.items c.in-Ok.ensures.told
+    let report = c.finish-report.result.0 in
+    let traps = c.finish-report.result.1.items in
+    let closed = subst (λ (x : Parts). IsClosedSo report traps c.close_run.result x (from_to (told_disk mid x.disk) (told_disk after x.disk))
+    (around g.H.Host.console c.go.new.host c.close_run.new.host)) c.finish-report.ensures.served c.close_run.ensures.closed in
+    let told = ended_told (told_disk after c.go.new.self.served.disk) (g.H.Host.console c.close_run.new.host) c.in-Ok.end report c.args.setup s traps c.close_run.result c.in-Ok.ensures.told refl
     c.begin-run.ensures.steps (c.begin-run.ensures.trace ∙ c.requires.trace) c.begin-run.ensures.told c.in-Ok.ensures.holds c.begin-run.ensures.schedule
-    c.finish-report.ensures.report (λ i. (c.finish-report.ensures.trace i).items) (run_is g at) c.args.setup.frames
-    (λ first stands. begun g at first (told_disk before c.begin-run.result.served.disk) stands) in
-    subst (λ (d : DiskFile). RunsFrom s c.args.setup (Ended c.finish-report.result.0 c.finish-report.result.1) (from_to (told_disk before c.args.disk)
-    (told_disk after d)) console) (c.in-Ok.ensures.disk ∙ disk_is g at)
-    (subst (λ (d : DiskFile). RunsFrom s c.args.setup (Ended c.finish-report.result.0 c.finish-report.result.1) (from_to (told_disk before d)
-    (told_disk after c.go.new.self.served.disk)) console) (disk_is g at) told)
+    c.finish-report.ensures.report (λ i. (c.finish-report.ensures.trace i).items) (run_is g at)
+    (λ first stands. begun g at first (told_disk before c.begin-run.result.served.disk) stands) closed in
+    subst (λ (d : DiskFile). RunsFrom s c.args.setup c.close_run.result (from_to (told_disk before c.args.disk) (told_disk after d)) console)
+    (c.in-Ok.ensures.disk ∙ disk_is g at)
+    (subst (λ (d : DiskFile). RunsFrom s c.args.setup c.close_run.result (from_to (told_disk before d) (told_disk after c.go.new.self.served.disk)) console)
+    (disk_is g at) told)
 
 pub returns-in-Ok-clause-disk_only : goal.returns-in-Ok-clause-disk_only
 returns-in-Ok-clause-disk_only g c =
-    subst (λ (d : DiskFile). TouchesDiskOnly d (around g.H.Host.files c.args.host.now c.go.new.host) (around g.H.Host.asked c.args.host.now c.go.new.host))
-    (disk_is g (goal.at.returns-in-Ok-clause-disk_only g c).After-begin-run) c.in-Ok.ensures.disk_only
+    subst (λ (d : DiskFile). TouchesDiskOnly d (around g.H.Host.files c.args.host.now c.close_run.new.host)
+    (around g.H.Host.asked c.args.host.now c.close_run.new.host)) (disk_is g (goal.at.returns-in-Ok-clause-disk_only g c).After-begin-run)
+    (touched_further (ap (λ (served : Parts). served.disk) c.finish-report.ensures.served ∙ c.in-Ok.ensures.disk) c.in-Ok.ensures.disk_only
+    c.close_run.ensures.disk_only)
 
 -- ---- or the host failed
 

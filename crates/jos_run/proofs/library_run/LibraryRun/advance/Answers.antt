@@ -1,5 +1,6 @@
-use Rattle.std.proofs.Common.{◌≡◌, ◌∙◌, ◌<◌, ◌+◌, ◌-◌, ◌^◌, min, ◌==◌, ℕ, length, Option, Ok, Err, sym, subst, arith, vec_len}
+use Rattle.std.proofs.Common.{◌≡◌, ◌∙◌, ◌<◌, ◌+◌, ◌-◌, ◌^◌, min, ◌==◌, ℕ, Bool, true, false, length, Option, Ok, Err, sym, subst, arith, vec_len}
 use Rattle.std.specs.Prelude.{not, Result}
+use Rattle.std.proofs.lemmas.Bool.Decides.{nat_tests}
 use Rattle.jos_host.specs.declared.host.Failed.{Failed}
 use Rattle.jos_host.specs.Files.{Files}
 use Rattle.jos_host.specs.Frames.{Around, around, from_to}
@@ -17,11 +18,12 @@ use Rattle.jos_run.specs.LibraryRuns.{visible_steps, hidden_steps}
 use Rattle.jos_run.specs.DiskTouches.{TouchesDiskOnly}
 use Rattle.jos_run.specs.Running.{state_of, entered, Counted, Went}
 use Rattle.jos_run.specs.Served.{kernel_state}
+use Rattle.jos_run.specs.ServerStands.{WouldFollow}
 use Rattle.jos_run.specs.StepsAtOnce.{MakesSteps}
 use Rattle.jos_run.specs.Worlds.{beside, told_disk}
 use Rattle.jos_run.proofs.DiskKept.{only_step}
 use Rattle.jos_run.proofs.Printed.{printed}
-use Rattle.jos_run.proofs.StepsMade.{Makes, Reaches, reaches, CountsSteps, seen_with, all_steps, moved, went_all, failed_last}
+use Rattle.jos_run.proofs.StepsMade.{Makes, Reaches, reaches, CountsSteps, seen_with, all_steps, moved, went_all, failed_last, failed_quietly}
 use Rattle.jos_run.proofs.TurnsCounted.{steps_hold}
 use Rattle.jos_run.proofs.library_run.LibraryRun.advance.Given as given
 use Rattle.jos_run.proofs.library_run.LibraryRun.advance.Goals as goal
@@ -85,11 +87,11 @@ returns-in-Ok-clause-disk g c = c.count_steps.ensures.counted.disk ∙ c.make_st
 pub returns-in-Ok-clause-disk_only : goal.returns-in-Ok-clause-disk_only
 returns-in-Ok-clause-disk_only g c = touched g (goal.at.returns-in-Ok-clause-disk_only g c).After-make_steps-made
 
-pub returns-in-Err-clause-disk : goal.returns-in-Err-clause-disk
-returns-in-Err-clause-disk g c = c.make_steps-made.ensures.disk ∙ c.enter_turn.ensures.disk
+pub returns-then-slot-eq0-clause-disk_only : goal.returns-then-slot-eq0-clause-disk_only
+returns-then-slot-eq0-clause-disk_only g c = touched g (goal.at.returns-then-slot-eq0-clause-disk_only g c).After-make_steps-made
 
-pub returns-in-Err-clause-disk_only : goal.returns-in-Err-clause-disk_only
-returns-in-Err-clause-disk_only g c = touched g (goal.at.returns-in-Err-clause-disk_only g c).After-make_steps-made
+pub returns-else-slot-eq0-clause-disk_only : goal.returns-else-slot-eq0-clause-disk_only
+returns-else-slot-eq0-clause-disk_only g c = touched g (goal.at.returns-else-slot-eq0-clause-disk_only g c).After-make_steps-made
 
 -- ---- they are counted
 
@@ -180,14 +182,33 @@ returns-in-Ok-clause-holds g c =
 
 -- ---- or the host failed in the last
 
-pub returns-in-Err-clause-told : goal.returns-in-Err-clause-told
-returns-in-Err-clause-told g c =
-    let at = (goal.at.returns-in-Err-clause-told g c).After-make_steps-made in
+-- in a step of the file server, which is told as a hidden one
+pub returns-then-slot-eq0-clause-told : goal.returns-then-slot-eq0-clause-told
+returns-then-slot-eq0-clause-told g c =
+    let at = (goal.at.returns-then-slot-eq0-clause-told g c).After-make_steps-made in
     let before = c.enter_turn.ensures in
     let b = subst (λ (last : Result StepOutcome Failed). HasMade g at last) c.in-Err.is (has_made g at) in
+    let is_first = c.if-slot-eq0.true in
+    let first : (c.args.slot == 0) ≡ true = grind (arith, nat_tests, is_first) in
+    failed_quietly (record {
+      before = before_last g at (Err c.in-Err.failed) b;
+      none = λ a stands. subst (λ (t : Bool). WouldFollow t c.args.slot a b.step.0) first (b.step.2 a stands);
+      slot = c.make_steps-made.ensures.slot ∙ before.slot;
+      book = λ i. (before.rest i).book;
+      counts = c.count_steps-then-slot-eq0.ensures.counted;
+    }) _ _ b.step.1
+
+-- or in one of another
+pub returns-else-slot-eq0-clause-told : goal.returns-else-slot-eq0-clause-told
+returns-else-slot-eq0-clause-told g c =
+    let at = (goal.at.returns-else-slot-eq0-clause-told g c).After-make_steps-made in
+    let before = c.enter_turn.ensures in
+    let b = subst (λ (last : Result StepOutcome Failed). HasMade g at last) c.in-Err.is (has_made g at) in
+    let no_first = c.if-slot-eq0.false in
+    let other : (c.args.slot == 0) ≡ false = grind (arith, nat_tests, no_first) in
     failed_last (record {
       before = before_last g at (Err c.in-Err.failed) b;
-      would = b.step.2;
+      would = λ a stands. subst (λ (t : Bool). WouldFollow t c.args.slot a b.step.0) other (b.step.2 a stands);
       slot = c.make_steps-made.ensures.slot ∙ before.slot;
       book = c.tell_failed_steps.ensures
           ∙ (λ i. record (before.rest i).book { visible = (before.rest i).book.visible + (c.make_steps-made.result.going + 1) });

@@ -7,11 +7,13 @@ use Rattle.lib_os.specs.Disk.{Disk, DiskFile}
 use Rattle.lib_os.specs.LibrarySteps.{GivesUp}
 use Rattle.lib_os.specs.Places.{place_of}
 use Rattle.lib_fault.proofs.HandlerLaw.{handler_holds}
+use Rattle.lib_stage.specs.ServiceSteps.{IsServiceStep, Plan}
 use Rattle.jos_run.specs.Served.{kernel_state}
 use Rattle.jos_run.specs.ServerStands.{IsWholeStep}
 use Rattle.jos_run.specs.Steps.{Raises, is_servers}
 use Rattle.jos_run.specs.StepsAtOnce.{MakesSteps}
 use Rattle.jos_run.specs.Worlds.{beside, told_disk}
+use Rattle.jos_run.proofs.AwaitsReply.{handler_calm, service_calm}
 use Rattle.jos_run.proofs.HostTouched.{came_whole, rest_touches, rest_whole, same_disk}
 use Rattle.jos_run.proofs.LibraryMade.{library_made, server_made, server_rest}
 use Rattle.jos_run.proofs.Printed.{printed}
@@ -76,7 +78,9 @@ returns-in-InService-clause-made g c =
     c.drive-answer.result c.came_with-in-InService.result c.came_with-in-InService.ensures.answer c.came_with-in-InService.ensures.trap
     c.drive-answer.ensures.step c.drive-answer.ensures.leaves c.drive-answer.ensures.lowers
     (subst (λ (m : ℕ). GivesUp c.drive-answer.result (slot_at s n) (slot_at after m)) same c.drive-answer.ensures.gives_up)
-    c.drive-answer.ensures.by_place)
+    c.drive-answer.ensures.by_place
+    (service_calm s n c.requires.live after output c.in-InService.service c.in-InService.step is c.drive-answer.result
+    (subst (λ (p : Plan). IsServiceStep c.drive-answer.result s n p after output) c.stage_of.ensures c.drive-answer.ensures.made)))
 
 pub returns-in-InHandler-clause-made : goal.returns-in-InHandler-clause-made
 returns-in-InHandler-clause-made g c =
@@ -97,7 +101,7 @@ returns-in-InHandler-clause-made g c =
     c.drive-handled.result c.came_with-in-InHandler.result c.came_with-in-InHandler.ensures.answer c.came_with-in-InHandler.ensures.trap
     c.drive-handled.ensures.step c.drive-handled.ensures.leaves c.drive-handled.ensures.lowers
     (subst (λ (m : ℕ). GivesUp c.drive-handled.result (slot_at s n) (slot_at after m)) same c.drive-handled.ensures.gives_up)
-    c.drive-handled.ensures.by_place)
+    c.drive-handled.ensures.by_place (handler_calm s after n c.in-InHandler.step is c.drive-handled.result))
 
 pub returns-in-Guest-clause-disk_only : goal.returns-in-Guest-clause-disk_only
 returns-in-Guest-clause-disk_only g c = rest_touches c.run_program.ensures.rest c.args.self.now.disk

@@ -1,0 +1,144 @@
+-- What the steps of a request to the file server leave of spaces: one that has asked begins to wait for the reply, which changes none, and one that
+-- asks with a page has its own space still.
+use Rattle.std.proofs.Common.{◌≡◌, ◌∙◌, ℕ, true, false, List, [], ◌∷◌, Result, Ok, Err, refl, sym, ap, subst}
+use Rattle.std.specs.Prelude.{IfOk}
+use Rattle.std.proofs.lemmas.Bool.{false≢true}
+use Rattle.jos_host.specs.declared.host.Failed.{Failed}
+use Rattle.jos_base.specs.declared.called.Called.{Called}
+use Rattle.jos_base.specs.declared.called.Called.TheVariants.{Answered, Blocked}
+use Rattle.jos_base.specs.declared.environment.Status.TheVariants.{NotRunnable}
+use Rattle.jos_base.specs.declared.numbers.TheConstants.{E_IPC_NOT_RECV, E_NO_MEM, FIRST_ENV_ID, SYS_IPC_RECV, UTOP}
+use Rattle.jos_base.specs.Environments.{Slot, is_live, no_extra}
+use Rattle.jos_base.specs.KernelState.{KernelState, slot_at, with_extra, with_refusal, with_rendezvous, with_slot_at, with_spaces, with_status}
+use Rattle.jos_base.specs.Messages.{wanting}
+use Rattle.jos_base.specs.Words.{negated}
+use Rattle.lib_os.specs.declared.numbers.TheConstants.{SERVICE_REMOVE, SERVICE_SYNC}
+use Rattle.lib_os.specs.declared.place.HandlerStep.{HandlerStep}
+use Rattle.lib_os.specs.declared.place.Place.TheVariants as place
+use Rattle.lib_os.specs.declared.place.Step.{Step}
+use Rattle.lib_os.specs.declared.place.Step.TheVariants as step
+use Rattle.lib_os.specs.declared.progress.Progress.{Progress}
+use Rattle.lib_os.specs.declared.service.Service.{Service}
+use Rattle.lib_os.specs.declared.service.Service.TheVariants as service
+use Rattle.lib_os.specs.AbstractState.{AbstractState}
+use Rattle.lib_os.specs.LibrarySteps.{Stands}
+use Rattle.lib_os.specs.Places.{handler_registers, place_of, words_at}
+use Rattle.lib_os.specs.UserCalls.{CallStep, Output, giving, got, system}
+use Rattle.lib_os.proofs.Calls.{ipc_recv_is}
+use Rattle.lib_os.proofs.PageAsked.{PageAsksOrWaits, asks, lacks, page_ask_call, page_asked, page_asks_or_waits, path_page, server_told, waits}
+use Rattle.lib_os.proofs.Serving.{IsServed, served}
+use Rattle.lib_os.proofs.Slots.{slot_kept, slot_put}
+use Rattle.lib_os.proofs.StatesStand.{born_not_first}
+use Rattle.lib_stage.specs.Asks.{performed}
+use Rattle.lib_stage.specs.declared.ask.Next.{Next}
+use Rattle.lib_stage.specs.declared.ask.Next.TheVariants as next
+use Rattle.lib_stage.specs.Nexts.{settled}
+use Rattle.lib_stage.specs.ServiceSteps.{IsServiceStep, Plan, upshot_by}
+use Rattle.jos_run.specs.Plans.{plan_at}
+use Rattle.jos_run.proofs.RequestsCalm.{RequestsCalmly, SameHome, SameSpaces, asks_by_page, awaits_reply, none_requests}
+
+-- what the service does next leaves the space
+put_home : (t : KernelState) (n : ℕ) (k : Slot) → k.directory ≡ (slot_at t n).directory →
+    (slot_at (with_slot_at t n k) n).directory ≡ (slot_at t n).directory
+put_home t n k same = ap (λ (x : Slot). x.directory) (slot_put t n k) ∙ same
+
+settled_home : (number : ℕ) (after : Next) (t : KernelState) (n : ℕ) → (slot_at (settled number after t n) n).directory ≡ (slot_at t n).directory
+settled_home number (next.Answer word) t n =
+    put_home t n (record (slot_at t n) { registers = record (slot_at t n).registers { eax = word }; extra = no_extra }) refl
+settled_home number (next.Answers eax edx ecx ebx) t n =
+    put_home t n (record (slot_at t n) { registers = record (slot_at t n).registers { eax = eax; edx = edx; ecx = ecx; ebx = ebx }; extra = no_extra }) refl
+settled_home number (next.GoOn at) t n = put_home t n (record (slot_at t n) { extra = words_at number at }) refl
+settled_home number (next.GoBack word) t n =
+    put_home t n (record (slot_at t n) { registers = record (slot_at t n).registers { eax = word }; extra = no_extra }) refl
+settled_home number (next.Show at) t n = put_home t n (record (slot_at t n) { extra = words_at number at }) refl
+settled_home number (next.Wait at) t n = put_home t n (record (slot_at t n) { extra = words_at number at }) refl
+settled_home number (next.Handle at) t n =
+    put_home t n (record (slot_at t n) { registers = handler_registers (slot_at t n).registers at }) refl
+settled_home number next.Leave t n = refl
+settled_home number next.Gone t n = refl
+
+module _ (s : KernelState) (n : ℕ) (live : is_live (slot_at s n) ≡ true) where
+  -- ---- it begins to wait
+
+  abbrev waiting : KernelState
+  waiting = with_status (with_rendezvous s n (wanting (slot_at s n).rendezvous UTOP FIRST_ENV_ID)) n NotRunnable
+
+  -- with the words that tell how far it is
+  with_words_so : (words : List ℕ) → SameSpaces n s (with_extra waiting n words)
+  with_words_so words =
+      let r = wanting (slot_at s n).rendezvous UTOP FIRST_ENV_ID in
+      let t = with_rendezvous s n r in
+      record {
+        spaces = refl;
+        home = put_home waiting n (record (slot_at waiting n) { extra = words }) refl
+            ∙ put_home t n (record (slot_at t n) { status = NotRunnable }) refl
+            ∙ put_home s n (record (slot_at s n) { rendezvous = r }) refl;
+      }
+
+  -- a plan that asks to wait
+  by_plan : (plan : Plan) (words : List ℕ) →
+      (upshot_by plan n (record { state = waiting; gives = got Blocked; written = [] }) (got Blocked)).state ≡ with_extra waiting n words →
+      (upshot_by plan n (system s n SYS_IPC_RECV (UTOP ∷ FIRST_ENV_ID ∷ 0 ∷ 0 ∷ 0 ∷ []))
+      (system s n SYS_IPC_RECV (UTOP ∷ FIRST_ENV_ID ∷ 0 ∷ 0 ∷ 0 ∷ [])).gives).state ≡ with_extra waiting n words
+  by_plan plan words is =
+      ap (λ (z : CallStep Called). (upshot_by plan n z z.gives).state) (ipc_recv_is s n live UTOP FIRST_ENV_ID (0 ∷ 0 ∷ 0 ∷ []) refl) ∙ is
+
+  module _ (after : KernelState) (output : Output) (done : Progress) where
+    waits_so : (of : Service) (at : Step) → awaits_reply (place.InService of at) ≡ true → IsServiceStep (Ok done) s n (plan_at of at) after output →
+        SameSpaces n s after
+    unfolding performed
+    waits_so service.Sync (step.Awaiting id) is made =
+        subst (λ (t : KernelState). SameSpaces n s t)
+        (sym (made.1 ∙ by_plan (plan_at service.Sync (step.Awaiting id)) (words_at SERVICE_SYNC (step.ReadingReply id)) refl))
+        (with_words_so (words_at SERVICE_SYNC (step.ReadingReply id)))
+    waits_so (service.Remove path) (step.Awaiting id) is made =
+        subst (λ (t : KernelState). SameSpaces n s t)
+        (sym (made.1 ∙ by_plan (plan_at (service.Remove path) (step.Awaiting id)) (words_at SERVICE_REMOVE (step.Clearing id)) refl))
+        (with_words_so (words_at SERVICE_REMOVE (step.Clearing id)))
+    waits_so _ _ is made = absurd (false≢true is)
+
+    -- ---- it asks
+
+    asks_so : (a : AbstractState) → Stands s a → (of : Service) (at : Step) → place_of (slot_at s n) ≡ place.InService of at →
+        asks_by_page (place.InService of at) ≡ true → IsServiceStep (Ok done) s n (plan_at of at) after output → SameHome n s after
+    unfolding performed
+    asks_so a h (service.Remove path) (step.Asking id) stands is made = by_outcome (page_asks_or_waits h.1 n v.b v.is v.at.1.is_in.silent (path_page v))
+      where
+        v : IsServed h.0 s a n (service.Remove path) (step.Asking id)
+        v = served h.1 n (service.Remove path) (step.Asking id) stands
+
+        plan : Plan
+        plan = plan_at (service.Remove path) (step.Asking id)
+
+        came : (t : KernelState) (word : ℕ) → page_ask_call s n ≡ giving t (Answered word) → SameHome n s t → SameHome n s after
+        came t word call_is same =
+            ap (λ (x : KernelState). (slot_at x n).directory)
+            (made.1 ∙ ap (λ (z : CallStep Called). (upshot_by plan n z z.gives).state) call_is)
+            ∙ settled_home plan.number (plan.next (Answered word)) t n ∙ same
+
+        by_outcome : PageAsksOrWaits s a n → SameHome n s after
+        by_outcome (asks idle_so waited sp comes call_is) =
+            came (page_asked s sp n) 0 call_is
+            (ap (λ (x : Slot). x.directory) (slot_kept (with_spaces s sp) 0 (server_told s n) n
+            (λ same. born_not_first h.1 n v.b v.is (sym same))))
+        by_outcome (lacks call_is) = came (with_refusal s) (negated E_NO_MEM) call_is refl
+        by_outcome (waits not_idle call_is) = came s (negated E_IPC_NOT_RECV) call_is refl
+    asks_so a h _ _ stands is made = absurd (false≢true is)
+
+    service_requests : (of : Service) (at : Step) → place_of (slot_at s n) ≡ place.InService of at →
+        IsServiceStep (Ok done) s n (plan_at of at) after output → RequestsCalmly n s after
+    service_requests of at stands made = record {
+      waits = λ is. waits_so of at (ap awaits_reply (sym stands) ∙ is) made;
+      asks = λ a h is. asks_so a h of at stands (ap asks_by_page (sym stands) ∙ is) made;
+    }
+
+  pub service_calm : (after : KernelState) (output : Output) (of : Service) (at : Step) → place_of (slot_at s n) ≡ place.InService of at →
+      (did : Result Progress Failed) → IsServiceStep did s n (plan_at of at) after output → IfOk did (λ done. RequestsCalmly n s after)
+  service_calm after output of at stands (Ok done) made = service_requests after output done of at stands made
+  service_calm after output of at stands (Err failed) made = tt
+
+-- and neither where its handler of page faults goes on
+pub handler_calm : (s after : KernelState) (n : ℕ) (at : HandlerStep) → place_of (slot_at s n) ≡ place.InHandler at → (did : Result Progress Failed) →
+    IfOk did (λ done. RequestsCalmly n s after)
+handler_calm s after n at stands (Ok done) = none_requests s after n (place.InHandler at) stands refl refl
+handler_calm s after n at stands (Err failed) = tt

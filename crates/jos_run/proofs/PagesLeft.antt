@@ -1,0 +1,282 @@
+-- What a step of another leaves of the file server's pages: nobody else has any of them but that of the request, where that is lent; and then it is
+-- the page of the client that waits, which no other environment has, and which that one leaves alone.
+use Rattle.std.proofs.Common.{◌≡◌, ◌≢◌, ◌∙◌, ◌<◌, ◌==◌, ℕ, Bool, true, false, [], Option, Some, None, refl, sym, ap, subst, arith}
+use Rattle.std.specs.Prelude.{is_some, nat_lt, slice_index, if◌then◌else◌}
+use Rattle.std.specs.Option.{option_map}
+use Rattle.std.proofs.lemmas.Bool.Decides.{nat_tests}
+use Rattle.std.proofs.lemmas.Bool.{false≢true}
+use Rattle.std.proofs.lemmas.Option.{none-some, same_Some}
+use Rattle.jos_base.proofs.Puts.{Elsewhere}
+use Rattle.jos_base.specs.declared.environment.Status.{Status}
+use Rattle.jos_base.specs.declared.environment.Status.TheVariants.{NotRunnable}
+use Rattle.jos_base.specs.declared.numbers.TheConstants.{UTEMP}
+use Rattle.jos_base.specs.Environments.{Slot, is_live}
+use Rattle.jos_base.specs.KernelState.{KernelState, slot_at}
+use Rattle.jos_base.specs.Reach.{Entry}
+use Rattle.jos_base.specs.Words.{page_number}
+use Rattle.fs_layout.specs.FileTree.{remove_path, sync_files}
+use Rattle.lib_os.specs.declared.numbers.TheConstants.{MAXOPEN}
+use Rattle.lib_os.specs.declared.place.Place.{Place}
+use Rattle.lib_os.specs.declared.place.Place.TheVariants as place
+use Rattle.lib_os.specs.declared.place.Step.TheVariants as step
+use Rattle.lib_os.specs.declared.service.Service.{Service}
+use Rattle.lib_os.specs.declared.service.Service.TheVariants as service
+use Rattle.lib_os.specs.AbstractLaws.{ServesWhoAsked, client_served, has_asked}
+use Rattle.lib_os.specs.AbstractState.{AbstractState, Born, Server, act, acted, asked, awaiting, born, busy, idle, in_service, leaving, Phase}
+use Rattle.lib_os.specs.Disk.{Disk}
+use Rattle.lib_os.specs.LibraryPages.{IsOwnWritable, has_working}
+use Rattle.lib_os.specs.LibrarySteps.{KeepsWorking, LacksFrame, LeavesServer, Stands}
+use Rattle.lib_os.specs.Places.{place_of}
+use Rattle.lib_os.specs.Rows.{Names, Rows, is_shared, lasting, logical, rows_of}
+use Rattle.lib_os.specs.StandsFor.{IsStatusFor, StandsFor, StandsForBorn, view_of}
+use Rattle.lib_os.proofs.AskedPlaces.{IsRequesting, asks as asks_it, awaiting_step, expects, is_request, is_requests, requesting}
+use Rattle.lib_os.proofs.EntriesCount.{Counts, entry_counts}
+use Rattle.lib_os.proofs.EntriesStand.{other_frame, same_sharing}
+use Rattle.lib_os.proofs.Logical.{clients_so, is_plain, logical_plain}
+use Rattle.lib_os.proofs.ServedStay.{HasClient, client_is}
+use Rattle.lib_os.proofs.ServerStands.{IsPlacePage, IsPrivateAt, first_slot, plain_private}
+use Rattle.lib_os.proofs.SlotsStand.{born_at, born_live}
+use Rattle.lib_os.proofs.StatesStand.{born_not_first}
+use Rattle.fs_seen.specs.ServerMemory.{bytes_by, entry_of, has_request, place_page, request_page, view_in}
+use Rattle.fs_seen.specs.ServerWhole.{LeavesPages, NothingOpened, keeps_request}
+use Rattle.jos_run.specs.ServerStands.{HasLent, IsBuiltRequest, IsLent, ServerStands, step_of}
+use Rattle.jos_run.specs.Steps.{is_awake}
+use Rattle.jos_run.proofs.RequestsCalm.{RequestsCalmly, awaits_reply}
+
+-- ---- who has asked
+
+pub requests : (p : Phase) → has_asked p ≡ true → is_request p ≡ true
+requests (in_service s asked) is = refl
+requests (in_service s awaiting) is = refl
+requests _ is = absurd (false≢true is)
+
+-- one who has asked bears no child, and its pages count as they stand
+asking_plain : (s : Service) → is_requests s ≡ true → (id : ℕ) → is_plain (place.InService s (step.Awaiting id)) ≡ true
+asking_plain service.Sync is id = refl
+asking_plain (service.Remove path) is id = refl
+asking_plain _ is id = absurd (false≢true is)
+
+waiting_plain : (s : Service) → is_requests s ≡ true → (id : ℕ) → is_plain (place.InService s (awaiting_step s id)) ≡ true
+waiting_plain service.Sync is id = refl
+waiting_plain (service.Remove path) is id = refl
+waiting_plain _ is id = absurd (false≢true is)
+
+requesting_plain : {p : Place} {k : Slot} {b : Born} → IsRequesting p k b → is_plain p ≡ true
+requesting_plain (asks_it s is id at self so) = ap is_plain at ∙ asking_plain s is id
+requesting_plain (expects s is id at self so) = ap is_plain at ∙ waiting_plain s is id
+
+-- and where it makes a step it is about to wait
+asking_awaits : (s : Service) → is_requests s ≡ true → (id : ℕ) → awaits_reply (place.InService s (step.Awaiting id)) ≡ true
+asking_awaits service.Sync is id = refl
+asking_awaits (service.Remove path) is id = refl
+asking_awaits _ is id = absurd (false≢true is)
+
+blocked_asleep : (status : Status) → IsStatusFor status true → is_awake status ≡ true → ⊥
+blocked_asleep NotRunnable is awake = false≢true awake
+blocked_asleep _ is awake = is
+
+requesting_awaits : {p : Place} {k : Slot} {b : Born} → IsStatusFor k.status b.blocked → is_awake k.status ≡ true → IsRequesting p k b →
+    awaits_reply p ≡ true
+requesting_awaits runs awake (asks_it s is id at self so) = ap awaits_reply at ∙ asking_awaits s is id
+requesting_awaits {k = k} runs awake (expects s is id at self so) =
+    absurd (blocked_asleep k.status (subst (λ (c : Bool). IsStatusFor k.status c) so.blocked runs) awake)
+
+-- ---- who has a page
+
+module _ {names : Names} {s : KernelState} {a : AbstractState} (h : StandsFor names s a) where
+  abbrev counted : Rows
+  counted = logical s.spaces s.environments.slots
+
+  -- each other environment has another space
+  other_space : (n : ℕ) → n ≢ 0 → is_live (slot_at s n) ≡ true → (slot_at s n).directory ≢ (slot_at s 0).directory
+  other_space n other live alike = other (h.in_order.spaces.apart n 0 live (first_slot h).lives alike)
+
+  -- A page that no client has is in none of its frames.
+  private_lacked : (n : ℕ) → n ≢ 0 → is_live (slot_at s n) ≡ true → (q : ℕ) → IsPrivateAt s q → (e : Entry) → entry_of s 0 q ≡ Some e →
+      LacksFrame s n e.frame
+  unfolding rows_of
+  private_lacked n other live q private e there p x is same =
+      let found = entry_counts h (slot_at s n).directory p (lasting x) (other_space n other live) (ap (option_map lasting) is) in
+      private (lasting e) (ap (option_map lasting) there) found.slot found.page found.entry found.counts (found.frame ∙ same)
+
+  -- where nothing was ever opened no place of the table has a page
+  no_place_page : (d : Disk) → NothingOpened a (view_in d s 0) → (number : ℕ) → number < MAXOPEN → entry_of s 0 (place_page number) ≡ None
+  no_place_page d none number below = by_entry (entry_of s 0 (place_page number)) seen
+    where
+      low : nat_lt number MAXOPEN ≡ true
+      low = grind (arith, nat_tests, below)
+
+      seen : bytes_by s (entry_of s 0 (place_page number)) ≡ None
+      seen = ap (λ (t : Bool). bytes_by s (if t then entry_of s 0 (place_page number) else None)) (sym low) ∙ none.pages number
+
+      by_entry : (o : Option Entry) → bytes_by s o ≡ None → o ≡ None
+      by_entry None is = refl
+      by_entry (Some e) is = absurd (none-some (slice_index (s.spaces.pages e.frame)) (sym is))
+
+  -- so nobody else has a page of the server's but that of the request
+  pub others_lack : (d : Disk) → NothingOpened a (view_in d s 0) → (n : ℕ) → n ≢ 0 → is_live (slot_at s n) ≡ true → (q : ℕ) → q ≢ request_page →
+      (e : Entry) → entry_of s 0 q ≡ Some e → LacksFrame s n e.frame
+  others_lack d none n other live q ne e there =
+      private_lacked n other live q (plain_private h q (record { no_request = grind (arith, nat_tests, ne); no_place = no_place })) e there
+    where
+      no_place : IsPlacePage q → ⊥
+      no_place at =
+          let below = at.1 in
+          let is = at.2 in
+          let same : q ≡ place_page at.0 = omega (arith, below, is) in
+          none-some e (sym (no_place_page d none at.0 at.1) ∙ ap (entry_of s 0) (sym same) ∙ there)
+
+  -- ---- the page in which a client has told its request
+
+  module _ (client : ℕ) (b : Born) (at : a.slots client ≡ born b) (request : is_request b.phase ≡ true) (own : Entry)
+      (kept : rows_of s.spaces (slot_at s client).directory (page_number UTEMP) ≡ Some own) where
+    born_so : StandsForBorn names s.spaces (slot_at s client) b
+    born_so = born_at h client b at
+
+    requests_so : IsRequesting (place_of (slot_at s client)) (slot_at s client) b
+    requests_so =
+        requesting (place_of (slot_at s client)) (view_of s.spaces (slot_at s client).directory) (slot_at s client) b born_so.at request
+
+    -- it may be written by its own
+    page : IsOwnWritable (rows_of s.spaces (slot_at s client).directory) (page_number UTEMP)
+    page = by_test (has_working (place_of (slot_at s client)) (slot_at s client).extra) refl
+      where
+        by_test : (t : Bool) → has_working (place_of (slot_at s client)) (slot_at s client).extra ≡ t →
+            IsOwnWritable (rows_of s.spaces (slot_at s client).directory) (page_number UTEMP)
+        by_test true is = born_so.library.working is
+        by_test false is = absurd (none-some own (sym (born_so.library.no_working is) ∙ kept))
+
+    page_counts : counted client (page_number UTEMP) ≡ Some page.entry
+    page_counts =
+        logical_plain s.spaces s.environments.slots client (clients_so client (slot_at s client) (born_not_first h client b at) (born_live born_so))
+        (requesting_plain requests_so) (page_number UTEMP)
+        ∙ page.stands
+
+    same_page : own.frame ≡ page.entry.frame
+    same_page = ap (λ (x : Entry). x.frame) (same_Some own page.entry (sym kept ∙ page.stands))
+
+    -- and no other has it
+    pub clients_page : (n : ℕ) → n ≢ 0 → is_live (slot_at s n) ≡ true → n ≢ client → LacksFrame s n own.frame
+    unfolding rows_of
+    clients_page n other live ne p x is same =
+        other_frame counted h.apart client (page_number UTEMP) found.slot found.page found.entry page.entry elsewhere page_counts page.writes found.counts
+        sharing frames
+      where
+        found : Counts s (slot_at s n).directory p (lasting x)
+        found = entry_counts h (slot_at s n).directory p (lasting x) (other_space n other live) (ap (option_map lasting) is)
+
+        frames : found.entry.frame ≡ page.entry.frame
+        frames = found.frame ∙ same ∙ same_page
+
+        elsewhere : Elsewhere found.slot found.page client (page_number UTEMP)
+        elsewhere here =
+            absurd (ne (h.in_order.spaces.apart n client live (born_live born_so)
+            (sym found.home ∙ ap (λ (m : ℕ). (slot_at s m).directory) here)))
+
+        sharing : is_shared found.entry.perm ≡ false
+        sharing =
+            same_sharing counted h.apart found.slot found.page client (page_number UTEMP) found.entry page.entry found.counts page_counts frames
+            ∙ page.own_page
+
+    -- Where it makes a step itself it is about to wait.
+    pub client_awaits : is_awake (slot_at s client).status ≡ true → awaits_reply (place_of (slot_at s client)) ≡ true
+    client_awaits awake = requesting_awaits born_so.runs awake requests_so
+
+-- ---- what another's step leaves
+
+module _ (d : Disk) (n : ℕ) (s after : KernelState) (other : n ≢ 0) (live : is_live (slot_at s n) ≡ true)
+    (awake : is_awake (slot_at s n).status ≡ true) (it : LeavesServer n s after) (working : KeepsWorking n s after) (calm : RequestsCalmly n s after)
+    (a : AbstractState) (h : Stands s a) (k : ServerStands d s a) where
+  entries : (p : ℕ) → entry_of after 0 p ≡ entry_of s 0 p
+  entries p = (λ i. after.spaces.entries (it.slot i).directory p) ∙ it.entries p
+
+  there_as : has_request after 0 ≡ has_request s 0
+  there_as = ap (λ (o : Option Entry). is_some o) (entries request_page)
+
+  -- the client of a removal, and the page that it has lent
+  module _ (client : ℕ) (served : client_served a.server ≡ Some client) (lent : IsLent s client) where
+    who : HasClient a client
+    who = client_is a k.asked client served
+
+    -- the bytes of the page are left
+    lent_bytes : (e : Entry) → entry_of s 0 request_page ≡ Some e → after.spaces.pages e.frame ≡ s.spaces.pages e.frame
+    unfolding rows_of
+    lent_bytes e there = by_slot (n == client) refl
+      where
+        frame : lent.own.frame ≡ e.frame
+        frame =
+            lent.same ∙ ap (λ (x : Entry). x.frame) (same_Some lent.entry (lasting e) (sym lent.stands ∙ ap (option_map lasting) there))
+
+        by_slot : (t : Bool) → (n == client) ≡ t → after.spaces.pages e.frame ≡ s.spaces.pages e.frame
+        by_slot true test =
+            let same : n ≡ client = grind (arith, nat_tests, test) in
+            let about = client_awaits h.1 client who.b who.is (requests who.b.phase who.has_asked) lent.own lent.kept
+            (subst (λ (m : ℕ). is_awake (slot_at s m).status ≡ true) same awake) in
+            let spaces = (calm.waits (subst (λ (m : ℕ). awaits_reply (place_of (slot_at s m)) ≡ true) (sym same) about)).spaces in
+            (λ i. (spaces i).pages e.frame)
+        by_slot false test =
+            let ne : n ≢ client = grind (arith, nat_tests, test) in
+            it.pages request_page e there
+            (subst (λ (f : ℕ). LacksFrame s n f) frame
+            (clients_page h.1 client who.b who.is (requests who.b.phase who.has_asked) lent.own lent.kept n other live ne))
+
+    -- and it is lent still
+    still_lent : (c : AbstractState) → Stands after c → HasClient c client → IsLent after client
+    unfolding rows_of
+    still_lent c stands then_it = record {
+      own = lent.own;
+      kept = by_slot (n == client) refl ∙ lent.kept;
+      entry = lent.entry;
+      stands = ap (option_map lasting) (entries request_page) ∙ lent.stands;
+      same = lent.same;
+    }
+      where
+        by_slot : (t : Bool) → (n == client) ≡ t →
+            rows_of after.spaces (slot_at after client).directory (page_number UTEMP) ≡ rows_of s.spaces (slot_at s client).directory (page_number UTEMP)
+        by_slot true test =
+            let same : n ≡ client = grind (arith, nat_tests, test) in
+            let about = client_awaits h.1 client who.b who.is (requests who.b.phase who.has_asked) lent.own lent.kept
+            (subst (λ (m : ℕ). is_awake (slot_at s m).status ≡ true) same awake) in
+            let spaces = calm.waits (subst (λ (m : ℕ). awaits_reply (place_of (slot_at s m)) ≡ true) (sym same) about) in
+            subst (λ (m : ℕ). rows_of after.spaces (slot_at after m).directory (page_number UTEMP)
+            ≡ rows_of s.spaces (slot_at s m).directory (page_number UTEMP)) same
+            (λ i. rows_of (spaces.spaces i) (spaces.home i) (page_number UTEMP))
+        by_slot false test =
+            let ne : client ≢ n = grind (arith, nat_tests, test) in
+            working stands.1.in_order live a h client who.b ne who.is (born_live (born_at stands.1 client then_it.b then_it.is))
+
+  request_left : keeps_request a.server ≡ true → (e : Entry) → entry_of s 0 request_page ≡ Some e →
+      after.spaces.pages e.frame ≡ s.spaces.pages e.frame
+  request_left keeps e there = by_server a.server refl keeps k.built k.lent
+    where
+      by_server : (x : Server) → a.server ≡ x → keeps_request x ≡ true → IsBuiltRequest x → HasLent x s →
+          after.spaces.pages e.frame ≡ s.spaces.pages e.frame
+      by_server leaving is keeps built lent = absurd (false≢true keeps)
+      by_server idle is keeps built lent = absurd (false≢true keeps)
+      by_server (busy client (act sync_files None) None) is keeps built none =
+          absurd (let contradiction : false ≡ true = sym none ∙ ap (λ (o : Option Entry). is_some o) there in cc)
+      by_server (busy client (act (remove_path path) None) None) is keeps built lent =
+          lent_bytes client (ap client_served is) lent e there
+      by_server (acted client answer [] None) is keeps built lent = absurd (false≢true keeps)
+      by_server _ is keeps built lent = absurd built
+
+  pub pages_left : LeavesPages a.server s after 0
+  pages_left = record {
+    slot = it.slot;
+    entries = entries;
+    tables = it.regions;
+    bytes = λ p e own ne there. it.pages p e there (others_lack h.1 d k.unopened n other live p ne e there);
+    request = request_left;
+    counts = λ number e below there. absurd (none-some e (sym (no_place_page h.1 d k.unopened number below) ∙ there));
+  }
+
+  pub lent_left : (c : AbstractState) → Stands after c → c.server ≡ a.server → ServesWhoAsked c → HasLent c.server after
+  lent_left c stands same who_asked = subst (λ (x : Server). HasLent x after) (sym same) (by_server a.server refl k.lent)
+    where
+      by_server : (x : Server) → a.server ≡ x → HasLent x s → HasLent x after
+      by_server leaving is lent = λ receiving. there_as ∙ lent (ap (λ (x : Slot). step_of x) (sym it.slot) ∙ receiving)
+      by_server idle is none = there_as ∙ none
+      by_server (busy client (act sync_files None) None) is none = there_as ∙ none
+      by_server (busy client (act (remove_path path) None) None) is lent =
+          still_lent client (ap client_served is) lent c stands (client_is c who_asked client (ap client_served (same ∙ is)))
+      by_server _ is lent = tt
