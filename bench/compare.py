@@ -19,7 +19,7 @@ import tempfile
 from disks import BLOCK, Disk, Fault, random_tree
 from images import BASE, CODE, image, word
 from library_model import Run
-from library_programs import ForkProgram, LibraryProgram, random_words
+from library_programs import FileProgram, ForkProgram, LibraryProgram, random_words
 from model import EXCEPTION_STACK, Kernel, UENVS, UPAGES, Unmodelled, UTOP, UVPT
 
 PROGRAM = pathlib.Path(__file__).resolve().parent.parent / "out" / "jos"
@@ -200,14 +200,17 @@ def with_image(disk, records, content):
 def compare_library(seed, folder):
     """The same of a program under the library, which stands on a disk."""
     chance = random.Random(seed)
-    forks = chance.random() < 0.6
+    kind = chance.choice([LibraryProgram, LibraryProgram, ForkProgram, ForkProgram, FileProgram, FileProgram])
+    forks = kind is not LibraryProgram
     disk, records, paths = random_files(chance)
-    program = (ForkProgram if forks else LibraryProgram)(chance, paths)
+    program = kind(chance, paths)
     content = program.build()
     frames = Run.wanted_frames(content) + chance.choice([0, 1, 20, 60, 500])
     steps, traps = chance.choice([3000, 60000, 200000] if forks else [777, 3000, 20000, 60000]), chance.choice([0, 1, 1024])
     schedule, given = random_schedule(chance), random_words(chance)
     console_input = bytes(chance.choice([4, 0, 10, 255, *range(32, 127)]) for _ in range(chance.choice([0, 1, 2, 5, 20])))
+    if kind is FileProgram:
+        frames, steps = frames + chance.choice([0, 500, 500, 500]), chance.choice([20000, 200000, 1000000])
     if forks and program.fills_table:
         frames, steps, schedule = frames + 5000, 5000000, schedule + [1000]
     words = ["image", *given]

@@ -5,7 +5,7 @@
 
 DISK stays as it is; as the run leaves it, it goes to the file that --left names.
 
-It is written after docs/library.md, and shares nothing with the code: the fence, the services 0 to 9 and 11 to 19, each with its
+It is written after docs/library.md, and shares nothing with the code: the fence, the services 0 to 19, each with its
 refusals and its steps, the handler of page faults, which copies a page that waits for that or ends the program, turns, and the end of a
 run, behind which the disk has what the file server has done.
 The processor is that of processor.py, the frames are those of model.py, and the file server is that of server_model.py. It takes the words
@@ -21,7 +21,8 @@ from model import NO_ENVIRONMENT, NO_MEMORY, NOT_RECEIVING, P, PAGE_SIZE, SLOTS,
 from disks import Reader
 from model import Frames, PageFault, Trap, Unmodelled
 from processor import Processor
-from server_model import BAD_PATH, LONGEST_PATH, REMOVE, SYNC, FileServer
+from server_model import BAD_PATH, DEVICE, FILE, LONGEST_PATH, MAX_OPEN, MODE, NUMBER, OPEN, READ, REMOVE, REQUEST_BYTES, REQUEST_COUNT
+from server_model import REQUEST_MODE, REQUEST_NUMBER, SEEK, SET_SIZE, STAT, SYNC, WRITE, FileServer
 
 SHARED, COPIED = 0x400, 0x800  # bits of an entry: its page is shared, or is copied when it is written
 KEPT = P | U | W | AVAILABLE  # the bits of an entry that a call gives
@@ -31,6 +32,9 @@ FIRST_DESCRIPTOR, DESCRIPTORS = 0xD0000, 32  # the pages of descriptors
 CONSOLE = struct.pack("<4I", ord("c"), 0, 2, 0)  # what such a page holds
 CONSOLE_STAT = b"<cons>".ljust(128, b"\0") + struct.pack("<2I", 0, 0)  # what stat tells of it
 TRANSFER_MAX = 4096  # bytes of one read or write
+FILE_WRITE_MAX = 4088  # and of one write to a file
+OFFSET_MAX = 2 ** 31 - 1
+MODE_BITS, READING, WRITING = 0x703, 0, 1  # of open_file; what a file is open for, where it is not for both
 END_OF_INPUT = 4  # what is read where there is no byte
 NOT_SUPPORTED = 15
 SERVER, PROGRAM = 0x1000, 0x1001
@@ -252,6 +256,8 @@ class Run:
             self.send(edx, ecx, ebx)
         elif service == 9:
             self.receive(edx, ecx)
+        elif service == 10:
+            self.open(edx, ecx)
         elif service == 11:
             self.close(edx)
         elif service == 12:
@@ -259,7 +265,7 @@ class Run:
         elif service == 13:
             self.write(edx, ecx, ebx)
         elif service in (14, 16):
-            self.seek_or_set_size(edx)
+            self.seek_or_set_size(edx, ecx, service == 14)
         elif service == 15:
             self.stat(edx, ecx)
         elif service == 17:
@@ -334,10 +340,10 @@ class Run:
             assert self.frames.insert(self.now.directory, FIRST_DESCRIPTOR + new, frame, P | U | W | SHARED)
             self.now.answer(new)
 
-    # ---- on the console: what the descriptor names is found, then the buffer's pages are looked at, and then bytes are moved
+    # ---- what a descriptor names is found, then the buffer's pages are looked at, and then bytes are moved
 
     def finds(self, descriptor):
-        """Whether the step is the third load, of the word that tells the console; else it is made: the entry of the descriptors'
+        """Whether the step is the third load, of the word that tells the console or a file; else it is made: the entry of the descriptors'
         region, or that of the descriptor, either of which may refuse it."""
         if self.now.stage == "entered":
             if descriptor < DESCRIPTORS and self.has_descriptors():
@@ -353,9 +359,63 @@ class Run:
             return self.now.stage == "what it names"
         return False
 
-    def seek_or_set_size(self, descriptor):
-        if self.finds(descriptor):
-            self.now.answer(-NOT_SUPPORTED)
+    def word_of(self, descriptor, at):
+        return int.from_bytes(self.page_bytes(FIRST_DESCRIPTOR + descriptor << 12)[at:at + 4], "little")
+
+    def is_file(self, descriptor):
+        """Of a descriptor that is open."""
+        return self.word_of(descriptor, DEVICE) == FILE
+
+    def takes_page(self, then, *found):
+        """The page of a request, or of bytes."""
+        if self.frames.allocate(self.now.directory, WORKING_PAGE, P | U | W):
+            self.now.go_on(then, *found)
+        else:
+            self.now.answer(self.wanting(NO_MEMORY))
+
+    def puts_word(self, at, word):
+        self.page_bytes(WORKING_PAGE << 12)[at:at + 4] = word.to_bytes(4, "little")
+
+    def seek_or_set_size(self, descriptor, number, seeks):
+        """Of a file a page is taken, and the request has the file's number and the offset, or the size."""
+        if self.now.stage == "mode":
+            if self.word_of(descriptor, MODE) == READING:
+                self.now.answer(-INVALID)
+            else:
+                self.now.go_on("taking")
+        elif self.now.stage == "taking":
+            self.takes_page("number")
+        elif self.now.stage not in ("entered", "looking", "what it names"):
+            self.requests(descriptor, number, SEEK if seeks else SET_SIZE, "giving back")
+        elif self.finds(descriptor):
+            if not self.is_file(descriptor):
+                self.now.answer(-NOT_SUPPORTED)
+            elif seeks and number > OFFSET_MAX:
+                self.now.answer(-INVALID)
+            else:
+                self.now.go_on("taking" if seeks else "mode")
+
+    def requests(self, descriptor, number, word, then):
+        """The file's number is loaded and put into the page, and another number behind it; the own id; the request; at last the page is given
+        back, and the word of the reply is answered."""
+        stage = self.now.stage
+        if stage == "number":
+            self.now.go_on("putting the number", self.word_of(descriptor, NUMBER))
+        elif stage == "putting the number":
+            self.puts_word(REQUEST_NUMBER, self.now.found[0])
+            self.now.go_on("putting the count")
+        elif stage == "putting the count":
+            self.puts_word(REQUEST_COUNT, number)
+            self.now.go_on("identifying")
+        elif stage == "identifying":
+            self.now.go_on("asking")
+        elif stage == "giving back":
+            self.frames.remove(self.now.directory, WORKING_PAGE)
+            self.now.go_on("reply")
+        elif stage == "reply":
+            self.now.answer(self.now.message[1])
+        else:
+            self.asks(word, WORKING_PAGE << 12, then)
 
     def is_refused(self, va, length):
         """A buffer that is refused, or of which nothing is wanted, is answered at once."""
@@ -388,7 +448,7 @@ class Run:
         except PageFault as fault:
             self.page_fault(fault.error, fault.address, self.now.processor.eip)
             return False
-        assert self.now.stage == "moving"
+        assert self.now.stage != "touching"
         return True
 
     def behind(self, va, done, *rest):
@@ -396,7 +456,7 @@ class Run:
         self.now.go_on("region" if (va + done) % PAGE_SIZE == 0 else "moving", done, *rest)
 
     def read(self, descriptor, va, length):
-        """A byte of the console."""
+        """A byte of the console; of a file those that come with the reply."""
         if self.now.stage == "getting":
             byte = self.input.pop(0) if self.input else END_OF_INPUT
             if byte == END_OF_INPUT:
@@ -404,17 +464,61 @@ class Run:
             else:
                 self.now.go_on("region", 0, byte)
         elif self.now.stage in ("entered", "looking", "what it names"):
-            if self.finds(descriptor) and not self.is_refused(va, min(length, TRANSFER_MAX)):
-                self.now.go_on("getting")
+            if self.finds(descriptor):
+                if self.is_file(descriptor):
+                    self.now.go_on("mode")
+                elif not self.is_refused(va, min(length, TRANSFER_MAX)):
+                    self.now.go_on("getting")
+        elif self.is_file(descriptor):
+            if self.now.stage == "mode":
+                if self.word_of(descriptor, MODE) == WRITING or not is_buffer(va, min(length, TRANSFER_MAX)):
+                    self.now.answer(-INVALID)
+                else:
+                    self.now.go_on("taking")
+            else:
+                self.is_handed(descriptor, va, READ, min(length, TRANSFER_MAX))
         elif self.looks(va, W | COPIED):
             if self.puts(va, bytes([self.now.found[1]])):
                 self.now.answer(1)
+
+    def is_handed(self, descriptor, va, word, wanted):
+        """A request for bytes of a file, by read or stat. Those that come stand in the page from its beginning on, and are loaded there and put
+        into the buffer: a word, where that lies whole at a multiple of four, of which the page may have parts in two of its words."""
+        stage = self.now.stage
+        if stage == "taking":
+            self.takes_page("number")
+        elif stage == "counting":
+            told = self.now.message[1]
+            count = (told if told <= wanted else 0) if word == READ else len(CONSOLE_STAT) if told == 0 else 0
+            self.now.go_on(*("region", 0, count) if count else ("giving back",))
+        elif stage == "returning":
+            self.frames.remove(self.now.directory, WORKING_PAGE)
+            self.now.answer(self.now.found[0])
+        elif stage in ("rest", "putting"):
+            done, count, moved = self.now.found
+            if stage == "rest":
+                self.now.go_on("putting", *self.now.found)
+            elif self.puts(va + done, self.page_bytes(WORKING_PAGE << 12)[done:done + moved]):
+                if done + moved == count:
+                    self.now.go_on("returning", count if word == READ else 0)
+                else:
+                    self.behind(va, done + moved, count)
+        elif stage == "touching":
+            assert not self.puts(va + self.now.found[0], bytes(1))
+        elif stage not in ("region", "entry", "moving"):
+            self.requests(descriptor, wanted if word == READ else 0, word, "counting")
+        elif self.looks(va, W | COPIED):
+            done, count = self.now.found
+            moved = moved_at_once(va + done, count - done)
+            self.now.go_on("rest" if moved == 4 and done % 4 else "putting", done, count, moved)
 
     def stat(self, descriptor, va):
         """A name, a size and a kind."""
         if self.now.stage in ("entered", "looking", "what it names"):
             if self.finds(descriptor) and not self.is_refused(va, len(CONSOLE_STAT)):
-                self.now.go_on("region", 0)
+                self.now.go_on(*("taking",) if self.is_file(descriptor) else ("region", 0))
+        elif self.is_file(descriptor):
+            self.is_handed(descriptor, va, STAT, len(CONSOLE_STAT))
         elif self.looks(va, W | COPIED):
             done = self.now.found[0]
             moved = moved_at_once(va + done, len(CONSOLE_STAT) - done)
@@ -425,30 +529,41 @@ class Run:
                     self.behind(va, done + moved)
 
     def write(self, descriptor, va, length):
-        """A page is taken, the bytes are loaded and put there, and then all are printed and the page is given back."""
-        stage, wanted = self.now.stage, min(length, TRANSFER_MAX)
-        if stage == "taking":
-            if self.frames.allocate(self.now.directory, WORKING_PAGE, P | U | W):
-                self.now.go_on("region", 0)
+        """A page is taken, the bytes are loaded and put there, and then all are printed and the page is given back; or it is that of a request,
+        where they stand behind the first two words."""
+        stage, is_file = self.now.stage, False
+        if stage not in ("entered", "looking"):
+            is_file = self.is_file(descriptor)
+        wanted = min(length, FILE_WRITE_MAX if is_file else TRANSFER_MAX)
+        if stage == "mode":
+            if self.word_of(descriptor, MODE) == READING or not is_buffer(va, wanted):
+                self.now.answer(-INVALID)
             else:
-                self.now.answer(self.wanting(NO_MEMORY))
+                self.now.go_on("taking")
+        elif stage == "taking":
+            self.takes_page(*("region", 0) if wanted else ("number",))
         elif stage == "keeping":
-            done, _, rest = self.keeps()
+            done, _, rest = self.keeps(REQUEST_BYTES if is_file else 0)
             if rest:
                 self.now.go_on("keeping", done, rest)
             elif done == wanted:
-                self.now.go_on("printing")
+                self.now.go_on("number" if is_file else "printing")
             else:
                 self.behind(va, done)
         elif stage == "printing":
             self.output += self.page_bytes(WORKING_PAGE << 12)[:wanted]
-            self.now.go_on("giving back")
-        elif stage == "giving back":
+            self.now.go_on("giving it back")
+        elif stage == "giving it back":
             self.frames.remove(self.now.directory, WORKING_PAGE)
             self.now.answer(wanted)
         elif stage in ("entered", "looking", "what it names"):
-            if self.finds(descriptor) and not self.is_refused(va, wanted):
-                self.now.go_on("taking")
+            if self.finds(descriptor):
+                if is_file:
+                    self.now.go_on("mode")
+                elif not self.is_refused(va, wanted):
+                    self.now.go_on("taking")
+        elif stage not in ("region", "entry", "moving", "touching"):
+            self.requests(descriptor, wanted, WRITE, "giving back")
         elif self.looks(va, P):
             self.gathers(va, wanted)
 
@@ -463,11 +578,11 @@ class Run:
             assert self.now.stage == "moving"
             self.now.go_on("keeping", done, content)
 
-    def keeps(self):
+    def keeps(self, begins=0):
         """The next bytes of those that were loaded are put into the own page. How many are there then, these, and the rest."""
         done, content = self.now.found
         kept = content if len(content) == 4 and done % 4 == 0 else content[:1]
-        self.page_bytes(WORKING_PAGE << 12)[done:done + len(kept)] = kept
+        self.page_bytes(WORKING_PAGE << 12)[begins + done:begins + done + len(kept)] = kept
         return done + len(kept), kept, content[len(kept):]
 
     # ---- the others
@@ -589,65 +704,95 @@ class Run:
             self.asks(SYNC, 0, "reply")
 
     def remove(self, path):
-        """A page is taken, and the bytes of the path are loaded and put there, up to a NUL. Where a NUL may not come any more the page is
-        given back and the path is refused, by one step. Then the own id; the request, with the page; when the reply has come the page is
-        given back, and the word of the reply is answered."""
-        stage = self.now.stage
-        if stage == "entered":
+        """The path is taken; the own id; the request, with the page; when the reply has come the page is given back, and the word of the reply
+        is answered."""
+        if self.now.stage == "entered":
             if in_fence(path, 1):
                 self.now.go_on("taking")
             else:
                 self.now.answer(-INVALID)
-        elif stage == "taking":
-            if self.frames.allocate(self.now.directory, WORKING_PAGE, P | U | W):
-                self.now.go_on("region", 0)
-            else:
-                self.now.answer(self.wanting(NO_MEMORY))
+        elif self.now.stage in ("identifying", "asking", "pausing", "awaiting", "giving back", "reply"):
+            self.requests(None, None, REMOVE, "giving back")
+        else:
+            self.takes_path(path, "identifying")
+
+    def takes_path(self, path, then):
+        """A page is taken, and the bytes of the path are loaded and put there, up to a NUL. Where a NUL may not come any more the page is
+        given back and the path is refused, by one step."""
+        stage = self.now.stage
+        if stage == "taking":
+            self.takes_page("region", 0)
         elif stage == "keeping":
             done, kept, rest = self.keeps()
             if 0 in kept:
-                self.now.go_on("identifying")
+                self.now.go_on(then)
             elif rest:
                 self.now.go_on("keeping", done, rest)
             elif self.may_follow(path, done):
                 self.behind(path, done)
             else:
                 self.now.go_on("moving", done)
-        elif stage == "identifying":
-            self.now.go_on("asking")
-        elif stage in ("asking", "pausing", "awaiting"):
-            self.asks(REMOVE, WORKING_PAGE << 12, "giving back")
-        elif stage == "giving back":
-            self.frames.remove(self.now.directory, WORKING_PAGE)
-            self.now.go_on("reply")
-        elif stage == "reply":
-            self.now.answer(self.now.message[1])
         elif stage == "moving" and not self.may_follow(path, self.now.found[0]):
             self.frames.remove(self.now.directory, WORKING_PAGE)
             self.now.answer(-BAD_PATH if self.now.found[0] > LONGEST_PATH else -INVALID)
         elif self.looks(path, P):
             self.gathers(path, LONGEST_PATH + 1)
 
+    def open(self, path, mode):
+        """The path is taken, and then the lowest descriptor that is free, where there is one; the mode is put behind the path. The own id; the
+        request; with the reply comes the page of the descriptor."""
+        stage = self.now.stage
+        if stage == "entered":
+            if mode & ~MODE_BITS or mode & 3 == 3 or not in_fence(path, 1):
+                self.now.answer(-INVALID)
+            else:
+                self.now.go_on("taking")
+        elif stage == "descriptors":
+            self.now.go_on("free" if self.has_descriptors() else "putting the mode", 0)
+        elif stage == "free":
+            descriptor = self.now.found[0]
+            if descriptor == DESCRIPTORS:
+                self.frames.remove(self.now.directory, WORKING_PAGE)
+                self.now.answer(-MAX_OPEN)
+            elif self.is_open(descriptor):
+                self.now.go_on("free", descriptor + 1)
+            else:
+                self.now.go_on("putting the mode", descriptor)
+        elif stage == "putting the mode":
+            self.puts_word(REQUEST_MODE, mode)
+            self.now.go_on("identifying", *self.now.found)
+        elif stage == "identifying":
+            self.now.go_on("asking", *self.now.found)
+        elif stage in ("asking", "pausing", "awaiting"):
+            self.asks(OPEN, WORKING_PAGE << 12, "giving back", FIRST_DESCRIPTOR + self.now.found[0] << 12)
+        elif stage == "giving back":
+            self.frames.remove(self.now.directory, WORKING_PAGE)
+            self.now.go_on("reply", *self.now.found)
+        elif stage == "reply":
+            self.now.answer(self.now.message[1] or self.now.found[0])
+        else:
+            self.takes_path(path, "descriptors")
+
     @staticmethod
     def may_follow(path, done):
         return done <= LONGEST_PATH and in_fence(path + done, 1)
 
-    def asks(self, word, va, then):
+    def asks(self, word, va, then, page=0):
         """A try to send the word of the request, after one in vain a yield, and again; from the next step on it waits for the server
-        alone."""
-        stage = self.now.stage
+        alone, with a page where one may come."""
+        stage, found = self.now.stage, self.now.found
         if stage == "asking":
             answer = self.try_to_send(SERVER, word, va)
             assert answer in (0, -NOT_RECEIVING)
-            self.now.go_on("pausing" if answer else "awaiting")
+            self.now.go_on("pausing" if answer else "awaiting", *found)
             self.server.has_to_act = self.server.has_to_act or not answer
         elif stage == "pausing":
             self.now.status = "runnable"
-            self.now.go_on("asking")
+            self.now.go_on("asking", *found)
         else:
-            assert stage == "awaiting"
-            self.now.receives, self.now.status = (0, SERVER), "not runnable"
-            self.now.go_on(then)
+            assert stage == "awaiting", stage
+            self.now.receives, self.now.status = (page, SERVER), "not runnable"
+            self.now.go_on(then, *found)
 
     # ---- fork
 

@@ -11,13 +11,16 @@ ENDS = [0x1FFFFF, 0x200000, 0x3FFFFF, 0x400000, 0x7FFFFF, 0x800000, 0xCFFFFFFF, 
         0xEEBFDFFF, 0xEEBFE000, 0xEEC00000, 0xFFFFFFFF]
 IDS = [0, 0x1001, 0x1002, 0x2001, 0x2000, 0x13FF, 0xFFFFFFFF]
 LIKELY_IDS = [0x1001, 0x1002, 0x1002, 0x1003, 0x1004, 0x2002, 0x2003]
-NUMBERS = [10, 20, 21, 22, 0x41, 0x80000000, 0xFFFFFFFF]
+NUMBERS = [20, 21, 22, 0x41, 0x80000000, 0xFFFFFFFF]
 FDS, ODD_FDS = [0, 1, 1, 2, 5, 31], [32, 33, 0x80000000, 0xFFFFFFFF]
 OPEN_FDS = [0, 1, 1, 1, 2]
+MODES, ODD_MODES = [0, 1, 2, 2, 0x100, 0x102, 0x102, 0x200, 0x301, 0x302, 0x400, 0x500], [3, 4, 0x103, 0x800, 0xFFFFFFFF]
+SIZES = [0, 1, 5, 4095, 4096, 4097, 9000, 40950, 40960, 40961, 50000, 4235263, 4235264, 4235265, 0x7FFFFFFF, 0x80000000, 0xFFFFFFFF]
+LONG_LENGTHS = [100, 1000, 2000, 4087, 4088, 4089, 4096, 0xFFFFFFFF]
 LENGTHS, ODD_LENGTHS = [1, 2, 3, 4, 5, 7, 8, 13, 16, 17], [0, 4095, 4096, 4097, 0x7FFFFFFF, 0xFFFFFFFF]
 
 # how often a program asks for which service; 99 is any other number
-ANY = {1: 4, 2: 1, 3: 2, 5: 2, 6: 6, 7: 3, 8: 4, 9: 1, 11: 2, 12: 3, 13: 5, 14: 1, 15: 2, 16: 1, 17: 5, 18: 2, 19: 4, 99: 1}
+ANY = {1: 4, 2: 1, 3: 2, 5: 2, 6: 6, 7: 3, 8: 4, 9: 1, 10: 8, 11: 2, 12: 5, 13: 7, 14: 4, 15: 3, 16: 3, 17: 5, 18: 2, 19: 4, 99: 1}
 # where ESP may lie, and at the end the first and last places where it may not
 STACKS = [STACK + 0x800, 0x902000, 0, 0xEEBFE000, 0xEEBFE7FF, 0xEEC00000, 0xEEC00FF0]
 RESIDENT = [0xEEBFE800, 0xEEBFF000, 0xEEBFFFFF]
@@ -32,6 +35,7 @@ class LibraryProgram:
     def __init__(self, chance, paths):
         self.chance, self.code, self.answers = chance, b"", 0
         self.paths = paths  # of the disk's files and directories
+        self.files = []  # where in the log the answers of open_file stand
 
     def usually(self, part, these, others):
         return self.chance.choice(these if self.chance.random() < part else others)
@@ -72,7 +76,17 @@ class LibraryProgram:
     def moved(self):
         """What read and write are given."""
         length = self.usually(0.85, LENGTHS, ODD_LENGTHS)
+        if self.files and self.chance.random() < 0.25:
+            length = self.chance.choice(LONG_LENGTHS)
+            return self.fd(), self.usually(0.9, [self.code_end(), self.log_at - 0xF00], [self.buffer(length)]), length
         return self.fd(), self.buffer(length), length
+
+    def code_end(self):
+        return self.log_at - 0x1000 + self.chance.randrange(9)
+
+    def set_file(self):
+        """EDX gets the descriptor of a file that was opened; or it was not, and then it is an error."""
+        self.code += b"\x8b\x15" + word(self.chance.choice(self.files))
 
     def put(self, where, content):
         """Bytes are written, by words."""
@@ -123,19 +137,33 @@ class LibraryProgram:
                         self.usually(0.3, [0], [self.page(), 0x30000000])),
             # only what is refused: it would wait for ever
             9: lambda: self.usually(0.5, [(chance.choice(ODD_PAGES[1:]), 0)], [(0, chance.choice([0x1000, 0x1001]))]),
+            10: lambda: (self.path(), self.usually(0.95, MODES, ODD_MODES)),
             11: lambda: (self.usually(0.9, FDS, ODD_FDS),),
             12: self.moved,
             13: self.moved,
-            14: lambda: (self.fd(), chance.choice([0, 7, 0x7FFFFFFF, 0x80000000])),
+            14: lambda: (self.fd(), chance.choice(SIZES)),
             15: lambda: (self.fd(), self.buffer(136)),
-            16: lambda: (self.fd(), chance.choice([0, 7, 0x7FFFFFFF, 0x80000000])),
+            16: lambda: (self.fd(), chance.choice(SIZES)),
             17: lambda: (self.path(),),
             19: lambda: (self.usually(0.9, FDS, ODD_FDS), self.usually(0.9, FDS, ODD_FDS)),
         }.get(number, tuple)()
+        if number in (11, 12, 13, 14, 15, 16, 19) and self.files and chance.random() < (0.3 if number == 11 else 0.8):
+            self.set_file()
+            given = (None, *given[1:])
         self.ask(chance.choice(NUMBERS) if number == 99 else number, *given)
+        if number == 10:
+            self.files.append(self.log_at + 4 * self.answers)
         self.log()
         if chance.random() < 0.2:
             self.log(chance.choice([EDX, ECX, EBX]))
+
+    def opens_file(self):
+        """One of the disk's, or a new one."""
+        where = self.log_at + 0xC00
+        self.put(where, self.chance.choice(self.paths + [b"new", b"/made"])[:300] + b"\0")
+        self.ask(10, where, self.chance.choice([0, 1, 2, 2, 2, 0x102, 0x102, 0x302]))
+        self.files.append(self.log_at + 4 * self.answers)
+        self.log()
 
     def access(self):
         """A word of a page is read or written, which may end the program."""
@@ -214,6 +242,8 @@ class LibraryProgram:
     def build(self):
         """The image."""
         chance = self.chance
+        if chance.random() < 0.6:
+            self.opens_file()
         for _ in range(chance.randint(3, 40)):
             act = chance.choices([self.service, self.access, self.new_page_used, self.stack], [12, 3, 2, 2])[0]
             act()
@@ -415,6 +445,8 @@ class ForkProgram(LibraryProgram):
         chance = self.chance
         for _ in range(chance.randint(0, 3)):
             self.new_page_used()
+        if chance.random() < 0.5:
+            self.opens_file()
         kind = chance.random()
         if kind < 0.3:
             self.fill_and_fork()
@@ -423,6 +455,64 @@ class ForkProgram(LibraryProgram):
         else:
             self.fork()
         self.acts(chance.randint(0, 12))
+        self.end()
+        assert len(self.code) < 0x2F00
+        return image(self.code, 0x6000)
+
+
+class FileProgram(ForkProgram):
+    """The same with files above all: they are opened, read, written, sized and sought, mostly as may be, by a parent and its children."""
+
+    def offset(self):
+        return self.usually(0.8, [0, 0, 1, 5, 100, 4090, 4095, 4096, 8190, 9000, 40950, 40960], SIZES)
+
+    def buffer_and_length(self):
+        length = self.usually(0.6, LENGTHS + [100], LONG_LENGTHS + [0])
+        where = self.log_at + 0x1000 + self.chance.randrange(40)
+        return (where, length) if self.chance.random() < 0.95 else (self.buffer(length), length)
+
+    def act_on_file(self):
+        chance = self.chance
+        number = chance.choices([10, 11, 12, 13, 14, 15, 16, 17, 18, 19], [3, 1, 6, 8, 5, 2, 3, 2, 1, 1])[0]
+        if number == 10:
+            self.opens_file()
+            return
+        if number == 17:
+            where = self.log_at + 0xC00
+            self.put(where, chance.choice(self.paths + [b"new", b"/made"])[:300] + b"\0")
+            given = (where,)
+        else:
+            self.set_file()
+            given = {
+                12: lambda: (None, *self.buffer_and_length()),
+                13: lambda: (None, *self.buffer_and_length()),
+                14: lambda: (None, self.offset()),
+                15: lambda: (None, self.log_at + 0x1000 + chance.randrange(40)),
+                16: lambda: (None, self.offset()),
+                19: lambda: (None, chance.choice([2, 3, 4, 5, 31])),
+            }.get(number, lambda: (None,))()
+        self.ask(number, *given)
+        self.log()
+        if number in (12, 15) and chance.random() < 0.5:
+            self.ask(1, given[1], 136)
+
+    def acts(self, count):
+        kinds = [self.act_on_file, super().service, self.write, self.fork]
+        for _ in range(count):
+            if len(self.code) < 0x2000:
+                self.chance.choices(kinds, [16, 1, 1, 0 if self.depth == self.depth_max else 1])[0]()
+
+    def build(self):
+        chance = self.chance
+        for _ in range(chance.randint(1, 3)):
+            self.opens_file()
+        if chance.random() < 0.1:
+            self.fill()
+            self.give_back(9)
+        self.acts(chance.randint(5, 15))
+        if chance.random() < 0.6:
+            self.fork()
+        self.acts(chance.randint(5, 25))
         self.end()
         assert len(self.code) < 0x2F00
         return image(self.code, 0x6000)

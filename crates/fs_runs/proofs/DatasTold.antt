@@ -129,7 +129,7 @@ words-byte byte at k small within =
     back : (at k : ℕ) → 4 ≤ k → at + 4 + (k - 4) ≡ at + k
     back at k high = omega (arith, high)
 
-length-name : (byte : ℕ → ℕ) (home : ℕ) → length (name_of byte home) ≤ 128
+pub length-name : (byte : ℕ → ℕ) (home : ℕ) → length (name_of byte home) ≤ 128
 unfolding name_of
 length-name byte home =
     let xs : List ℕ = values_below 128 (λ i. byte (home + i)) in

@@ -23,6 +23,7 @@ use Rattle.fs_seen.specs.BlockSteps.{SeesAlike}
 use Rattle.fs_seen.specs.ServerMemory.{HasRequested, StandsOver, entry_of, request_page, serving_in, view_in}
 use Rattle.fs_seen.specs.ServerSees.{HasCalledAt}
 use Rattle.fs_seen.specs.ServerWhole.{IsServing}
+use Rattle.fs_seen.proofs.ForOthers.{mapping}
 use Rattle.fs_seen.proofs.Over.{bytes_alike, same_entry}
 use Rattle.fs_seen.proofs.ServesFor.{serves_for}
 use Rattle.fs_seen.proofs.StaysSo.{CountsStay, Stays, disk_same, same_frames, same_holders, same_table}
@@ -66,16 +67,34 @@ sees_same d s mid n h k counts entry bytes message = record {
     page_same : (memory_in d mid n).page ≡ (memory_in d s n).page
     page_same = bytes_alike s mid n (λ x is. (h.request x is).bits) (same_entry s mid n entry bytes)
 
--- where the message is as it was, over the page that the request has now
-pub sees_paged : (d : Disk) (s mid : KernelState) (n : ℕ) → Stays s mid n → CountsStay s mid n →
+-- where the page of the request and the message are as they were, and frames are mapped as often as before
+pub sees_mapped : (d : Disk) (s mid : KernelState) (n : ℕ) → StandsOver d s n → Stays s mid n → entry_of mid n request_page ≡ entry_of s n request_page →
+    ((e : Entry) → entry_of s n request_page ≡ Some e → mid.spaces.pages e.frame ≡ s.spaces.pages e.frame) →
     (slot_at mid n).rendezvous ≡ (slot_at s n).rendezvous →
-    SeesAlike (record (view_in d s n) { memory = record { disk = (memory_in d s n).disk; page = (memory_in d mid n).page } }) (view_in d mid n)
-sees_paged d s mid n k counts message = record {
+    SeesAlike (view_in d s n) (mapping (view_in d mid n) (λ frame. reference_count s.spaces frame))
+sees_mapped d s mid n h k entry bytes message = record {
+  memory = λ i. record {
+    disk = disk_same s mid n k d i;
+    page = bytes_alike s mid n (λ x is. (h.request x is).bits) (same_entry s mid n entry bytes) i;
+  };
+  homes = λ i number. (same_table s mid n k).homes number i;
+  pages = λ i number. (same_table s mid n k).pages number i;
+  frames = λ i number. same_frames s mid n k number i;
+  holders = λ number there. refl;
+  value = λ i. (message i).value;
+  sender = λ i. (message i).sender;
+}
+
+-- and where the message is as it was, over the page that the request has now
+pub sees_paged : (d : Disk) (s mid : KernelState) (n : ℕ) → Stays s mid n → (slot_at mid n).rendezvous ≡ (slot_at s n).rendezvous →
+    SeesAlike (record (view_in d s n) { memory = record { disk = (memory_in d s n).disk; page = (memory_in d mid n).page } })
+    (mapping (view_in d mid n) (λ frame. reference_count s.spaces frame))
+sees_paged d s mid n k message = record {
   memory = λ i. record { disk = disk_same s mid n k d i; page = (memory_in d mid n).page };
   homes = λ i number. (same_table s mid n k).homes number i;
   pages = λ i number. (same_table s mid n k).pages number i;
   frames = λ i number. same_frames s mid n k number i;
-  holders = same_holders s mid n k counts;
+  holders = λ number there. refl;
   value = λ i. (message i).value;
   sender = λ i. (message i).sender;
 }

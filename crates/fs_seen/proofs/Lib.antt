@@ -36,7 +36,6 @@ pub mod Between
 pub mod BetweenRequests
 pub mod AskedNow
 pub mod RepliesNow
-pub mod TableStays
 pub mod TablePages
 pub mod Repaged
 pub mod OthersNow
@@ -45,3 +44,9 @@ pub mod AskedByPages
 pub mod FirstServes
 pub mod PlansFall
 pub mod ActsSoon
+pub mod ForOthers
+pub mod TablesLeft
+pub mod RepliesGiven
+pub mod CountsTold
+pub mod ClientSteps
+pub mod NamesShort

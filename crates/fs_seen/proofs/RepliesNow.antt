@@ -103,7 +103,7 @@ module _ (a : AbstractState) (d : Disk) (s : KernelState) (h : IsServing d s 0 a
   abbrev st : ServerState
   st = server_at s 0
 
-  standing : (at : ServerStep) → st.step ≡ at → at ≢ step.ReadingKind → StandsServing d.count a (serving_in d s 0)
+  pub standing : (at : ServerStep) → st.step ≡ at → at ≢ step.ReadingKind → StandsServing d.count a (serving_in d s 0)
   standing at is other = stands_at a d s 0 h.serves (λ same. other (sym is ∙ same))
 
   module _ (stands : StandsServing d.count a (serving_in d s 0)) (replies : IsReplying a (serving_in d s 0) stands.before) where

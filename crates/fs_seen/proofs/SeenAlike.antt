@@ -141,6 +141,7 @@ module _ (a : AbstractState) (it : Serving) (before : Memory) (holders : ℕ →
     place = h.place;
     is_busy = busy_now h.is_busy;
     has_acted = h.has_acted;
+    closed = h.closed;
     stays = h.stays;
     not_opened = h.not_opened;
   }
@@ -187,6 +188,7 @@ module _ (blocks : ℕ) (a : AbstractState) (it : Serving) (before : Memory) (ho
     is_busy = busy_now a it before holders same h.is_busy;
     is_open = h.is_open;
     alike = h.alike;
+    closed = h.closed;
     on_its_way = h.on_its_way;
     opening = λ is.
         (let o = h.opening is in (o.0, o.1, opening_now a it before holders same o.2, page_now a it before holders same o.3));

@@ -65,6 +65,7 @@ module _ (blocks : ℕ) (a : AbstractState) (it : Serving) (before : Memory) (ho
     is_busy = busy_alt a it before home at count it.job h.is_busy;
     is_open = h.is_open;
     alike = h.alike;
+    closed = h.closed;
     on_its_way = h.on_its_way;
     opening = λ is. (let o = h.opening is in (o.0, o.1, opening_alt a it before home at count it.job o.2, o.3));
     moving = h.moving;
@@ -142,6 +143,7 @@ module _ (a : AbstractState) (it : Serving) (before : Memory) (job : TreeState) 
     place = h.place;
     is_busy = busy_as h.is_busy;
     has_acted = h.has_acted;
+    closed = h.closed;
     stays = h.stays;
     not_opened = h.not_opened;
   }

@@ -1,4 +1,4 @@
--- Where nothing was ever opened the table stands over any disk, and of the abstract state only the server and the files count.
+-- Where nothing was ever opened the table stands over any disk.
 use Rattle.std.proofs.Common.{◌≡◌, ◌∙◌, ◌+◌, ◌*◌, ◌<◌, ℕ, zero, suc, Bool, true, false, List, [], ◌∷◌, Option, Some, None, refl, sym, ap}
 use Rattle.std.proofs.Common.{if◌then◌else◌}
 use Rattle.std.proofs.lemmas.Bool.Decides.{nat_tests}
@@ -6,18 +6,12 @@ use Rattle.std.proofs.lemmas.Option.{none-some}
 use Rattle.std.proofs.Common.{arith}
 use Rattle.std.specs.Prelude.{is_some, nat_lt, replicate, slice_index}
 use Rattle.std.specs.Int.{w32, from_le_bytes}
-use Rattle.jos_base.specs.declared.numbers.TheConstants.{NENV}
 use Rattle.jos_base.specs.SpacesState.{zero_page}
-use Rattle.jos_base.proofs.Below.{some_below-none}
-use Rattle.lib_os.specs.declared.numbers.TheConstants.{DESCRIPTORS, MAXOPEN}
-use Rattle.lib_os.specs.AbstractPipes.{holds_such, is_such}
-use Rattle.lib_os.specs.AbstractState.{AbstractState, Born, OpenFile, TablePlace, file, terminal}
-use Rattle.lib_os.specs.FileServer.{is_at, is_file_open}
-use Rattle.lib_os.specs.GuestStep.{born_in}
-use Rattle.lib_os.specs.StandsFor.{AllConsoles}
+use Rattle.lib_os.specs.declared.numbers.TheConstants.{MAXOPEN}
+use Rattle.lib_os.specs.AbstractState.{AbstractState, OpenFile, file, terminal}
 use Rattle.fs_serving.specs.ServerViews.{word_of}
 use Rattle.fs_seen.specs.ServerMemory.{bytes_by, entry_of, place_page, records_page}
-use Rattle.fs_seen.specs.ServerWhole.{UnopenedAlike, UnopenedStays, UnopenedTables, UnopenedViews}
+use Rattle.fs_seen.specs.ServerWhole.{AllConsoles, UnopenedTables, UnopenedViews}
 
 -- no object is a file
 no_file : {X : Type 0} (a : AbstractState) → AllConsoles a → (name : ℕ) (f : OpenFile) → a.objects name ≡ file f → X
@@ -70,34 +64,3 @@ unopened_views a d s n entry stands zero_bytes alone places = record {
         bytes_by s (if t then entry_of s n (place_page number) else None) ≡ None
     page_by number true on = let below : number < MAXOPEN = grind (arith, nat_tests) in ap (bytes_by s) (alone number below)
     page_by number false off = refl
-
-pub unopened_stays : UnopenedStays
-unopened_stays a b d e s after n none same opened = record {
-  homes = λ number. same.homes number ∙ none.homes number;
-  pages = λ number. same.pages number ∙ none.pages number;
-  places = λ number. ap (λ (o : ℕ → TablePlace). (o number).held_by) opened ∙ none.places number;
-}
-
--- ---- the abstract state
-
-module _ (a : AbstractState) (consoles : AllConsoles a) (way : List ℕ) where
-  such_none : (o : Option ℕ) → is_such a (is_at way) o ≡ false
-  such_none None = refl
-  such_none (Some name) = ap (is_at way) (consoles name)
-
-  holds_none : (o : Option Born) → holds_such a (is_at way) o ≡ false
-  holds_none None = refl
-  holds_none (Some b) = some_below-none (λ fd. is_such a (is_at way) (b.descriptors fd)) DESCRIPTORS (λ fd below. such_none (b.descriptors fd))
-
-  open_none : is_file_open a way ≡ false
-  open_none = some_below-none (λ n. holds_such a (is_at way) (born_in (a.slots n))) NENV (λ n below. holds_none (born_in (a.slots n)))
-
-pub unopened_alike : UnopenedAlike
-unopened_alike a b consoles behind server files opened = record {
-  server = server;
-  files = files;
-  opened = opened;
-  objects = λ i name. (behind name ∙ sym (consoles name)) i;
-  held = λ name f is. no_file a consoles name f is;
-  file_open = λ i way. (open_none b behind way ∙ sym (open_none a consoles way)) i;
-}

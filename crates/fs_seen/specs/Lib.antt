@@ -3,3 +3,4 @@ pub mod ServerSees
 pub mod BlockSteps
 pub mod ServerWhole
 pub mod ServerSoon
+pub mod ServerOthers

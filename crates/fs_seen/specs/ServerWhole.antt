@@ -1,9 +1,7 @@
 -- That the file server serves from one request to the next: while it waits it stands over the disk and its table, a request that comes is one of the
 -- abstract server's, it replies, and gives the page of the request back. What is kept of it at each moment is `IsServing`.
 use Rattle.std.specs.Prelude.{◌≡◌, ◌≢◌, ◌<◌, ◌≤◌, ℕ, ◌+◌, ◌/◌, ◌%◌, nat_lt, Bool, true, false, is_some, List, [], length, slice_index}
-use Rattle.std.specs.Prelude.{Option, Some, None, if◌then◌else◌}
-use Rattle.jos_host.specs.Files.{Files}
-use Rattle.jos_host.specs.Frames.{Around}
+use Rattle.std.specs.Prelude.{Some, None, if◌then◌else◌}
 use Rattle.jos_base.specs.declared.numbers.TheConstants.{E_IPC_NOT_RECV, NENV, PGSIZE, PTE_P, PTE_U, PTE_W, UTOP}
 use Rattle.jos_base.specs.Environments.{is_live}
 use Rattle.jos_base.specs.KernelState.{KernelState, slot_at}
@@ -15,15 +13,16 @@ use Rattle.lib_os.specs.declared.progress.Progress.{Progress}
 use Rattle.lib_os.specs.declared.progress.Progress.TheVariants as progress
 use Rattle.lib_os.specs.declared.request.RequestKind.{RequestKind}
 use Rattle.lib_os.specs.Requests as requests
-use Rattle.lib_os.specs.AbstractState.{AbstractState, OpenFile, Request, Server, file, acted, busy, idle, leaving, looking}
-use Rattle.lib_os.specs.Descriptors.{is_held}
-use Rattle.lib_os.specs.Disk.{Disk, DiskFile, byte_in_blocks, disk_in}
+use Rattle.lib_os.specs.AbstractState.{AbstractState, OpenFile, Request, Server, file, acted, busy, idle, leaving, looking, terminal}
+use Rattle.lib_os.specs.AbstractLaws.{client_served}
+use Rattle.lib_os.specs.Descriptors.{holds_in, is_held}
+use Rattle.lib_os.specs.Disk.{Disk, byte_in_blocks}
 use Rattle.lib_os.specs.FileServer.{is_file_open, request_begun, server_step}
+use Rattle.lib_os.specs.GuestStep.{born_in}
 use Rattle.lib_os.specs.InOrder.{IsInOrder}
 use Rattle.lib_os.specs.LibraryPages.{region_index}
 use Rattle.lib_os.specs.LibrarySteps.{request_perm, with_message_in, with_word}
 use Rattle.lib_os.specs.MadeCalls.{is_server_page}
-use Rattle.lib_os.specs.StandsFor.{AllConsoles}
 use Rattle.lib_os.specs.UserCalls.{Output, is_file_server}
 use Rattle.fs_layout.specs.declared.numbers.TheConstants.{BLKSIZE, MAXBLOCKS}
 use Rattle.fs_blocks.specs.declared.place.CachePlace.TheVariants as cache
@@ -34,10 +33,10 @@ use Rattle.fs_requests.specs.declared.state.ServerStep.TheVariants as step
 use Rattle.fs_requests.specs.ServerPlans.{call_at, next_at, replying}
 use Rattle.fs_serving.specs.ServerRuns.{AsksFor, HasFiles, StandsServing, TableStands, client_of}
 use Rattle.fs_serving.specs.ServerViews.{View}
-use Rattle.fs_server.specs.ServerSteps.{HasFlushed, HasWorked, gone_on, server_at}
+use Rattle.fs_server.specs.ServerSteps.{gone_on, server_at}
 use Rattle.fs_seen.specs.ServerMemory.{AreDiskBytes, HasRequested, IsRequestPage, StandsOver, bytes_by, entry_of, has_request, home_in}
 use Rattle.fs_seen.specs.ServerMemory.{is_table_page, place_entry, place_page, records_page, request_page, serving_in, view_in}
-use Rattle.fs_seen.specs.ServerSees.{AllStands, HasCalledAt, HasServed, is_quiet, is_working}
+use Rattle.fs_seen.specs.ServerSees.{HasCalledAt, HasServed}
 
 -- ---- at each moment
 
@@ -83,33 +82,6 @@ pub record SameTable (s after : KernelState) (n : ℕ) : Type 0 where
   pub homes : (number : ℕ) → home_in after n number ≡ home_in s n number
   pub pages : (number : ℕ) → bytes_by after (place_entry after n number) ≡ bytes_by s (place_entry s n number)
 
--- the steps that store nothing, and take no page
-abbrev pub stores_nothing : ServerStep → Bool
-stores_nothing step.StoringRecord = false
-stores_nothing step.StoringDevice = false
-stores_nothing step.StoringMode = false
-stores_nothing step.StoringFile = false
-stores_nothing step.StoringOffset = false
-stores_nothing at = is_quiet at
-
--- At such a step its call leaves the table,
-abbrev pub CallsLeaveTable : Type 0
-CallsLeaveTable = (a : AbstractState) (d : Disk) (s after : KernelState) (output : Output) (done : Progress) →
-    stores_nothing (server_at s 0).step ≡ true → HasRequested a.server s 0 → AllStands d s 0 → StandsServing d.count a (serving_in d s 0) →
-    IsInOrder after → HasCalledAt s after 0 output done → SameTable s after 0
-
--- and so does a step of a flush.
-abbrev pub FlushesLeaveTable : Type 0
-FlushesLeaveTable = (disk : DiskFile) (before : Files) (s after : KernelState) (files : Around (Option Files)) (output : Output) (done : Progress) →
-    (server_at s 0).step ≡ step.Flushing → StandsOver (disk_in before disk) s 0 → IsInOrder after → files.before ≡ Some before →
-    HasFlushed (server_at s 0) disk s after 0 files output done → SameTable s after 0
-
--- And so does a step of a job.
-abbrev pub JobsLeaveTable : Type 0
-JobsLeaveTable = (count : ℕ) (a : AbstractState) (disk : DiskFile) (before now : Files) (s after : KernelState) (done : Progress) →
-    is_working (server_at s 0).step ≡ true → HasRequested a.server s 0 → AllStands (disk_in before disk) s 0 →
-    StandsServing count a (serving_in (disk_in before disk) s 0) → HasWorked (server_at s 0) disk before now s after 0 done → SameTable s after 0
-
 -- It serves on at this step, and the table is as it was.
 pub record ServesOn (d : Disk) (s after : KernelState) (a : AbstractState) (at : ServerStep) : Type 0 where
   pub serving : IsServing d after 0 a
@@ -117,6 +89,10 @@ pub record ServesOn (d : Disk) (s after : KernelState) (a : AbstractState) (at :
   pub table : SameTable s after 0
 
 -- ---- the start
+
+-- each object is the console
+abbrev pub AllConsoles : AbstractState → Type 0
+AllConsoles a = (name : ℕ) → a.objects name ≡ terminal
 
 -- the bytes of a disk
 abbrev pub bytes_on : Disk → ℕ → ℕ
@@ -265,6 +241,8 @@ pub record SameServed (a b : AbstractState) : Type 0 where
   pub opened : b.opened ≡ a.opened
   pub objects : b.objects ≡ a.objects
   pub held : (name : ℕ) (f : OpenFile) → a.objects name ≡ file f → is_held b name ≡ is_held a name
+  pub holds : (client name : ℕ) (f : OpenFile) → a.objects name ≡ file f → client_served a.server ≡ Some client →
+      holds_in (born_in (a.slots client)) name ≡ true → holds_in (born_in (b.slots client)) name ≡ true
   pub file_open : is_file_open b ≡ is_file_open a
 
 -- It serves on where the table stands for that abstract state.
@@ -273,10 +251,6 @@ OthersServe = (a b : AbstractState) (d : Disk) (s after : KernelState) → IsSer
     SameServed a b →
     ((disk : ℕ → ℕ) → TableStands disk a (view_in d after 0) → TableStands disk b (view_in d after 0)) →
     ServesOn d s after b (server_at s 0).step
-
--- So its table is as it was.
-abbrev pub OthersLeaveTable : Type 0
-OthersLeaveTable = (server : Server) (s after : KernelState) (n : ℕ) → LeavesPages server s after n → SameTable s after n
 
 -- ---- where nothing was ever opened
 
@@ -292,16 +266,7 @@ UnopenedViews = (a : AbstractState) (d : Disk) (s : KernelState) (n : ℕ) (entr
     s.spaces.pages entry.frame ≡ zero_page → ((number : ℕ) → number < MAXOPEN → entry_of s n (place_page number) ≡ None) →
     ((number : ℕ) → (a.opened number).held_by ≡ None) → NothingOpened a (view_in d s n)
 
--- It stays so where the table stays.
-abbrev pub UnopenedStays : Type 0
-UnopenedStays = (a b : AbstractState) (d e : Disk) (s after : KernelState) (n : ℕ) → NothingOpened a (view_in d s n) → SameTable s after n →
-    b.opened ≡ a.opened → NothingOpened b (view_in e after n)
-
 -- The table stands so, over any disk, where each object is the console.
 abbrev pub UnopenedTables : Type 0
 UnopenedTables = (disk : ℕ → ℕ) (a : AbstractState) (v : View) → NothingOpened a v → AllConsoles a →
     ((name : ℕ) → is_held a name ≡ true → name < a.next_name) → TableStands disk a v
-
--- For such states nothing else counts but the server, the files and the table.
-abbrev pub UnopenedAlike : Type 0
-UnopenedAlike = (a b : AbstractState) → AllConsoles a → AllConsoles b → b.server ≡ a.server → b.files ≡ a.files → b.opened ≡ a.opened → SameServed a b

@@ -1,12 +1,14 @@
 //! What the server's calls mean to it. Nothing here is to be run: each clause is a theorem.
 
 ghost use Rattle.fs_seen.specs.BlockSteps.{FlushesServe, JobsAreLawful, JobsServe};
+ghost use Rattle.fs_seen.specs.ServerOthers.{ClientsLeaveServed, ClientsServe, FilesAreApart, GivenFilesAreApart, RepliesGive, RepliesGiving, RepliesWithPage};
+ghost use Rattle.fs_seen.specs.ServerOthers.{StandingCountsTell, TablesAreLeft};
 ghost use Rattle.fs_seen.specs.ServerSees.{CallsAreSeen, CallsGoOn, CallsServe, PagesAreTaken};
 ghost use Rattle.fs_seen.specs.ServerSoon.{CallsActSoon, FlushesActSoon, JobsActSoon, ServersActWithin};
-ghost use Rattle.fs_seen.specs.ServerWhole.{AskedByPage, AskedByWord, AskedServes, CallsLeaveTable, FlushesLeaveTable, JobsLeaveTable};
-ghost use Rattle.fs_seen.specs.ServerWhole.{OthersLeaveTable, OthersServe, PausesServe, ReceivesServe, ReleasesServe, RepliesServe};
-ghost use Rattle.fs_seen.specs.ServerWhole.{RepliesWithWord, ServedIsKept, ServersStand, StartsServe, UnopenedAlike};
-ghost use Rattle.fs_seen.specs.ServerWhole.{UnopenedStays, UnopenedTables, UnopenedViews, WaitsServe};
+ghost use Rattle.fs_seen.specs.ServerWhole.{AskedByPage, AskedByWord, AskedServes};
+ghost use Rattle.fs_seen.specs.ServerWhole.{OthersServe, PausesServe, ReceivesServe, ReleasesServe, RepliesServe};
+ghost use Rattle.fs_seen.specs.ServerWhole.{RepliesWithWord, ServedIsKept, ServersStand, StartsServe};
+ghost use Rattle.fs_seen.specs.ServerWhole.{UnopenedTables, UnopenedViews, WaitsServe};
 
 /// What comes of a call that concerns nobody else is what the server sees, and the call does what it is to do.
 #[tactic(auto, using(crate::proofs::CallsSeen::calls_are_seen))]
@@ -60,24 +62,6 @@ pub fn server_stands_where_it_serves()
 #[tactic(auto, using(crate::proofs::ServesFor::served_is_kept))]
 pub fn server_serves_on()
     ensures { ServedIsKept }
-{}
-
-/// A call that stores nothing leaves the table of open files as it was.
-#[tactic(auto, using(crate::proofs::TableStays::calls_leave_table))]
-pub fn server_calls_leave_the_table()
-    ensures { CallsLeaveTable }
-{}
-
-/// And so does a step of a flush.
-#[tactic(auto, using(crate::proofs::TableStays::flushes_leave_table))]
-pub fn server_flushes_leave_the_table()
-    ensures { FlushesLeaveTable }
-{}
-
-/// So does a step of its job on files.
-#[tactic(auto, using(crate::proofs::TableStays::jobs_leave_table))]
-pub fn server_jobs_leave_the_table()
-    ensures { JobsLeaveTable }
 {}
 
 /// At its start it serves for an abstract state that has the files of the disk.
@@ -146,34 +130,16 @@ pub fn server_is_left_alone()
     ensures { OthersServe }
 {}
 
-/// Its table is as it was then.
-#[tactic(auto, using(crate::proofs::OthersNow::others_leave_table))]
-pub fn servers_table_is_left_alone()
-    ensures { OthersLeaveTable }
-{}
-
 /// Where the page of the records holds zeros, and no place has a page, nothing was opened.
 #[tactic(auto, using(crate::proofs::Unopened::unopened_views))]
 pub fn unopened_tables_are_empty()
     ensures { UnopenedViews }
 {}
 
-/// It is so as long as the table stays.
-#[tactic(auto, using(crate::proofs::Unopened::unopened_stays))]
-pub fn unopened_tables_stay()
-    ensures { UnopenedStays }
-{}
-
 /// So the table stands, over any disk, where each object is the console.
 #[tactic(auto, using(crate::proofs::Unopened::unopened_tables))]
 pub fn unopened_tables_stand()
     ensures { UnopenedTables }
-{}
-
-/// Of the abstract state the server, the files and the table count there, and nothing else.
-#[tactic(auto, using(crate::proofs::Unopened::unopened_alike))]
-pub fn unopened_states_are_alike()
-    ensures { UnopenedAlike }
 {}
 
 /// A server that is not idle makes its act within a number of its own steps, which is small.
@@ -198,4 +164,58 @@ pub fn server_jobs_act_soon()
 #[tactic(auto, using(crate::proofs::ActsSoon::flushes_act_soon))]
 pub fn server_flushes_act_soon()
     ensures { FlushesActSoon }
+{}
+
+/// A step of a client's that leaves the server leaves what that has, and whom it serves holds the files that it held.
+#[tactic(auto, using(crate::proofs::ClientSteps::clients_leave_served))]
+pub fn clients_leave_who_is_served()
+    ensures { ClientsLeaveServed }
+{}
+
+/// Behind another's step, in which a file may be given up, each place that is held has a file, and has it alone.
+#[tactic(auto, using(crate::proofs::TablesLeft::files_are_apart))]
+pub fn open_files_are_apart()
+    ensures { FilesAreApart }
+{}
+
+/// How often the page of a place is mapped tells then who holds its file.
+#[tactic(auto, using(crate::proofs::CountsTold::standing_counts_tell))]
+pub fn open_files_are_counted()
+    ensures { StandingCountsTell }
+{}
+
+/// And the table stands, where how often pages are mapped tells who holds their files.
+#[tactic(auto, using(crate::proofs::TablesLeft::tables_are_left))]
+pub fn servers_tables_are_left()
+    ensures { TablesAreLeft }
+{}
+
+/// So the server serves on.
+#[tactic(auto, using(crate::proofs::OthersNow::clients_serve))]
+pub fn server_serves_beside_clients()
+    ensures { ClientsServe }
+{}
+
+/// Where it has opened a file the page of the file's place goes with the reply.
+#[tactic(auto, using(crate::proofs::RepliesGiven::replies_with_page))]
+pub fn server_replies_with_a_page()
+    ensures { RepliesWithPage }
+{}
+
+/// The abstract server gives what it has opened to its client so, and nothing else.
+#[tactic(auto, using(crate::proofs::RepliesGiven::replies_give))]
+pub fn replies_give_what_is_opened()
+    ensures { RepliesGive }
+{}
+
+/// Behind the reply each place that is held has a file, and has it alone.
+#[tactic(auto, using(crate::proofs::RepliesGiven::given_files_are_apart))]
+pub fn given_files_are_apart()
+    ensures { GivenFilesAreApart }
+{}
+
+/// The server serves on behind it, and is about to give back the page of the request.
+#[tactic(auto, using(crate::proofs::RepliesGiven::replies_giving))]
+pub fn server_replies_giving()
+    ensures { RepliesGiving }
 {}

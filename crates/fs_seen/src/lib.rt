@@ -12,11 +12,10 @@
 mod laws;
 
 pub use laws::{
-    server_calls_are_seen, server_calls_go_on, server_calls_leave_the_table, server_calls_serve,
-    server_flushes_leave_the_table, server_flushes_serve, server_is_asked,
-    server_is_asked_by_a_word, server_is_left_alone, server_jobs_are_lawful, server_jobs_serve,
-    server_pages_are_taken, server_pauses, server_releases_its_page, server_replies,
-    server_replies_with_a_word, server_serves_on, server_stands_where_it_serves, server_starts,
-    server_waits_for_a_request, server_waits_to_reply, unopened_states_are_alike,
-    unopened_tables_are_empty, unopened_tables_stand, unopened_tables_stay,
+    server_calls_are_seen, server_calls_go_on, server_calls_serve, server_flushes_serve,
+    server_is_asked, server_is_asked_by_a_word, server_is_left_alone, server_jobs_are_lawful,
+    server_jobs_serve, server_pages_are_taken, server_pauses, server_releases_its_page,
+    server_replies, server_replies_with_a_word, server_serves_on, server_stands_where_it_serves,
+    server_starts, server_waits_for_a_request, server_waits_to_reply, unopened_tables_are_empty,
+    unopened_tables_stand,
 };

@@ -177,6 +177,7 @@ flushing count a it before files table (is_busy, memory) = record {
     place = None;
     is_busy = record { server = is_busy.server; kind_is = is_busy.kind_is; asks = is_busy.asks };
     has_acted = syncs-so (is_file_open a) before it.view.memory memory;
+    closed = tt;
     stays = inl refl;
     not_opened = λ e. cc;
   };

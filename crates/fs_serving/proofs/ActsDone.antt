@@ -2,21 +2,20 @@
 -- that it leaves, for no act moves a record, and no file is removed that is open.
 use Rattle.std.proofs.Common.{◌≡◌, ◌∙◌, ◌<◌, ◌*◌, ◌||◌, ◌++◌, ℕ, zero, suc, Bool, true, false, List, [], ◌∷◌, length, Option, Some, None}
 use Rattle.std.proofs.Common.{refl, sym, ap, subst, arith, inl, inr}
-use Rattle.std.specs.Prelude.{◌==◌, ◌+◌, ◌-◌, ◌&&◌, nat_le, nat_lt, slice_index, if◌then◌else◌}
+use Rattle.std.specs.Prelude.{◌==◌, ◌+◌, ◌-◌, slice_index, if◌then◌else◌}
 use Rattle.std.proofs.lemmas.Bool.{false≢true}
 use Rattle.std.proofs.lemmas.Bool.Decides.{nat_tests}
 use Rattle.std.proofs.lemmas.Slice.Eq.{bytes_eq-Decides}
 use Rattle.std.proofs.Math.Bool.{or-true}
-use Rattle.jos_base.specs.declared.numbers.TheConstants.{E_INVAL, E_NOT_FOUND, E_NO_DISK, NENV}
+use Rattle.jos_base.specs.declared.numbers.TheConstants.{E_INVAL, NENV}
 use Rattle.jos_base.specs.Below.{some_below}
-use Rattle.jos_base.specs.Words.{has_bit, negated}
-use Rattle.fs_layout.specs.declared.numbers.TheConstants.{BLKSIZE, MAXFILESIZE, O_CREAT, O_EXCL, O_TRUNC}
-use Rattle.fs_layout.specs.FileTree.{FileAct, FileSystem, NamedNode, Node, a_directory, a_file, blocks_free, blocks_in_use, directory_size}
-use Rattle.fs_layout.specs.FileTree.{listed, named_at, needs_indirect, node_at, open_path, read_file, records_from, remove_path, set_file_size}
-use Rattle.fs_layout.specs.FileTree.{stat_file, sync_files, with_node, without_node, write_file}
-use Rattle.fs_layout.specs.FileActs.{Acted, Looked, bad_path, bytes_at, create_in, done, done_if_it_fits, file_act, grown_file, handed_back, look_up}
-use Rattle.fs_layout.specs.FileActs.{missing, nowhere, on_file, open_act, open_looked, open_there, overwritten, read_act, refused, remove_act}
-use Rattle.fs_layout.specs.FileActs.{remove_looked, resized, set_size_act, set_size_to, stat_act, stat_of, there, with_new_file, write_act, write_to}
+use Rattle.jos_base.specs.Words.{negated}
+use Rattle.fs_layout.specs.declared.numbers.TheConstants.{BLKSIZE}
+use Rattle.fs_layout.specs.FileTree.{FileAct, FileSystem}
+use Rattle.fs_layout.specs.FileTree.{open_path, read_file, remove_path, set_file_size}
+use Rattle.fs_layout.specs.FileTree.{stat_file, sync_files, write_file}
+use Rattle.fs_layout.specs.FileActs.{Acted, done, file_act}
+use Rattle.fs_layout.specs.FileActs.{there}
 use Rattle.fs_layout.specs.DiskImage.{block_count, is_directory_at}
 use Rattle.fs_layout.specs.DiskFiles.{IsDiskImage, file_system_of}
 use Rattle.fs_acts.specs.BlockActs.{Led, a_record, empty_it, led_to, place_at, plan_of, planned, remove_led, resizing, turned_down}
@@ -29,83 +28,12 @@ use Rattle.lib_os.specs.AbstractPipes.{holds_such, is_such}
 use Rattle.lib_os.specs.Descriptors.{holds_in, is_held, is_name}
 use Rattle.lib_os.specs.FileServer.{is_at, is_file_open}
 use Rattle.lib_os.specs.GuestStep.{born_in}
+use Rattle.lib_os.proofs.ServerActs.{blocks_stay}
 use Rattle.fs_serving.specs.ServerRuns.{HasFile, HasFiles, PlaceStands, TableStands}
 use Rattle.fs_serving.specs.ServerViews.{View}
 use Rattle.fs_serving.proofs.Pieces.{ActIsDone, ActsAreDone}
 
 -- ---- an act leaves the number of blocks
-
-abbrev Keeps : FileSystem → Acted → Type 0
-Keeps s did = did.files.blocks ≡ s.blocks
-
-keeps-either : (s : FileSystem) (b : Bool) (one other : Acted) → Keeps s one → Keeps s other → Keeps s (if b then one else other)
-keeps-either s true one other first second = first
-keeps-either s false one other first second = second
-
-keeps-fits : (s after : FileSystem) (answer : ℕ) → after.blocks ≡ s.blocks → Keeps s (done_if_it_fits s after answer)
-keeps-fits s after answer same =
-    keeps-either s (nat_le (blocks_in_use after - blocks_in_use s) (blocks_free s)) (done after answer) (refused s E_NO_DISK) same refl
-
-keeps-on_file : (s : FileSystem) (node : Option Node) (act : List ℕ → Bool → Acted) → ((bytes : List ℕ) (indirect : Bool) → Keeps s (act bytes indirect)) →
-    Keeps s (on_file s node act)
-keeps-on_file s None act each = refl
-keeps-on_file s (Some (a_directory records indirect)) act each = refl
-keeps-on_file s (Some (a_file bytes indirect)) act each = each bytes indirect
-
-keeps-write : (s : FileSystem) (way : List ℕ) (at : ℕ) (new : List ℕ) (bytes : List ℕ) (indirect : Bool) → Keeps s (write_to s way at new bytes indirect)
-keeps-write s way at [] bytes indirect = refl
-keeps-write s way at (first ∷ rest) bytes indirect =
-    let after : FileSystem = with_node s way (grown_file (overwritten bytes at (first ∷ rest)) indirect) in
-    keeps-either s (nat_lt MAXFILESIZE (at + length (first ∷ rest))) (refused s E_NO_DISK) (done_if_it_fits s after (length (first ∷ rest))) refl
-    (keeps-fits s after (length (first ∷ rest)) refl)
-
-keeps-size : (s : FileSystem) (way : List ℕ) (size : ℕ) (bytes : List ℕ) (indirect : Bool) → Keeps s (set_size_to s way size bytes indirect)
-keeps-size s way size bytes indirect =
-    let after : FileSystem = with_node s way (a_file (resized bytes size) (needs_indirect size)) in
-    keeps-either s (nat_lt MAXFILESIZE size) (refused s E_NO_DISK) (done_if_it_fits s after 0) refl (keeps-fits s after 0 refl)
-
-keeps-stat : (s : FileSystem) (named : Option NamedNode) → Keeps s (stat_of s named)
-keeps-stat s None = refl
-keeps-stat s (Some named) = keeps-on_file s (Some named.node) _ (λ bytes indirect. refl)
-
-keeps-create : (s : FileSystem) (way : List ℕ) (directory : Node) (name : List ℕ) → Keeps s (create_in s way directory name)
-keeps-create s way (a_file bytes indirect) name = refl
-keeps-create s way (a_directory records indirect) name =
-    let list : List (Option NamedNode) = with_new_file name (listed records) in
-    let after : FileSystem = with_node s way (a_directory (records_from list) (indirect || needs_indirect (directory_size list))) in
-    keeps-either s (nat_lt MAXFILESIZE (directory_size list)) (refused s E_NO_DISK) (done_if_it_fits s after 0) refl (keeps-fits s after 0 refl)
-
-keeps-there : (s : FileSystem) (mode : ℕ) (way : List ℕ) (node : Node) → Keeps s (open_there s mode way node)
-keeps-there s mode way (a_directory records indirect) = refl
-keeps-there s mode way (a_file bytes indirect) =
-    keeps-either s (has_bit mode O_TRUNC) (set_size_to s way 0 bytes indirect) (done s 0) (keeps-size s way 0 bytes indirect) refl
-
-keeps-open : (s : FileSystem) (mode : ℕ) (looked : Looked) → Keeps s (open_looked s mode looked)
-keeps-open s mode bad_path = refl
-keeps-open s mode nowhere = refl
-keeps-open s mode (missing way directory name) =
-    keeps-either s (has_bit mode O_CREAT) (create_in s way directory name) (refused s E_NOT_FOUND) (keeps-create s way directory name) refl
-keeps-open s mode (there way node) =
-    keeps-either s (has_bit mode O_CREAT && has_bit mode O_EXCL) _ (open_there s mode way node) refl (keeps-there s mode way node)
-
-keeps-remove : (is_open : List ℕ → Bool) (s : FileSystem) (looked : Looked) → Keeps s (remove_looked is_open s looked)
-keeps-remove is_open s bad_path = refl
-keeps-remove is_open s nowhere = refl
-keeps-remove is_open s (missing way directory name) = refl
-keeps-remove is_open s (there way (a_directory records indirect)) = refl
-keeps-remove is_open s (there way (a_file bytes indirect)) =
-    keeps-either s (is_open way) (refused s E_INVAL) (done (without_node s way) 0) refl refl
-
-pub keeps-blocks : (is_open : List ℕ → Bool) (s : FileSystem) (f : FileAct) → Keeps s (file_act is_open s f)
-unfolding file_act open_act read_act write_act set_size_act stat_act remove_act
-keeps-blocks is_open s (open_path path mode) = keeps-open s mode (look_up s path)
-keeps-blocks is_open s (read_file way at n) =
-    keeps-on_file s (node_at s way) (λ bytes indirect. handed_back s (bytes_at bytes at n)) (λ bytes indirect. refl)
-keeps-blocks is_open s (write_file way at new) = keeps-on_file s (node_at s way) (write_to s way at new) (keeps-write s way at new)
-keeps-blocks is_open s (set_file_size way size) = keeps-on_file s (node_at s way) (set_size_to s way size) (keeps-size s way size)
-keeps-blocks is_open s (stat_file way) = keeps-stat s (named_at s way)
-keeps-blocks is_open s (remove_path path) = keeps-remove is_open s (look_up s path)
-keeps-blocks is_open s sync_files = refl
 
 same-count : (count : ℕ) (byte now : ℕ → ℕ) (s t : FileSystem) → file_system_of byte ≡ s → file_system_of now ≡ t → t.blocks ≡ s.blocks →
     block_count byte ≡ count → block_count now ≡ count
@@ -224,7 +152,7 @@ module _ (count : ℕ) (a : AbstractState) (v : View) (f : FileAct) (answer : �
               disk = subst (IsDiskImage (BLKSIZE * count)) (sym done.disk) act.gives.sound;
               count_is =
                   same-count count before.disk m.disk a.files (file_act (is_file_open a) a.files f).files files.are tree
-                  (keeps-blocks (is_file_open a) a.files f) files.count_is;
+                  (blocks_stay (is_file_open a) a.files f) files.count_is;
               are = tree;
             };
         table =

@@ -22,7 +22,7 @@ use Rattle.fs_requests.specs.declared.plan.ServerNext.{ServerNext}
 use Rattle.fs_requests.specs.declared.state.ServerStep.{ServerStep}
 use Rattle.fs_requests.specs.declared.state.ServerStep.TheVariants as step
 use Rattle.fs_requests.specs.ServerPlans as plans
-use Rattle.fs_serving.specs.ServerRuns.{AsksFor, Follows, HasFiles, IsFinding, IsFound, IsOpened, StandsAtStep, TableStands, WorksOn}
+use Rattle.fs_serving.specs.ServerRuns.{AsksFor, Follows, HasFiles, IsClosed, IsFinding, IsFound, IsOpened, StandsAtStep, TableStands, WorksOn}
 use Rattle.fs_serving.specs.ServerRuns.{memory_worked, opened, opens, over, removed, worked}
 use Rattle.fs_serving.specs.ServerViews.{Serving, gone_on}
 use Rattle.fs_serving.proofs.HeldFiles.{led-stands, place-counts}
@@ -39,6 +39,19 @@ by-kind : (count : ℕ) (a : AbstractState) (it : Serving) (k : RequestKind) (wo
 by-kind count a it k word at kind_is follows =
     subst (λ (s : ServerStep). By count a it (plans.next_for it.state s word)) (sym at)
     (subst (λ (o : Option RequestKind). By count a it (plans.found_by o it.state word)) (sym kind_is) follows)
+
+is-record : Led → Bool
+is-record (a_record home way) = true
+is-record _ = false
+
+-- what is no record leads to none
+no-record : {X : Type 0} (led : Led) (place : ℕ) (way : List ℕ) → is-record led ≡ false → led ≡ a_record place way → X
+unfolding is-record
+no-record led place way none is = absurd (false≢true (sym none ∙ ap is-record is))
+
+same-place : (place home : ℕ) (that way : List ℕ) → a_record place that ≡ a_record home way → place ≡ home
+same-place place home that way e =
+    let is : ◌≡◌ {A = Led} (a_record place that) (a_record home way) = e in let it : ◌≡◌ {A = ℕ} place home = cc in it
 
 -- ---- what was opened
 
@@ -145,9 +158,9 @@ module _ (done : ActsAreDone) (count : ℕ) (a : AbstractState) (it : Serving) (
 
   -- a path that leads to no file is refused, and that is the act
   found-none : (is : IsFinding count a it before) (error : ℕ) → is_count (negated error) ≡ false →
-      plan_of (is_file_open a) before.disk (remove_path is.path) ≡ turned_down error → memory_worked it ≡ before →
-      By count a it (plans.found_by (Some kind.Remove) it.state (negated error))
-  found-none is error great refuses same = by (is_count (negated error)) great
+      plan_of (is_file_open a) before.disk (remove_path is.path) ≡ turned_down error →
+      IsClosed (is_file_open a) before.disk (remove_path is.path) → memory_worked it ≡ before → By count a it (plans.found_by (Some kind.Remove) it.state (negated error))
+  found-none is error great refuses closed same = by (is_count (negated error)) great
     where
       by : (b : Bool) → b ≡ false →
           By count a it
@@ -166,6 +179,7 @@ module _ (done : ActsAreDone) (count : ℕ) (a : AbstractState) (it : Serving) (
           has_acted =
               subst (λ (m : Memory). HasActed (is_file_open a) (remove_path is.path) before (negated error) m) (sym same)
               (turned-down (is_file_open a) (remove_path is.path) error before refuses);
+          closed = closed;
           stays = inl refl;
           not_opened = λ e. removal-opens-none e;
         };
@@ -204,7 +218,7 @@ module _ (done : ActsAreDone) (count : ℕ) (a : AbstractState) (it : Serving) (
 
   found-removed : (is : IsFinding count a it before) → memory_worked it ≡ before → AreSmall (memory_worked it) →
       By count a it (plans.found_by (Some kind.Remove) it.state (found_place before.disk (led_to before.disk is.path)))
-  unfolding plan_of
+  unfolding plan_of is-record
   found-removed is same small = by (led_to before.disk is.path) refl
     where
       plan : Led → Planned
@@ -219,12 +233,19 @@ module _ (done : ActsAreDone) (count : ℕ) (a : AbstractState) (it : Serving) (
           ∙ ap
           (λ (b : Bool). if b || is_file_open a way then turned_down E_INVAL else planned (resizing before.disk home 0 ++ empty_it home ∷ []) 0)
           directory)
+          (λ place other that regular.
+          let same : place ≡ home = same-place place home other way (sym that ∙ leads) in
+          absurd (false≢true (sym regular ∙ ap (is_directory_at before.disk) same ∙ directory)))
           same
 
       by : (led : Led) → led_to before.disk is.path ≡ led → By count a it (plans.found_by (Some kind.Remove) it.state (found_place before.disk led))
-      by too_long leads = found-none is E_BAD_PATH refl (ap plan leads) same
-      by astray leads = found-none is E_NOT_FOUND refl (ap plan leads) same
-      by (no_record directory name) leads = found-none is E_NOT_FOUND refl (ap plan leads) same
+      by too_long leads =
+          found-none is E_BAD_PATH refl (ap plan leads) (λ place way that regular. no-record too_long place way refl (sym leads ∙ that)) same
+      by astray leads =
+          found-none is E_NOT_FOUND refl (ap plan leads) (λ place way that regular. no-record astray place way refl (sym leads ∙ that)) same
+      by (no_record directory name) leads =
+          found-none is E_NOT_FOUND refl (ap plan leads)
+          (λ place way that regular. no-record (no_record directory name) place way refl (sym leads ∙ that)) same
       by (a_record home way) leads = at-record home way (is_directory_at before.disk home) leads refl
 
   of-removed : IsFinding count a it before → WorksOn count a it

@@ -19,7 +19,7 @@ use Rattle.lib_os.specs.FileServer.{is_file_open}
 use Rattle.fs_requests.specs.declared.state.ServerStep.TheVariants as step
 use Rattle.fs_requests.specs.ServerPlans.{begun, count_by, hidden, job_by, next_for}
 use Rattle.fs_serving.specs.ServerRuns.{AsksFor, HasFile, HasFiles, HasNumber, HasOffset, IsBusy, IsOpenAs}
-use Rattle.fs_serving.specs.ServerRuns.{Follows, OpenAlike, StandsServing, TableStands, client_of}
+use Rattle.fs_serving.specs.ServerRuns.{Follows, IsClosed, OpenAlike, StandsServing, TableStands, client_of}
 use Rattle.fs_serving.specs.ServerRuns.{is_of_file, opens, reads, removes, seeks, sizes, stats, sought, syncs, writes}
 use Rattle.fs_serving.specs.ServerViews.{Serving, View, gone_on, page_word, request_word}
 use Rattle.fs_serving.proofs.Pieces.{StepFollows}
@@ -253,10 +253,10 @@ module _ (count : ℕ) (a : AbstractState) (it : Serving) (before : Memory) (fil
 
   -- behind this the job of the act is under way
   works : (k : RequestKind) (f : FileAct) (object : Option ℕ) → IsBusy a it before None k (act f object) → k ≢ kind.Open → k ≢ kind.Sync →
-      OpenAlike (is_file_open a) (is_file_open a) before.disk f →
+      OpenAlike (is_file_open a) (is_file_open a) before.disk f → IsClosed (is_file_open a) before.disk f →
       IsOnItsWay count (is_file_open a) f before (begun_with (job_by (Some k) it.state word)) it.view.memory →
       StandsServing count a (gone_on it (begun it.state step.Working (job_by (Some k) it.state word)) it.view)
-  works k f object is_busy other no_sync alike on_its_way =
+  works k f object is_busy other no_sync alike closed on_its_way =
       record {
         before = before;
         files = files;
@@ -270,6 +270,7 @@ module _ (count : ℕ) (a : AbstractState) (it : Serving) (before : Memory) (fil
               is_busy = record { server = is_busy.server; kind_is = is_busy.kind_is; asks = is_busy.asks };
               is_open = is_file_open a;
               alike = alike;
+              closed = closed;
               on_its_way = on_its_way;
               opening = λ e. absurd (other e);
               moving = λ moves. numbered;
@@ -287,21 +288,21 @@ module _ (count : ℕ) (a : AbstractState) (it : Serving) (before : Memory) (fil
   begins _ _ is other server (seeks name f so within) of_file = absurd (other refl)
   begins _ _ is other server (reads name f so) of_file =
       works kind.Read (read_file f.way f.offset (word_at before.page REQUEST_COUNT)) (Some name)
-      (record { server = server; kind_is = is; asks = reads name f so }) (λ e. cc) (λ e. cc) tt
+      (record { server = server; kind_is = is; asks = reads name f so }) (λ e. cc) (λ e. cc) tt tt
       (reads_begin count (is_file_open a) f.way word f.offset (word_at before.page REQUEST_COUNT) before it.view.memory it.state.at it.state.count
       whole (stands name f so) (there name f so).small memory (at_is name f so) counted-so)
   begins _ _ is other server (writes name f so within) of_file =
       works kind.Write (write_file f.way f.offset (bytes_given before.page (word_at before.page REQUEST_COUNT))) (Some name)
-      (record { server = server; kind_is = is; asks = writes name f so within }) (λ e. cc) (λ e. cc) tt
+      (record { server = server; kind_is = is; asks = writes name f so within }) (λ e. cc) (λ e. cc) tt tt
       (writes_begin count (is_file_open a) f.way word f.offset (word_at before.page REQUEST_COUNT) before it.view.memory it.state.at it.state.count
       whole (stands name f so) (there name f so).small within memory (at_is name f so) counted-so)
   begins _ _ is other server (sizes name f so) of_file =
       works kind.SetSize (set_file_size f.way (word_at before.page REQUEST_COUNT)) None
-      (record { server = server; kind_is = is; asks = sizes name f so }) (λ e. cc) (λ e. cc) tt
+      (record { server = server; kind_is = is; asks = sizes name f so }) (λ e. cc) (λ e. cc) tt tt
       (sizes_begin count (is_file_open a) f.way word (word_at before.page REQUEST_COUNT) before it.view.memory it.state.count whole
       (stands name f so) memory counted-so)
   begins _ _ is other server (stats name f so) of_file =
-      works kind.Stat (stat_file f.way) None (record { server = server; kind_is = is; asks = stats name f so }) (λ e. cc) (λ e. cc) tt
+      works kind.Stat (stat_file f.way) None (record { server = server; kind_is = is; asks = stats name f so }) (λ e. cc) (λ e. cc) tt tt
       (stats_begin count (is_file_open a) f.way word before it.view.memory whole (stands name f so) memory)
 
 pub reading_record : StepFollows step.ReadingRecord

@@ -465,6 +465,7 @@ reading_mode count a it before small files table (path, mode, so, has_page, memo
             is_busy = its.is_busy;
             is_open = is_file_open a;
             alike = tt;
+            closed = tt;
             on_its_way =
                 subst (λ (m : Memory). IsOnItsWay count (is_file_open a) (open_path path mode) before (begun_with (job.Open mode)) m) (sym memory) goes;
             opening = λ is. (path, mode, its, has_page);

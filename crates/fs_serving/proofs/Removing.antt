@@ -27,7 +27,7 @@ use Rattle.lib_os.specs.FileServer.{is_file_open, is_held_by, served, server_ste
 use Rattle.fs_requests.specs.declared.plan.ServerNext.{ServerNext}
 use Rattle.fs_requests.specs.declared.state.ServerStep.TheVariants as step
 use Rattle.fs_requests.specs.ServerPlans as plans
-use Rattle.fs_serving.specs.ServerRuns.{Follows, HasFile, HasFiles, IsChecking, PlaceStands, StandsServing, TableStands, client_of}
+use Rattle.fs_serving.specs.ServerRuns.{Follows, HasFile, HasFiles, IsChecking, IsClosed, PlaceStands, StandsServing, TableStands, client_of}
 use Rattle.fs_serving.specs.ServerViews.{Serving, View, gone_on}
 use Rattle.fs_serving.proofs.HeldFiles.{held-is-open, led-stands, open-is-held, place-past}
 use Rattle.fs_serving.proofs.Pieces.{ActIsDone, ActsAreDone, StepFollows}
@@ -128,6 +128,13 @@ goes-on count a it before small files table checking not_here = by (plans.is_las
         (led-stands (BLKSIZE * count) before.disk checking.path checking.way home files.disk checking.leads)
         (λ number name less has held. further-closed number name (omega (arith, last, less)) has held)
 
+    same-record : (home other : ℕ) (way that : List ℕ) → a_record home way ≡ a_record other that → way ≡ that
+    same-record home other way that e = let is : ◌≡◌ {A = Led} (a_record home way) (a_record other that) = e in let it : ◌≡◌ {A = List ℕ} way that = cc in it
+
+    closed-at : MAXOPEN ≤ n + 1 → IsClosed (is_file_open a) before.disk (remove_path checking.path)
+    closed-at last place way leads regular =
+        ap (is_file_open a) (same-record place home way checking.way (sym leads ∙ checking.leads)) ∙ closed-all last
+
     begins : MAXOPEN ≤ n + 1 → IsOnItsWay count (is_file_open a) (remove_path checking.path) before (begun_with (job.Remove home)) it.view.memory
     begins last =
         subst (λ (m : Memory). IsOnItsWay count (is_file_open a) (remove_path checking.path) before (begun_with (job.Remove home)) m)
@@ -151,7 +158,8 @@ goes-on count a it before small files table checking not_here = by (plans.is_las
         place = None;
         is_busy = record { server = checking.is_busy.server; kind_is = checking.is_busy.kind_is; asks = checking.is_busy.asks };
         is_open = is_file_open a;
-        alike = λ home way leads. refl;
+        alike = λ home way leads regular. refl;
+        closed = closed-at (last-is n (ap (λ (k : ℕ). nat_le MAXOPEN (k + 1)) (sym itself) ∙ is));
         on_its_way = begins (last-is n (ap (λ (k : ℕ). nat_le MAXOPEN (k + 1)) (sym itself) ∙ is));
         opening = λ e. removal-opens-none e;
         moving = λ e. absurd (false≢true e);

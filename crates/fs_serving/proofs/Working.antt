@@ -31,7 +31,7 @@ use Rattle.fs_requests.specs.declared.plan.ServerNext.{ServerNext}
 use Rattle.fs_requests.specs.declared.state.ServerStep.{ServerStep}
 use Rattle.fs_requests.specs.declared.state.ServerStep.TheVariants as step
 use Rattle.fs_requests.specs.ServerPlans as plans
-use Rattle.fs_serving.specs.ServerRuns.{AsksFor, Follows, HasFiles, HasPage, IsBusy, IsMoving, IsOpening, IsWorking, OpenAlike, StandsAtStep}
+use Rattle.fs_serving.specs.ServerRuns.{AsksFor, Follows, HasFiles, HasPage, IsBusy, IsClosed, IsMoving, IsOpening, IsWorking, OpenAlike, StandsAtStep}
 use Rattle.fs_serving.specs.ServerRuns.{TableStands, client_of, memory_worked, opened, opens, reads, removes, sizes, stats, syncs}
 use Rattle.fs_serving.specs.ServerRuns.{worked, writes}
 use Rattle.fs_serving.specs.ServerViews.{Serving, gone_on}
@@ -46,9 +46,15 @@ remove-alike : (is_open other : List ℕ → Bool) (byte : ℕ → ℕ) (path : 
 remove-alike is_open other byte path alike too_long is = refl
 remove-alike is_open other byte path alike astray is = refl
 remove-alike is_open other byte path alike (no_record place name) is = refl
-remove-alike is_open other byte path alike (a_record place way) is =
-    ap (λ (b : Bool). if is_directory_at byte place || b then turned_down E_INVAL else planned (resizing byte place 0 ++ empty_it place ∷ []) 0)
-    (alike place way is)
+remove-alike is_open other byte path alike (a_record place way) is = by (is_directory_at byte place) refl
+  where
+    removing : Planned
+    removing = planned (resizing byte place 0 ++ empty_it place ∷ []) 0
+
+    by : (b : Bool) → is_directory_at byte place ≡ b →
+        (if b || is_open way then turned_down E_INVAL else removing) ≡ (if b || other way then turned_down E_INVAL else removing)
+    by true directory = refl
+    by false regular = ap (λ (b : Bool). if b then turned_down E_INVAL else removing) (alike place way is regular)
 
 plan-alike : (is_open other : List ℕ → Bool) (byte : ℕ → ℕ) (f : FileAct) → OpenAlike is_open other byte f → plan_of is_open byte f ≡ plan_of other byte f
 unfolding plan_of
@@ -60,7 +66,7 @@ plan-alike is_open other byte (stat_file way) alike = refl
 plan-alike is_open other byte (remove_path path) alike = remove-alike is_open other byte path alike (led_to byte path) refl
 plan-alike is_open other byte sync_files alike = refl
 
-acted-alike : (is_open other : List ℕ → Bool) (f : FileAct) (before : Memory) (answer : ℕ) (m : Memory) → OpenAlike is_open other before.disk f →
+pub acted-alike : (is_open other : List ℕ → Bool) (f : FileAct) (before : Memory) (answer : ℕ) (m : Memory) → OpenAlike is_open other before.disk f →
     HasActed is_open f before answer m → HasActed other f before answer m
 acted-alike is_open other f before answer m alike done =
     let plan : plan_of is_open before.disk f ≡ plan_of other before.disk f = plan-alike is_open other before.disk f alike in
@@ -166,9 +172,9 @@ module _ (count : ℕ) (a : AbstractState) (it : Serving) (before : Memory) (fil
     (table : TableStands before.disk a it.view) (small : AreSmall (memory_worked it)) where
   -- the act is made, and nothing is left but to tell it
   is-done : (word : ℕ) (k : RequestKind) (f : FileAct) (object place : Option ℕ) → IsBusy a it before place k (act f object) →
-      HasActed (is_file_open a) f before word (memory_worked it) → (object ≡ None) ⊎ (is_count word ≡ false) → (k ≡ kind.Open → word ≢ 0) →
-      By count a it (plans.acting it.state word)
-  is-done word k f object place is_busy acted stays not_opened = record {
+      HasActed (is_file_open a) f before word (memory_worked it) → IsClosed (is_file_open a) before.disk f →
+      (object ≡ None) ⊎ (is_count word ≡ false) → (k ≡ kind.Open → word ≢ 0) → By count a it (plans.acting it.state word)
+  is-done word k f object place is_busy acted closed stays not_opened = record {
     before = before;
     files = files;
     table = table-over before.disk a it.view (memory_worked it) table;
@@ -179,6 +185,7 @@ module _ (count : ℕ) (a : AbstractState) (it : Serving) (before : Memory) (fil
       place = place;
       is_busy = record { server = is_busy.server; kind_is = is_busy.kind_is; asks = is_busy.asks };
       has_acted = acted;
+      closed = closed;
       stays = stays;
       not_opened = not_opened;
     };
@@ -254,13 +261,13 @@ module _ (count : ℕ) (a : AbstractState) (it : Serving) (before : Memory) (fil
 
   -- bytes were moved, or not
   has-moved : (word : ℕ) (k : RequestKind) (f : FileAct) (name : ℕ) (place : Option ℕ) → IsBusy a it before place k (act f (Some name)) → k ≢ kind.Open →
-      HasActed (is_file_open a) f before word (memory_worked it) → IsMoving k ≡ true → it.state.number ≡ word_at before.page REQUEST_FILE →
-      place ≡ None → By count a it (plans.advancing it.state word)
-  has-moved word k f name place is_busy other acted moves number none = by (is_count word) refl
+      HasActed (is_file_open a) f before word (memory_worked it) → IsClosed (is_file_open a) before.disk f → IsMoving k ≡ true →
+      it.state.number ≡ word_at before.page REQUEST_FILE → place ≡ None → By count a it (plans.advancing it.state word)
+  has-moved word k f name place is_busy other acted closed moves number none = by (is_count word) refl
     where
       by : (b : Bool) → is_count word ≡ b →
           By count a it (if b then plans.hidden (record it.state { count = word }) step.Advancing else plans.acting it.state word)
-      by false many = is-done word k f (Some name) place is_busy acted (inr many) (λ e. absurd (other e))
+      by false many = is-done word k f (Some name) place is_busy acted closed (inr many) (λ e. absurd (other e))
       by true many = record {
         before = before;
         files = files;
@@ -283,17 +290,17 @@ module _ (count : ℕ) (a : AbstractState) (it : Serving) (before : Memory) (fil
 
   by-asks : (word : ℕ) (k : RequestKind) (f : FileAct) (object place : Option ℕ) → it.state.kind ≡ Some k →
       a.server ≡ busy (client_of it.state) (act f object) place → AsksFor a before.page k (act f object) →
-      HasActed (is_file_open a) f before word (memory_worked it) →
+      HasActed (is_file_open a) f before word (memory_worked it) → IsClosed (is_file_open a) before.disk f →
       (k ≡ kind.Open → (path : List ℕ) × (mode : ℕ) × IsOpening a it before path mode × HasPage it) →
       (IsMoving k ≡ true → it.state.number ≡ word_at before.page REQUEST_FILE) → (IsMoving k ≡ true → place ≡ None) →
       By count a it (plans.worked_by (Some k) it.state word)
-  by-asks word _ _ _ place kind_is server (opens path mode has_path mode_is) acted opening moving no_place = by (word == 0) refl
+  by-asks word _ _ _ place kind_is server (opens path mode has_path mode_is) acted closed opening moving no_place = by (word == 0) refl
     where
       busy_so : IsBusy a it before place kind.Open (act (open_path path mode) None)
       busy_so = record { server = server; kind_is = kind_is; asks = opens path mode has_path mode_is }
 
       by : (b : Bool) → (word == 0) ≡ b → By count a it (if b then plans.begun it.state step.Finding job.Find else plans.acting it.state word)
-      by false other = is-done word kind.Open (open_path path mode) None place busy_so acted (inl refl) (λ e zero_. no-zero zero_)
+      by false other = is-done word kind.Open (open_path path mode) None place busy_so acted tt (inl refl) (λ e zero_. no-zero zero_)
         where
           no-zero : word ≡ 0 → ⊥
           no-zero zero_ = false≢true (sym other ∙ (Decides-eqb word 0).1 zero_)
@@ -304,21 +311,21 @@ module _ (count : ℕ) (a : AbstractState) (it : Serving) (before : Memory) (fil
           is-opened so.0 so.1 so.2 so.3
           (subst (λ (f : FileAct). HasActed (is_file_open a) f before 0 (memory_worked it)) same
           (subst (λ (n : ℕ). HasActed (is_file_open a) (open_path path mode) before n (memory_worked it)) ((Decides-eqb word 0).0 zero_) acted))
-  by-asks word _ _ _ place kind_is server (removes path has_path) acted opening moving no_place =
-      is-done word kind.Remove (remove_path path) None place (record { server = server; kind_is = kind_is; asks = removes path has_path }) acted (inl refl)
+  by-asks word _ _ _ place kind_is server (removes path has_path) acted closed opening moving no_place =
+      is-done word kind.Remove (remove_path path) None place (record { server = server; kind_is = kind_is; asks = removes path has_path }) acted closed (inl refl)
       (λ e. cc)
-  by-asks word _ _ _ place kind_is server (reads name f so) acted opening moving no_place =
-      has-moved word kind.Read _ name place (record { server = server; kind_is = kind_is; asks = reads name f so }) (λ e. cc) acted refl (moving refl)
+  by-asks word _ _ _ place kind_is server (reads name f so) acted closed opening moving no_place =
+      has-moved word kind.Read _ name place (record { server = server; kind_is = kind_is; asks = reads name f so }) (λ e. cc) acted tt refl (moving refl)
       (no_place refl)
-  by-asks word _ _ _ place kind_is server (writes name f so within) acted opening moving no_place =
-      has-moved word kind.Write _ name place (record { server = server; kind_is = kind_is; asks = writes name f so within }) (λ e. cc) acted refl
+  by-asks word _ _ _ place kind_is server (writes name f so within) acted closed opening moving no_place =
+      has-moved word kind.Write _ name place (record { server = server; kind_is = kind_is; asks = writes name f so within }) (λ e. cc) acted tt refl
       (moving refl) (no_place refl)
-  by-asks word _ _ _ place kind_is server (sizes name f so) acted opening moving no_place =
-      is-done word kind.SetSize _ None place (record { server = server; kind_is = kind_is; asks = sizes name f so }) acted (inl refl) (λ e. cc)
-  by-asks word _ _ _ place kind_is server (stats name f so) acted opening moving no_place =
-      is-done word kind.Stat _ None place (record { server = server; kind_is = kind_is; asks = stats name f so }) acted (inl refl) (λ e. cc)
-  by-asks word _ _ _ place kind_is server syncs acted opening moving no_place =
-      is-done word kind.Sync _ None place (record { server = server; kind_is = kind_is; asks = syncs }) acted (inl refl) (λ e. cc)
+  by-asks word _ _ _ place kind_is server (sizes name f so) acted closed opening moving no_place =
+      is-done word kind.SetSize _ None place (record { server = server; kind_is = kind_is; asks = sizes name f so }) acted tt (inl refl) (λ e. cc)
+  by-asks word _ _ _ place kind_is server (stats name f so) acted closed opening moving no_place =
+      is-done word kind.Stat _ None place (record { server = server; kind_is = kind_is; asks = stats name f so }) acted tt (inl refl) (λ e. cc)
+  by-asks word _ _ _ place kind_is server syncs acted closed opening moving no_place =
+      is-done word kind.Sync _ None place (record { server = server; kind_is = kind_is; asks = syncs }) acted tt (inl refl) (λ e. cc)
 
 -- ---- the step
 
@@ -333,6 +340,7 @@ further count a it before is next way = record {
   is_busy = record { server = is.is_busy.server; kind_is = is.is_busy.kind_is; asks = is.is_busy.asks };
   is_open = is.is_open;
   alike = is.alike;
+  closed = is.closed;
   on_its_way = way;
   opening = λ e. let so = is.opening e in (
     so.0,
@@ -367,6 +375,6 @@ working count a it before at files table is =
       answers = λ word small ends.
           by-kind count a it is.k word at is.is_busy.kind_is
           (by-asks count a it before files table small word is.k is.f is.object is.place is.is_busy.kind_is is.is_busy.server is.is_busy.asks
-          (acted-alike is.is_open (is_file_open a) is.f before word (memory_worked it) is.alike (stays.3 word ends)) is.opening is.moving
+          (acted-alike is.is_open (is_file_open a) is.f before word (memory_worked it) is.alike (stays.3 word ends)) is.closed is.opening is.moving
           is.no_place);
     }

@@ -27,8 +27,10 @@ use Rattle.lib_os.specs.declared.request.RequestKind.{RequestKind}
 use Rattle.lib_os.specs.declared.request.RequestKind.TheVariants as kind
 use Rattle.lib_os.specs.Requests as requests
 use Rattle.lib_os.specs.AbstractState.{AbstractState, OpenFile, file, Request, act, seek, leaving, looking, busy, acted}
-use Rattle.lib_os.specs.Descriptors.{is_held}
+use Rattle.lib_os.specs.AbstractLaws.{client_served}
+use Rattle.lib_os.specs.Descriptors.{holds_in, is_held}
 use Rattle.lib_os.specs.FileServer.{is_count, is_file_open, is_held_by, low_mode, request_begun, server_step}
+use Rattle.lib_os.specs.GuestStep.{born_in}
 use Rattle.fs_requests.specs.declared.plan.ServerAsk.{ServerAsk}
 use Rattle.fs_requests.specs.declared.plan.ServerAsk.TheVariants as ask
 use Rattle.fs_requests.specs.declared.plan.ServerNext.{ServerNext}
@@ -80,12 +82,13 @@ pub record TableStands (disk : ℕ → ℕ) (a : AbstractState) (v : View) : Typ
 
 -- ---- requests
 
--- A request names an object by its file's number, which is the place that has it.
+-- A request names an object by its file's number, which is the place that has it. Whom the server serves has a descriptor for it.
 pub record IsOpenAs (a : AbstractState) (page : ℕ → ℕ) (name : ℕ) (f : OpenFile) : Type 0 where
   pub below : word_at page REQUEST_FILE < MAXOPEN
   pub place : (a.opened (word_at page REQUEST_FILE)).held_by ≡ Some name
   pub held : is_held a name ≡ true
   pub is : a.objects name ≡ file f
+  pub client : (n : ℕ) → client_served a.server ≡ Some n → holds_in (born_in (a.slots n)) name ≡ true
 
 -- The page of a request of this kind asks for this.
 pub data AsksFor (a : AbstractState) (page : ℕ → ℕ) : RequestKind → Request → Type 0 where
@@ -191,10 +194,17 @@ pub record IsTold (a : AbstractState) (it : Serving) (before : Memory) (told : �
 
 -- ---- acts on files
 
--- Whether a file is open decides on a removal alone, where its path leads.
+-- Whether a file is open decides on a removal alone, where its path leads to one.
 abbrev pub OpenAlike : (List ℕ → Bool) → (List ℕ → Bool) → (ℕ → ℕ) → FileAct → Type 0
-OpenAlike is_open other disk (remove_path path) = (home : ℕ) (way : List ℕ) → led_to disk path ≡ a_record home way → is_open way ≡ other way
+OpenAlike is_open other disk (remove_path path) = (home : ℕ) (way : List ℕ) → led_to disk path ≡ a_record home way →
+    is_directory_at disk home ≡ false → is_open way ≡ other way
 OpenAlike is_open other disk _ = Unit {0}
+
+-- A file that is removed is not open. (Nobody begins to hold one that nobody holds, but by the server's reply.)
+abbrev pub IsClosed : (List ℕ → Bool) → (ℕ → ℕ) → FileAct → Type 0
+IsClosed is_open disk (remove_path path) = (home : ℕ) (way : List ℕ) → led_to disk path ≡ a_record home way →
+    is_directory_at disk home ≡ false → is_open way ≡ false
+IsClosed is_open disk _ = Unit {0}
 
 -- where the place at hand is that of the file that is read or written
 abbrev pub IsMoving : RequestKind → Bool
@@ -211,6 +221,7 @@ pub record IsWorking (count : ℕ) (a : AbstractState) (it : Serving) (before : 
   pub is_busy : IsBusy a it before place k (act f object)
   pub is_open : List ℕ → Bool
   pub alike : OpenAlike is_open (is_file_open a) before.disk f
+  pub closed : IsClosed (is_file_open a) before.disk f
   pub on_its_way : IsOnItsWay count is_open f before it.job it.view.memory
   pub opening : k ≡ kind.Open → (path : List ℕ) × (mode : ℕ) × IsOpening a it before path mode × HasPage it
   pub moving : IsMoving k ≡ true → it.state.number ≡ word_at before.page REQUEST_FILE
@@ -237,6 +248,7 @@ pub record IsDone (a : AbstractState) (it : Serving) (before : Memory) : Type 0 
   pub place : Option ℕ
   pub is_busy : IsBusy a it before place k (act f object)
   pub has_acted : HasActed (is_file_open a) f before it.state.count it.view.memory
+  pub closed : IsClosed (is_file_open a) before.disk f
   pub stays : (object ≡ None) ⊎ (is_count it.state.count ≡ false)
   pub not_opened : k ≡ kind.Open → it.state.count ≢ 0
 

@@ -24,9 +24,10 @@ use Rattle.lib_os.specs.AbstractState.{AbstractSlot, AbstractState, Born, Server
 use Rattle.lib_os.specs.LibrarySteps.{Stands, NothingRefused, KeepsTurn, MayGiveUp}
 use Rattle.lib_os.specs.Places.{place_of}
 use Rattle.lib_os.specs.LibraryPages.{View}
-use Rattle.lib_os.specs.StandsInHandler.{CopiesOrEnds, copies, ends, StandsBeneath, at_program, in_delivery, may_follow}
-use Rattle.lib_os.specs.Rows.{EntryRow, Names}
+use Rattle.lib_os.specs.StandsInHandler.{CopiesOrEnds, copies, ends, StandsBeneath, at_program, in_delivery, in_handing, may_follow}
+use Rattle.lib_os.specs.Rows.{Names}
 use Rattle.lib_os.specs.StandsFor.{AwaitsOrHas, StandsFor, StandsAt, StandsAtStep, IsStatusFor, awaits, has_reply, WaitsOrHas, waits, has, view_of}
+use Rattle.lib_os.specs.StandsFor.{AwaitsFileOrHas, AwaitsOrHasBytes, awaits_bytes, awaits_file, has_bytes, has_opened}
 use Rattle.lib_os.specs.StandsFor.{IsGatheringPath, StandsAtDevice, StandsBefore, descriptor_given}
 use Rattle.lib_os.proofs.SlotsStand.{born_at}
 use Rattle.jos_run.specs.AbstractTurns.{turn_begun, is_yielding, may_end, stands_waiting, waits_to_reply}
@@ -59,21 +60,33 @@ silent_before so v k b (service.Read fd va len) done word h = h.0.silent
 silent_before so v k b (service.Stat fd va) done word h = h.0.silent
 silent_before so v k b (service.Write fd va len) done word h = h.0.silent
 silent_before so v k b (service.Remove path) done word h = h.0.silent
+silent_before so v k b (service.OpenFile path mode) done word h = h.0.silent
 silent_before so v k b _ done word h = absurd h
 
-silent_beneath : (row : EntryRow) (k : Slot) (b : Born) → StandsBeneath row k b → k.rendezvous.receiving ≡ false
-silent_beneath row k b (at_program h) = h.silent
-silent_beneath row k b (in_delivery (service.Read fd va len) done word at h) = h.0.silent
-silent_beneath row k b (in_delivery (service.Stat fd va) done word at h) = h.0.silent
-silent_beneath row k b (in_delivery _ done word at h) = absurd h.0
+silent_beneath : (v : View) (k : Slot) (b : Born) → StandsBeneath v k b → k.rendezvous.receiving ≡ false
+silent_beneath v k b (at_program h) = h.silent
+silent_beneath v k b (in_delivery (service.Read fd va len) done word at h) = h.0.silent
+silent_beneath v k b (in_delivery (service.Stat fd va) done word at h) = h.0.silent
+silent_beneath v k b (in_delivery _ done word at h) = absurd h.0
+silent_beneath v k b (in_handing s done count word at h) = h.has.silent
 
-silent_gathering : (t : Bool) (v : View) (k : Slot) (b : Born) (path done : ℕ) → IsGatheringPath t v k b path done → k.rendezvous.receiving ≡ false
-silent_gathering true v k b path done h = h.0.silent
-silent_gathering false v k b path done h = h.is_in.silent
+silent_gathering : (t : Bool) (v : View) (k : Slot) (b : Born) (s : Service) (done : ℕ) → IsGatheringPath t v k b s done →
+    k.rendezvous.receiving ≡ false
+silent_gathering true v k b s done h = h.0.silent
+silent_gathering false v k b s done h = h.is_in.silent
 
 silent_reply : (k : Slot) (b : Born) (s : Service) → AwaitsOrHas k b s → b.blocked ≡ false → k.rendezvous.receiving ≡ false
 silent_reply k b s (awaits so) awake = absurd (let contradiction : true ≡ false = sym so.blocked ∙ awake in cc)
 silent_reply k b s (has_reply so) awake = so.silent
+
+silent_opened : (v : View) (k : Slot) (b : Born) (s : Service) (fd : ℕ) → AwaitsFileOrHas v k b s fd → b.blocked ≡ false →
+    k.rendezvous.receiving ≡ false
+silent_opened v k b s fd (awaits_file so) awake = absurd (let contradiction : true ≡ false = sym so.blocked ∙ awake in cc)
+silent_opened v k b s fd (has_opened so) awake = so.silent
+
+silent_bytes : (v : View) (k : Slot) (b : Born) (s : Service) → AwaitsOrHasBytes v k b s → b.blocked ≡ false → k.rendezvous.receiving ≡ false
+silent_bytes v k b s (awaits_bytes so) awake = absurd (let contradiction : true ≡ false = sym so.blocked ∙ awake in cc)
+silent_bytes v k b s (has_bytes so) awake = so.silent
 
 silent_step : (v : View) (k : Slot) (b : Born) (s : Service) (stands : Step) → StandsAtStep v k b s stands → b.blocked ≡ false →
     k.rendezvous.receiving ≡ false
@@ -116,6 +129,14 @@ silent_step v k b s step.ReadingDevice h awake = silent_device v k b s (descript
 silent_step v k b s (step.BufferRegion done word) h awake = silent_before _ v k b s done word h
 silent_step v k b s (step.BufferEntry done word) h awake = silent_before _ v k b s done word h
 silent_step v k b s (step.Faulting done word) h awake = silent_before _ v k b s done word h
+silent_step v k b s (step.CountingReply id) h awake = silent_bytes v k b s h.so awake
+silent_step v k b s (step.FileRegion done count) h awake = h.silent
+silent_step v k b s (step.FileEntry done count) h awake = h.0.silent
+silent_step v k b s (step.LoadingBytes done count) h awake = h.has.silent
+silent_step v k b s (step.LoadingRest done count first) h awake = h.has.silent
+silent_step v k b s (step.PuttingBytes done count word) h awake = h.has.silent
+silent_step v k b s (step.FileFaulting done count) h awake = h.0.silent
+silent_step v k b s (step.Returning answer) h awake = h.silent
 silent_step v k b (service.Read fd va len) (step.Delivering done word) h awake = h.0.silent
 silent_step v k b (service.Stat fd va) (step.Delivering done word) h awake = h.0.silent
 silent_step v k b (service.Read fd va len) (step.DescriptorEntry at) h awake = h.is_in.silent
@@ -125,12 +146,77 @@ silent_step v k b (service.Stat fd va) (step.DescriptorEntry at) h awake = h.is_
 silent_step v k b (service.SetSize fd size) (step.DescriptorEntry at) h awake = h.is_in.silent
 silent_step v k b (service.Read fd va len) step.Getting h awake = h.is_in.silent
 silent_step v k b (service.Write fd va len) step.TakingPage h awake = h.0.silent
-silent_step v k b (service.Write fd va len) (step.Gathering done) h awake = h.0.silent
-silent_step v k b (service.Write fd va len) (step.Keeping done word left) h awake = h.is_in.silent
+silent_step v k b (service.Write fd va len) (step.GatheringBytes done start) h awake = h.0.silent
+silent_step v k b (service.Write fd va len) (step.KeepingBytes done word left start) h awake = h.is_in.silent
 silent_step v k b (service.Write fd va len) step.Printing h awake = h.is_in.silent
 silent_step v k b (service.Write fd va len) step.Releasing h awake = h.silent
+silent_step v k b (service.Write fd va len) step.ReadingMode h awake = h.is_in.silent
+silent_step v k b (service.Write fd va len) step.TakingRequest h awake = h.0.silent
+silent_step v k b (service.Write fd va len) step.ReadingNumber h awake = h.of_file.is_in.silent
+silent_step v k b (service.Write fd va len) (step.StoringNumber number) h awake = h.asks.of_file.is_in.silent
+silent_step v k b (service.Write fd va len) step.StoringCount h awake = h.asks.of_file.is_in.silent
+silent_step v k b (service.Write fd va len) step.Identifying h awake = h.asks.of_file.is_in.silent
+silent_step v k b (service.Write fd va len) (step.Asking id) h awake = h.1.asks.of_file.is_in.silent
+silent_step v k b (service.Write fd va len) (step.Pausing id) h awake = h.1.asks.of_file.is_in.silent
+silent_step v k b (service.Write fd va len) (step.Awaiting id) h awake = h.1.silent
+silent_step v k b (service.Write fd va len) (step.Clearing id) h awake = silent_reply k b (service.Write fd va len) h.1 awake
+silent_step v k b (service.Write fd va len) (step.ReadingReply id) h awake = h.1.silent
+silent_step v k b (service.Seek fd offset) step.TakingPage h awake = h.of_file.is_in.silent
+silent_step v k b (service.Seek fd offset) step.ReadingNumber h awake = h.of_file.is_in.silent
+silent_step v k b (service.Seek fd offset) (step.StoringNumber number) h awake = h.asks.of_file.is_in.silent
+silent_step v k b (service.Seek fd offset) step.StoringCount h awake = h.asks.of_file.is_in.silent
+silent_step v k b (service.Seek fd offset) step.Identifying h awake = h.asks.of_file.is_in.silent
+silent_step v k b (service.Seek fd offset) (step.Asking id) h awake = h.1.asks.of_file.is_in.silent
+silent_step v k b (service.Seek fd offset) (step.Pausing id) h awake = h.1.asks.of_file.is_in.silent
+silent_step v k b (service.Seek fd offset) (step.Awaiting id) h awake = h.1.silent
+silent_step v k b (service.Seek fd offset) (step.Clearing id) h awake = silent_reply k b (service.Seek fd offset) h.1 awake
+silent_step v k b (service.Seek fd offset) (step.ReadingReply id) h awake = h.1.silent
+silent_step v k b (service.SetSize fd size) step.ReadingMode h awake = h.is_in.silent
+silent_step v k b (service.SetSize fd size) step.TakingPage h awake = h.of_file.is_in.silent
+silent_step v k b (service.SetSize fd size) step.ReadingNumber h awake = h.of_file.is_in.silent
+silent_step v k b (service.SetSize fd size) (step.StoringNumber number) h awake = h.asks.of_file.is_in.silent
+silent_step v k b (service.SetSize fd size) step.StoringCount h awake = h.asks.of_file.is_in.silent
+silent_step v k b (service.SetSize fd size) step.Identifying h awake = h.asks.of_file.is_in.silent
+silent_step v k b (service.SetSize fd size) (step.Asking id) h awake = h.1.asks.of_file.is_in.silent
+silent_step v k b (service.SetSize fd size) (step.Pausing id) h awake = h.1.asks.of_file.is_in.silent
+silent_step v k b (service.SetSize fd size) (step.Awaiting id) h awake = h.1.silent
+silent_step v k b (service.SetSize fd size) (step.Clearing id) h awake = silent_reply k b (service.SetSize fd size) h.1 awake
+silent_step v k b (service.SetSize fd size) (step.ReadingReply id) h awake = h.1.silent
+silent_step v k b (service.Read fd va len) step.ReadingMode h awake = h.is_in.silent
+silent_step v k b (service.Read fd va len) step.TakingPage h awake = h.of_file.is_in.silent
+silent_step v k b (service.Read fd va len) step.ReadingNumber h awake = h.of_file.is_in.silent
+silent_step v k b (service.Read fd va len) (step.StoringNumber number) h awake = h.asks.of_file.is_in.silent
+silent_step v k b (service.Read fd va len) step.StoringCount h awake = h.asks.of_file.is_in.silent
+silent_step v k b (service.Read fd va len) step.Identifying h awake = h.asks.of_file.is_in.silent
+silent_step v k b (service.Read fd va len) (step.Asking id) h awake = h.1.asks.of_file.is_in.silent
+silent_step v k b (service.Read fd va len) (step.Pausing id) h awake = h.1.asks.of_file.is_in.silent
+silent_step v k b (service.Read fd va len) (step.Awaiting id) h awake = h.1.silent
+silent_step v k b (service.Read fd va len) (step.Clearing id) h awake = h.1.silent
+silent_step v k b (service.Read fd va len) (step.ReadingReply id) h awake = h.1.silent
+silent_step v k b (service.Stat fd va) step.TakingPage h awake = h.of_file.is_in.silent
+silent_step v k b (service.Stat fd va) step.ReadingNumber h awake = h.of_file.is_in.silent
+silent_step v k b (service.Stat fd va) (step.StoringNumber number) h awake = h.asks.of_file.is_in.silent
+silent_step v k b (service.Stat fd va) step.StoringCount h awake = h.asks.of_file.is_in.silent
+silent_step v k b (service.Stat fd va) step.Identifying h awake = h.asks.of_file.is_in.silent
+silent_step v k b (service.Stat fd va) (step.Asking id) h awake = h.1.asks.of_file.is_in.silent
+silent_step v k b (service.Stat fd va) (step.Pausing id) h awake = h.1.asks.of_file.is_in.silent
+silent_step v k b (service.Stat fd va) (step.Awaiting id) h awake = h.1.silent
+silent_step v k b (service.Stat fd va) (step.Clearing id) h awake = h.1.silent
+silent_step v k b (service.Stat fd va) (step.ReadingReply id) h awake = h.1.silent
+silent_step v k b (service.OpenFile path mode) step.TakingPage h awake = h.0.silent
+silent_step v k b (service.OpenFile path mode) (step.Gathering done) h awake = silent_gathering (may_follow path done) v k b (service.OpenFile path mode) done h
+silent_step v k b (service.OpenFile path mode) (step.Keeping done word left) h awake = h.is_in.silent
+silent_step v k b (service.OpenFile path mode) step.FreeRegion h awake = h.is_in.silent
+silent_step v k b (service.OpenFile path mode) (step.FreeEntry fd) h awake = h.whole.is_in.silent
+silent_step v k b (service.OpenFile path mode) (step.StoringMode fd) h awake = h.whole.is_in.silent
+silent_step v k b (service.OpenFile path mode) (step.OpenIdentifying fd) h awake = h.1.whole.is_in.silent
+silent_step v k b (service.OpenFile path mode) (step.OpenAsking id fd) h awake = h.2.whole.is_in.silent
+silent_step v k b (service.OpenFile path mode) (step.OpenPausing id fd) h awake = h.2.whole.is_in.silent
+silent_step v k b (service.OpenFile path mode) (step.OpenAwaiting id fd) h awake = h.2.silent
+silent_step v k b (service.OpenFile path mode) (step.OpenClearing id fd) h awake = silent_opened v k b (service.OpenFile path mode) fd h.1 awake
+silent_step v k b (service.OpenFile path mode) (step.ReadingOpened id fd) h awake = h.1.silent
 silent_step v k b (service.Remove path) step.TakingPage h awake = h.0.silent
-silent_step v k b (service.Remove path) (step.Gathering done) h awake = silent_gathering (may_follow path done) v k b path done h
+silent_step v k b (service.Remove path) (step.Gathering done) h awake = silent_gathering (may_follow path done) v k b (service.Remove path) done h
 silent_step v k b (service.Remove path) (step.Keeping done word left) h awake = h.is_in.silent
 silent_step v k b (service.Remove path) step.Identifying h awake = h.is_in.silent
 silent_step v k b (service.Remove path) (step.Asking id) h awake = h.1.is_in.silent
@@ -146,7 +232,7 @@ silent_at v k b (place.InService s stands) h awake = silent_step v k b s stands 
 silent_at v k b (place.InHandler stands) h awake = by_way h.way
   where
     by_way : CopiesOrEnds stands v k b h.fault h.regs → k.rendezvous.receiving ≡ false
-    by_way (copies way) = silent_beneath v.row (record k { registers = h.regs }) b way.beneath
+    by_way (copies way) = silent_beneath v (record k { registers = h.regs }) b way.beneath
     by_way (ends way) = way.silent
 
 -- it waits for no message

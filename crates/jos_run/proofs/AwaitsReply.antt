@@ -1,18 +1,17 @@
 -- What the steps of a request to the file server leave of spaces: one that has asked begins to wait for the reply, which changes none, and one that
 -- asks with a page has its own space still.
-use Rattle.std.proofs.Common.{◌≡◌, ◌∙◌, ℕ, true, false, List, [], ◌∷◌, Result, Ok, Err, refl, sym, ap, subst}
+use Rattle.std.proofs.Common.{◌≡◌, ◌∙◌, ℕ, ◌%◌, true, false, [], ◌∷◌, Result, Ok, Err, refl, sym, ap, arith}
 use Rattle.std.specs.Prelude.{IfOk}
 use Rattle.std.proofs.lemmas.Bool.{false≢true}
 use Rattle.jos_host.specs.declared.host.Failed.{Failed}
 use Rattle.jos_base.specs.declared.called.Called.{Called}
 use Rattle.jos_base.specs.declared.called.Called.TheVariants.{Answered, Blocked}
 use Rattle.jos_base.specs.declared.environment.Status.TheVariants.{NotRunnable}
-use Rattle.jos_base.specs.declared.numbers.TheConstants.{E_IPC_NOT_RECV, E_NO_MEM, FIRST_ENV_ID, SYS_IPC_RECV, UTOP}
+use Rattle.jos_base.specs.declared.numbers.TheConstants.{E_IPC_NOT_RECV, E_NO_MEM, FIRST_ENV_ID, PGSIZE, UTOP}
 use Rattle.jos_base.specs.Environments.{Slot, is_live, no_extra}
-use Rattle.jos_base.specs.KernelState.{KernelState, slot_at, with_extra, with_refusal, with_rendezvous, with_slot_at, with_spaces, with_status}
+use Rattle.jos_base.specs.KernelState.{KernelState, slot_at, with_refusal, with_rendezvous, with_slot_at, with_spaces, with_status}
 use Rattle.jos_base.specs.Messages.{wanting}
 use Rattle.jos_base.specs.Words.{negated}
-use Rattle.lib_os.specs.declared.numbers.TheConstants.{SERVICE_REMOVE, SERVICE_SYNC}
 use Rattle.lib_os.specs.declared.place.HandlerStep.{HandlerStep}
 use Rattle.lib_os.specs.declared.place.Place.TheVariants as place
 use Rattle.lib_os.specs.declared.place.Step.{Step}
@@ -21,15 +20,21 @@ use Rattle.lib_os.specs.declared.progress.Progress.{Progress}
 use Rattle.lib_os.specs.declared.service.Service.{Service}
 use Rattle.lib_os.specs.declared.service.Service.TheVariants as service
 use Rattle.lib_os.specs.AbstractState.{AbstractState}
-use Rattle.lib_os.specs.LibrarySteps.{Stands}
+use Rattle.lib_os.specs.LibraryPages.{View}
+use Rattle.lib_os.specs.LibrarySteps.{Stands, asking_step}
 use Rattle.lib_os.specs.Places.{handler_registers, place_of, words_at}
-use Rattle.lib_os.specs.UserCalls.{CallStep, Output, giving, got, system}
-use Rattle.lib_os.proofs.Calls.{ipc_recv_is}
-use Rattle.lib_os.proofs.PageAsked.{PageAsksOrWaits, asks, lacks, page_ask_call, page_asked, page_asks_or_waits, path_page, server_told, waits}
+use Rattle.lib_os.specs.StandsFor.{view_of}
+use Rattle.lib_os.specs.UserCalls.{CallStep, Output, giving}
+use Rattle.lib_os.proofs.Calls.{ipc_recv_is, receives_at}
+use Rattle.lib_os.proofs.PageAsked.{PageAsksOrWaits, asks, lacks, page_ask_call, page_asked, page_asks_or_waits, request_page, server_told, waits}
+use Rattle.lib_os.proofs.RequestPages.{brings_page, told_asking, told_in, word_asked}
 use Rattle.lib_os.proofs.Serving.{IsServed, served}
 use Rattle.lib_os.proofs.Slots.{slot_kept, slot_put}
 use Rattle.lib_os.proofs.StatesStand.{born_not_first}
+use Rattle.lib_fd.specs.DescriptorStages.{descriptor_va}
+use Rattle.lib_request.specs.PageRequests.{reply_asked, reply_asked_at, request_asked}
 use Rattle.lib_stage.specs.Asks.{performed}
+use Rattle.lib_stage.specs.declared.ask.Ask.{Ask}
 use Rattle.lib_stage.specs.declared.ask.Next.{Next}
 use Rattle.lib_stage.specs.declared.ask.Next.TheVariants as next
 use Rattle.lib_stage.specs.Nexts.{settled}
@@ -57,72 +62,110 @@ settled_home number (next.Handle at) t n =
 settled_home number next.Leave t n = refl
 settled_home number next.Gone t n = refl
 
+settled_spaces : (number : ℕ) (after : Next) (t : KernelState) (n : ℕ) → (settled number after t n).spaces ≡ t.spaces
+settled_spaces number (next.Answer word) t n = refl
+settled_spaces number (next.Answers eax edx ecx ebx) t n = refl
+settled_spaces number (next.GoOn at) t n = refl
+settled_spaces number (next.GoBack word) t n = refl
+settled_spaces number (next.Show at) t n = refl
+settled_spaces number (next.Wait at) t n = refl
+settled_spaces number (next.Handle at) t n = refl
+settled_spaces number next.Leave t n = refl
+settled_spaces number next.Gone t n = refl
+
 module _ (s : KernelState) (n : ℕ) (live : is_live (slot_at s n) ≡ true) where
-  -- ---- it begins to wait
+  -- ---- it begins to wait, and the page that comes with the reply is put at this address
 
-  abbrev waiting : KernelState
-  waiting = with_status (with_rendezvous s n (wanting (slot_at s n).rendezvous UTOP FIRST_ENV_ID)) n NotRunnable
+  abbrev waiting : ℕ → KernelState
+  waiting va = with_status (with_rendezvous s n (wanting (slot_at s n).rendezvous va FIRST_ENV_ID)) n NotRunnable
 
-  -- with the words that tell how far it is
-  with_words_so : (words : List ℕ) → SameSpaces n s (with_extra waiting n words)
-  with_words_so words =
-      let r = wanting (slot_at s n).rendezvous UTOP FIRST_ENV_ID in
+  waiting_home : (va : ℕ) → (slot_at (waiting va) n).directory ≡ (slot_at s n).directory
+  waiting_home va =
+      let r = wanting (slot_at s n).rendezvous va FIRST_ENV_ID in
       let t = with_rendezvous s n r in
-      record {
-        spaces = refl;
-        home = put_home waiting n (record (slot_at waiting n) { extra = words }) refl
-            ∙ put_home t n (record (slot_at t n) { status = NotRunnable }) refl
-            ∙ put_home s n (record (slot_at s n) { rendezvous = r }) refl;
-      }
-
-  -- a plan that asks to wait
-  by_plan : (plan : Plan) (words : List ℕ) →
-      (upshot_by plan n (record { state = waiting; gives = got Blocked; written = [] }) (got Blocked)).state ≡ with_extra waiting n words →
-      (upshot_by plan n (system s n SYS_IPC_RECV (UTOP ∷ FIRST_ENV_ID ∷ 0 ∷ 0 ∷ 0 ∷ []))
-      (system s n SYS_IPC_RECV (UTOP ∷ FIRST_ENV_ID ∷ 0 ∷ 0 ∷ 0 ∷ [])).gives).state ≡ with_extra waiting n words
-  by_plan plan words is =
-      ap (λ (z : CallStep Called). (upshot_by plan n z z.gives).state) (ipc_recv_is s n live UTOP FIRST_ENV_ID (0 ∷ 0 ∷ 0 ∷ []) refl) ∙ is
+      put_home t n (record (slot_at t n) { status = NotRunnable }) refl ∙ put_home s n (record (slot_at s n) { rendezvous = r }) refl
 
   module _ (after : KernelState) (output : Output) (done : Progress) where
-    waits_so : (of : Service) (at : Step) → awaits_reply (place.InService of at) ≡ true → IsServiceStep (Ok done) s n (plan_at of at) after output →
+    waits_by : (plan : Plan) (va : ℕ) → va % PGSIZE ≡ 0 → plan.asks ≡ reply_asked_at va → IsServiceStep (Ok done) s n plan after output →
         SameSpaces n s after
     unfolding performed
-    waits_so service.Sync (step.Awaiting id) is made =
-        subst (λ (t : KernelState). SameSpaces n s t)
-        (sym (made.1 ∙ by_plan (plan_at service.Sync (step.Awaiting id)) (words_at SERVICE_SYNC (step.ReadingReply id)) refl))
-        (with_words_so (words_at SERVICE_SYNC (step.ReadingReply id)))
-    waits_so (service.Remove path) (step.Awaiting id) is made =
-        subst (λ (t : KernelState). SameSpaces n s t)
-        (sym (made.1 ∙ by_plan (plan_at (service.Remove path) (step.Awaiting id)) (words_at SERVICE_REMOVE (step.Clearing id)) refl))
-        (with_words_so (words_at SERVICE_REMOVE (step.Clearing id)))
+    waits_by plan va start asks_it made =
+        let is : after ≡ settled plan.number (plan.next Blocked) (waiting va) n =
+        made.1 ∙ ap (λ (q : Ask). (upshot_by plan n (performed s n q) (performed s n q).gives).state) asks_it
+        ∙ ap (λ (z : CallStep Called). (upshot_by plan n z z.gives).state)
+        (ipc_recv_is s n live va FIRST_ENV_ID (0 ∷ 0 ∷ 0 ∷ []) (receives_at va start)) in
+        record {
+          spaces = ap (λ (t : KernelState). t.spaces) is ∙ settled_spaces plan.number (plan.next Blocked) (waiting va) n;
+          home = ap (λ (t : KernelState). (slot_at t n).directory) is ∙ settled_home plan.number (plan.next Blocked) (waiting va) n ∙ waiting_home va;
+        }
+
+    -- where no page comes
+    waits_alone : (of : Service) (at : Step) → (plan_at of at).asks ≡ reply_asked → IsServiceStep (Ok done) s n (plan_at of at) after output →
+        SameSpaces n s after
+    waits_alone of at asks_it made = waits_by (plan_at of at) UTOP refl asks_it made
+
+    waits_so : (of : Service) (at : Step) → awaits_reply (place.InService of at) ≡ true → IsServiceStep (Ok done) s n (plan_at of at) after output →
+        SameSpaces n s after
+    waits_so service.Sync (step.Awaiting id) is made = waits_alone service.Sync (step.Awaiting id) refl made
+    waits_so (service.Remove path) (step.Awaiting id) is made = waits_alone (service.Remove path) (step.Awaiting id) refl made
+    waits_so (service.OpenFile path mode) (step.OpenAwaiting id fd) is made =
+        waits_by (plan_at (service.OpenFile path mode) (step.OpenAwaiting id fd)) (descriptor_va fd) (omega arith) refl made
+    waits_so (service.Seek fd offset) (step.Awaiting id) is made = waits_alone (service.Seek fd offset) (step.Awaiting id) refl made
+    waits_so (service.SetSize fd size) (step.Awaiting id) is made = waits_alone (service.SetSize fd size) (step.Awaiting id) refl made
+    waits_so (service.Write fd va len) (step.Awaiting id) is made = waits_alone (service.Write fd va len) (step.Awaiting id) refl made
+    waits_so (service.Read fd va len) (step.Awaiting id) is made = waits_alone (service.Read fd va len) (step.Awaiting id) refl made
+    waits_so (service.Stat fd va) (step.Awaiting id) is made = waits_alone (service.Stat fd va) (step.Awaiting id) refl made
     waits_so _ _ is made = absurd (false≢true is)
 
     -- ---- it asks
 
-    asks_so : (a : AbstractState) → Stands s a → (of : Service) (at : Step) → place_of (slot_at s n) ≡ place.InService of at →
-        asks_by_page (place.InService of at) ≡ true → IsServiceStep (Ok done) s n (plan_at of at) after output → SameHome n s after
+    asks_by : (a : AbstractState) → Stands s a → (call : Service) → brings_page call ≡ true → (id fd : ℕ) →
+        place_of (slot_at s n) ≡ place.InService call (asking_step call id fd) → (plan : Plan) → plan.asks ≡ request_asked (word_asked call) →
+        IsServiceStep (Ok done) s n plan after output → SameHome n s after
     unfolding performed
-    asks_so a h (service.Remove path) (step.Asking id) stands is made = by_outcome (page_asks_or_waits h.1 n v.b v.is v.at.1.is_in.silent (path_page v))
+    asks_by a h call with_page id fd stands plan asks_it made =
+        by_outcome (page_asks_or_waits h.1 n v.b v.is silent (request_page id fd call with_page v) (word_asked call))
       where
-        v : IsServed h.0 s a n (service.Remove path) (step.Asking id)
-        v = served h.1 n (service.Remove path) (step.Asking id) stands
+        v : IsServed h.0 s a n call (asking_step call id fd)
+        v = served h.1 n call (asking_step call id fd) stands
 
-        plan : Plan
-        plan = plan_at (service.Remove path) (step.Asking id)
+        seen : View
+        seen = view_of s.spaces (slot_at s n).directory
 
-        came : (t : KernelState) (word : ℕ) → page_ask_call s n ≡ giving t (Answered word) → SameHome n s t → SameHome n s after
+        silent : (slot_at s n).rendezvous.receiving ≡ false
+        silent = (told_in seen (slot_at s n) v.b call (told_asking seen (slot_at s n) v.b call with_page id fd v.at).2).1.silent
+
+        came : (t : KernelState) (word : ℕ) → page_ask_call s n (word_asked call) ≡ giving t (Answered word) → SameHome n s t → SameHome n s after
         came t word call_is same =
             ap (λ (x : KernelState). (slot_at x n).directory)
-            (made.1 ∙ ap (λ (z : CallStep Called). (upshot_by plan n z z.gives).state) call_is)
+            (made.1 ∙ ap (λ (q : Ask). (upshot_by plan n (performed s n q) (performed s n q).gives).state) asks_it
+            ∙ ap (λ (z : CallStep Called). (upshot_by plan n z z.gives).state) call_is)
             ∙ settled_home plan.number (plan.next (Answered word)) t n ∙ same
 
-        by_outcome : PageAsksOrWaits s a n → SameHome n s after
+        by_outcome : PageAsksOrWaits s a n (word_asked call) → SameHome n s after
         by_outcome (asks idle_so waited sp comes call_is) =
-            came (page_asked s sp n) 0 call_is
-            (ap (λ (x : Slot). x.directory) (slot_kept (with_spaces s sp) 0 (server_told s n) n
+            came (page_asked s sp n (word_asked call)) 0 call_is
+            (ap (λ (x : Slot). x.directory) (slot_kept (with_spaces s sp) 0 (server_told s n (word_asked call)) n
             (λ same. born_not_first h.1 n v.b v.is (sym same))))
         by_outcome (lacks call_is) = came (with_refusal s) (negated E_NO_MEM) call_is refl
         by_outcome (waits not_idle call_is) = came s (negated E_IPC_NOT_RECV) call_is refl
+
+    asks_so : (a : AbstractState) → Stands s a → (of : Service) (at : Step) → place_of (slot_at s n) ≡ place.InService of at →
+        asks_by_page (place.InService of at) ≡ true → IsServiceStep (Ok done) s n (plan_at of at) after output → SameHome n s after
+    asks_so a h (service.Remove path) (step.Asking id) stands is made =
+        asks_by a h (service.Remove path) refl id 0 stands (plan_at (service.Remove path) (step.Asking id)) refl made
+    asks_so a h (service.OpenFile path mode) (step.OpenAsking id fd) stands is made =
+        asks_by a h (service.OpenFile path mode) refl id fd stands (plan_at (service.OpenFile path mode) (step.OpenAsking id fd)) refl made
+    asks_so a h (service.Seek fd offset) (step.Asking id) stands is made =
+        asks_by a h (service.Seek fd offset) refl id 0 stands (plan_at (service.Seek fd offset) (step.Asking id)) refl made
+    asks_so a h (service.SetSize fd size) (step.Asking id) stands is made =
+        asks_by a h (service.SetSize fd size) refl id 0 stands (plan_at (service.SetSize fd size) (step.Asking id)) refl made
+    asks_so a h (service.Write fd va len) (step.Asking id) stands is made =
+        asks_by a h (service.Write fd va len) refl id 0 stands (plan_at (service.Write fd va len) (step.Asking id)) refl made
+    asks_so a h (service.Read fd va len) (step.Asking id) stands is made =
+        asks_by a h (service.Read fd va len) refl id 0 stands (plan_at (service.Read fd va len) (step.Asking id)) refl made
+    asks_so a h (service.Stat fd va) (step.Asking id) stands is made =
+        asks_by a h (service.Stat fd va) refl id 0 stands (plan_at (service.Stat fd va) (step.Asking id)) refl made
     asks_so a h _ _ stands is made = absurd (false≢true is)
 
     service_requests : (of : Service) (at : Step) → place_of (slot_at s n) ≡ place.InService of at →

@@ -11,20 +11,19 @@ use Rattle.jos_base.specs.KernelState.{KernelState, slot_at}
 use Rattle.fs_layout.specs.declared.numbers.TheConstants.{BLKSIZE}
 use Rattle.fs_layout.specs.DiskFiles.{IsDiskImage, file_system_of}
 use Rattle.fs_layout.specs.DiskImage.{block_count}
-use Rattle.fs_layout.specs.FileTree.{FileSystem, open_path, read_file, remove_path, set_file_size, stat_file, sync_files, write_file}
+use Rattle.fs_layout.specs.FileTree.{FileSystem}
 use Rattle.fs_acts.specs.BlockLaws.{SameWithin}
 use Rattle.fs_acts.proofs.Disks.{blocks-decide}
-use Rattle.lib_os.specs.AbstractState.{AbstractState, Request, Server, act, acted, busy, idle, leaving, looking, seek}
+use Rattle.lib_os.specs.AbstractState.{AbstractState, Server, acted, busy, idle, leaving, looking}
 use Rattle.lib_os.specs.BlockCache.{IsCache, block_value}
 use Rattle.lib_os.specs.Disk.{Disk, byte_in_blocks}
-use Rattle.lib_os.specs.FileServer.{request_begun}
 use Rattle.lib_os.specs.StandsFor.{IsServerStatus, IsStatusFor}
 use Rattle.fs_cache.specs.CacheStands.{cached_in}
 use Rattle.fs_runs.specs.TreeRuns.{Memory}
 use Rattle.fs_tree.specs.TreeSteps.{disk_bytes, memory_in}
 use Rattle.fs_requests.specs.declared.state.ServerStep.{ServerStep}
 use Rattle.fs_requests.specs.declared.state.ServerStep.TheVariants as step
-use Rattle.fs_serving.specs.ServerRuns.{HasFiles, IsFound, IsStoring, StandsAtStep, StandsServing, is_serving, moved, opened, removed, sought}
+use Rattle.fs_serving.specs.ServerRuns.{HasFiles, StandsAtStep, StandsServing, is_serving}
 use Rattle.fs_serving.specs.ServerViews.{Serving}
 use Rattle.fs_server.specs.ServerSteps.{server_at}
 use Rattle.fs_seen.specs.ServerMemory.{AreDiskBytes, serving_in}
@@ -38,67 +37,11 @@ use Rattle.jos_run.specs.ServerStands.{StandsWhole}
 use Rattle.jos_run.specs.Start.{HoldsFiles}
 use Rattle.jos_run.specs.Steps.{is_awake, is_servers}
 use Rattle.jos_run.specs.Worlds.{beside}
+use Rattle.jos_run.proofs.ServerNow.{acts_at}
 
 -- ---- by its step
 
-begun_acts : (client : ℕ) (request : Request) → is_acting (request_begun client request) ≡ true
-begun_acts client (act (open_path path mode) object) = refl
-begun_acts client (act (read_file way offset len) object) = refl
-begun_acts client (act (write_file way offset bytes) object) = refl
-begun_acts client (act (set_file_size way size) object) = refl
-begun_acts client (act (stat_file way) object) = refl
-begun_acts client (act (remove_path path) object) = refl
-begun_acts client (act sync_files object) = refl
-begun_acts client (seek name offset) = refl
-
 module _ (count : ℕ) (a : AbstractState) (it : Serving) (before : Memory) where
-  acts_as : (x : Server) → a.server ≡ x → is_acting x ≡ true → is_acting a.server ≡ true
-  acts_as x same acts = ap is_acting same ∙ acts
-
-  rests_as : (x : Server) → a.server ≡ x → is_acting x ≡ false → is_acting a.server ≡ false
-  rests_as x same rests = ap is_acting same ∙ rests
-
-  acts_storing : IsStoring a it before → is_acting a.server ≡ true
-  acts_storing (opened so) = acts_as _ so.opened.opening.is_busy.server refl
-  acts_storing (moved so at) = acts_as _ so.is_busy.server refl
-  acts_storing (sought name so number at none memory) = acts_as _ so.server refl
-
-  acts_found : IsFound count a it before → is_acting a.server ≡ true
-  acts_found (opened path mode home so running) = acts_as _ so.opening.is_busy.server refl
-  acts_found (removed so) = acts_as _ so.is_busy.server refl
-
-  -- it is busy with a request from the step in which that is read to that of its act
-  acts_at : (at : ServerStep) → StandsAtStep at count a it before → is_acting a.server ≡ is_serving at
-  acts_at step.Releasing h = rests_as leaving h.0 refl
-  acts_at step.Receiving h = rests_as leaving h.0 refl
-  acts_at step.ReadingKind h = acts_as _ h.2.server (begun_acts _ h.2.request)
-  acts_at step.ReadingClient h = acts_as _ h.2.server (begun_acts _ h.2.request)
-  acts_at step.ReadingFile h = acts_as _ h.is_busy.server refl
-  acts_at step.ReadingOffset h = acts_as _ h.0.is_busy.server refl
-  acts_at step.ReadingCount h = acts_as _ h.0.is_busy.server refl
-  acts_at step.ReadingRecord h = acts_as _ h.0.is_busy.server refl
-  acts_at step.LookingRecord h = acts_as _ h.server refl
-  acts_at step.LookingEntry h = acts_as _ h.0.server refl
-  acts_at step.LookingHolders h = acts_as _ h.0.server refl
-  acts_at step.TakingPage h = acts_as _ h.2.is_busy.server refl
-  acts_at step.ReadingMode h = acts_as _ h.2.is_busy.server refl
-  acts_at step.Working h = acts_as _ h.is_busy.server refl
-  acts_at step.Finding h = acts_found h
-  acts_at step.StoringRecord h = acts_as _ h.opened.opening.is_busy.server refl
-  acts_at step.StoringDevice h = acts_as _ h.opened.opening.is_busy.server refl
-  acts_at step.ReadingModeAgain h = acts_as _ h.opened.opening.is_busy.server refl
-  acts_at step.StoringMode h = acts_as _ h.opened.opening.is_busy.server refl
-  acts_at step.StoringFile h = acts_as _ h.opened.opening.is_busy.server refl
-  acts_at step.Advancing h = acts_as _ h.is_busy.server refl
-  acts_at step.StoringOffset h = acts_storing h
-  acts_at step.CheckingRecord h = acts_as _ h.is_busy.server refl
-  acts_at step.CheckingEntry h = acts_as _ h.0.is_busy.server refl
-  acts_at step.CheckingHolders h = acts_as _ h.0.is_busy.server refl
-  acts_at step.Flushing h = acts_as _ h.0.server refl
-  acts_at step.Acting h = acts_as _ h.is_busy.server refl
-  acts_at step.Replying h = rests_as _ h.server refl
-  acts_at step.Pausing h = rests_as _ h.server refl
-
   abbrev Unchanged : Type 0
   Unchanged = it.view.memory.disk ≡ before.disk
 

@@ -4,6 +4,7 @@ pub mod Answers
 pub mod Choices
 pub mod ServerTurns
 pub mod RequestsCalm
+pub mod RequestsMade
 pub mod AwaitsReply
 pub mod PathTold
 pub mod PagesLeft
@@ -47,6 +48,9 @@ pub mod DiskBegins
 pub mod StartStands
 pub mod EnoughFrames
 pub mod Refusals
+pub mod OpenReplies
+pub mod PageGiven
+pub mod ReplyParts
 pub mod Advancing
 pub mod QuietSteps
 pub mod RunSteps
@@ -58,14 +62,16 @@ pub mod GuestBursts
 pub mod StepsMade
 pub mod ServerLeavings
 pub mod ServerNow
+pub mod ActsBehind
+pub mod CallNexts
+pub mod CallActs
+pub mod ServerCalls
 pub mod FilesStand
 pub mod ServerGoes
 pub mod ServerRows
 pub mod CacheCalls
-pub mod RemovalRuns
 pub mod CacheGoes
 pub mod ServerWorks
-pub mod ActsStand
 pub mod ServerPrints
 pub mod ServerStepped
 pub mod ServerFlushes

@@ -1,7 +1,7 @@
 -- What a step of another leaves of the file server's pages: nobody else has any of them but that of the request, where that is lent; and then it is
 -- the page of the client that waits, which no other environment has, and which that one leaves alone.
-use Rattle.std.proofs.Common.{◌≡◌, ◌≢◌, ◌∙◌, ◌<◌, ◌==◌, ℕ, Bool, true, false, [], Option, Some, None, refl, sym, ap, subst, arith}
-use Rattle.std.specs.Prelude.{is_some, nat_lt, slice_index, if◌then◌else◌}
+use Rattle.std.proofs.Common.{◌≡◌, ◌≢◌, ◌∙◌, ◌==◌, ℕ, Bool, true, false, [], ◌∷◌, Option, Some, refl, sym, ap, subst, arith}
+use Rattle.std.specs.Prelude.{is_some}
 use Rattle.std.specs.Option.{option_map}
 use Rattle.std.proofs.lemmas.Bool.Decides.{nat_tests}
 use Rattle.std.proofs.lemmas.Bool.{false≢true}
@@ -14,32 +14,33 @@ use Rattle.jos_base.specs.Environments.{Slot, is_live}
 use Rattle.jos_base.specs.KernelState.{KernelState, slot_at}
 use Rattle.jos_base.specs.Reach.{Entry}
 use Rattle.jos_base.specs.Words.{page_number}
-use Rattle.fs_layout.specs.FileTree.{remove_path, sync_files}
-use Rattle.lib_os.specs.declared.numbers.TheConstants.{MAXOPEN}
+use Rattle.lib_os.specs.declared.numbers.TheConstants.{REQUEST}
 use Rattle.lib_os.specs.declared.place.Place.{Place}
 use Rattle.lib_os.specs.declared.place.Place.TheVariants as place
-use Rattle.lib_os.specs.declared.place.Step.TheVariants as step
+use Rattle.lib_os.specs.declared.place.Step.{Step}
 use Rattle.lib_os.specs.declared.service.Service.{Service}
 use Rattle.lib_os.specs.declared.service.Service.TheVariants as service
 use Rattle.lib_os.specs.AbstractLaws.{ServesWhoAsked, client_served, has_asked}
-use Rattle.lib_os.specs.AbstractState.{AbstractState, Born, Server, act, acted, asked, awaiting, born, busy, idle, in_service, leaving, Phase}
+use Rattle.lib_os.specs.AbstractState.{AbstractState, Born, Server, acted, asked, awaiting, born, busy, idle, in_service, leaving, looking, Phase}
 use Rattle.lib_os.specs.Disk.{Disk}
-use Rattle.lib_os.specs.LibraryPages.{IsOwnWritable, has_working}
+use Rattle.lib_os.specs.LibraryPages.{IsOwnWritable, View, has_working}
 use Rattle.lib_os.specs.LibrarySteps.{KeepsWorking, LacksFrame, LeavesServer, Stands}
 use Rattle.lib_os.specs.Places.{place_of}
-use Rattle.lib_os.specs.Rows.{Names, Rows, is_shared, lasting, logical, rows_of}
+use Rattle.lib_os.specs.Rows.{MayBeHad, Names, Rows, is_descriptor, is_shared, lasting, logical, rows_of}
 use Rattle.lib_os.specs.StandsFor.{IsStatusFor, StandsFor, StandsForBorn, view_of}
-use Rattle.lib_os.proofs.AskedPlaces.{IsRequesting, asks as asks_it, awaiting_step, expects, is_request, is_requests, requesting}
+use Rattle.lib_os.proofs.AskedPlaces.{IsRequesting, asked_step, asks as asks_it, awaiting_step, expects, expects_so, is_request, is_requests}
+use Rattle.lib_os.proofs.AskedPlaces.{requesting}
 use Rattle.lib_os.proofs.EntriesCount.{Counts, entry_counts}
 use Rattle.lib_os.proofs.EntriesStand.{other_frame, same_sharing}
 use Rattle.lib_os.proofs.Logical.{clients_so, is_plain, logical_plain}
 use Rattle.lib_os.proofs.ServedStay.{HasClient, client_is}
-use Rattle.lib_os.proofs.ServerStands.{IsPlacePage, IsPrivateAt, first_slot, plain_private}
+use Rattle.lib_os.proofs.ServerStands.{first_slot}
 use Rattle.lib_os.proofs.SlotsStand.{born_at, born_live}
 use Rattle.lib_os.proofs.StatesStand.{born_not_first}
-use Rattle.fs_seen.specs.ServerMemory.{bytes_by, entry_of, has_request, place_page, request_page, view_in}
-use Rattle.fs_seen.specs.ServerWhole.{LeavesPages, NothingOpened, keeps_request}
-use Rattle.jos_run.specs.ServerStands.{HasLent, IsBuiltRequest, IsLent, ServerStands, step_of}
+use Rattle.fs_seen.specs.ServerMemory.{entry_of, has_request, request_page, sends_page}
+use Rattle.fs_seen.specs.ServerOthers.{LeavesBytes}
+use Rattle.fs_seen.specs.ServerWhole.{keeps_request}
+use Rattle.jos_run.specs.ServerStands.{HasLent, IsLent, IsLentBy, ServerStands, step_of}
 use Rattle.jos_run.specs.Steps.{is_awake}
 use Rattle.jos_run.proofs.RequestsCalm.{RequestsCalmly, awaits_reply}
 
@@ -51,35 +52,43 @@ requests (in_service s awaiting) is = refl
 requests _ is = absurd (false≢true is)
 
 -- one who has asked bears no child, and its pages count as they stand
-asking_plain : (s : Service) → is_requests s ≡ true → (id : ℕ) → is_plain (place.InService s (step.Awaiting id)) ≡ true
-asking_plain service.Sync is id = refl
-asking_plain (service.Remove path) is id = refl
-asking_plain _ is id = absurd (false≢true is)
+requests_plain : (s : Service) → is_requests s ≡ true → (at : Step) → is_plain (place.InService s at) ≡ true
+requests_plain service.Sync is at = refl
+requests_plain (service.OpenFile path mode) is at = refl
+requests_plain (service.Remove path) is at = refl
+requests_plain (service.Seek fd offset) is at = refl
+requests_plain (service.SetSize fd size) is at = refl
+requests_plain (service.Write fd va len) is at = refl
+requests_plain (service.Read fd va len) is at = refl
+requests_plain (service.Stat fd va) is at = refl
+requests_plain _ is at = absurd (false≢true is)
 
-waiting_plain : (s : Service) → is_requests s ≡ true → (id : ℕ) → is_plain (place.InService s (awaiting_step s id)) ≡ true
-waiting_plain service.Sync is id = refl
-waiting_plain (service.Remove path) is id = refl
-waiting_plain _ is id = absurd (false≢true is)
-
-requesting_plain : {p : Place} {k : Slot} {b : Born} → IsRequesting p k b → is_plain p ≡ true
-requesting_plain (asks_it s is id at self so) = ap is_plain at ∙ asking_plain s is id
-requesting_plain (expects s is id at self so) = ap is_plain at ∙ waiting_plain s is id
+requesting_plain : {p : Place} {v : View} {k : Slot} {b : Born} → IsRequesting p v k b → is_plain p ≡ true
+requesting_plain (asks_it s is id fd at self so) = ap is_plain at ∙ requests_plain s is (asked_step s id fd)
+requesting_plain (expects s is id fd at self so) = ap is_plain at ∙ requests_plain s is (awaiting_step s id fd)
 
 -- and where it makes a step it is about to wait
-asking_awaits : (s : Service) → is_requests s ≡ true → (id : ℕ) → awaits_reply (place.InService s (step.Awaiting id)) ≡ true
-asking_awaits service.Sync is id = refl
-asking_awaits (service.Remove path) is id = refl
-asking_awaits _ is id = absurd (false≢true is)
+asking_awaits : (s : Service) → is_requests s ≡ true → (id fd : ℕ) → awaits_reply (place.InService s (asked_step s id fd)) ≡ true
+asking_awaits service.Sync is id fd = refl
+asking_awaits (service.OpenFile path mode) is id fd = refl
+asking_awaits (service.Remove path) is id fd = refl
+asking_awaits (service.Seek given offset) is id fd = refl
+asking_awaits (service.SetSize given size) is id fd = refl
+asking_awaits (service.Write given va len) is id fd = refl
+asking_awaits (service.Read given va len) is id fd = refl
+asking_awaits (service.Stat given va) is id fd = refl
+asking_awaits _ is id fd = absurd (false≢true is)
 
 blocked_asleep : (status : Status) → IsStatusFor status true → is_awake status ≡ true → ⊥
 blocked_asleep NotRunnable is awake = false≢true awake
 blocked_asleep _ is awake = is
 
-requesting_awaits : {p : Place} {k : Slot} {b : Born} → IsStatusFor k.status b.blocked → is_awake k.status ≡ true → IsRequesting p k b →
-    awaits_reply p ≡ true
-requesting_awaits runs awake (asks_it s is id at self so) = ap awaits_reply at ∙ asking_awaits s is id
-requesting_awaits {k = k} runs awake (expects s is id at self so) =
-    absurd (blocked_asleep k.status (subst (λ (c : Bool). IsStatusFor k.status c) so.blocked runs) awake)
+requesting_awaits : {p : Place} {v : View} {k : Slot} {b : Born} → IsStatusFor k.status b.blocked → is_awake k.status ≡ true →
+    IsRequesting p v k b → awaits_reply p ≡ true
+requesting_awaits runs awake (asks_it s is id fd at self so) = ap awaits_reply at ∙ asking_awaits s is id fd
+requesting_awaits {v = v} {k = k} {b = b} runs awake (expects s is id fd at self so) =
+    let blocked = (expects_so v k b s fd so).blocked in
+    absurd (blocked_asleep k.status (subst (λ (c : Bool). IsStatusFor k.status c) blocked runs) awake)
 
 -- ---- who has a page
 
@@ -91,40 +100,18 @@ module _ {names : Names} {s : KernelState} {a : AbstractState} (h : StandsFor na
   other_space : (n : ℕ) → n ≢ 0 → is_live (slot_at s n) ≡ true → (slot_at s n).directory ≢ (slot_at s 0).directory
   other_space n other live alike = other (h.in_order.spaces.apart n 0 live (first_slot h).lives alike)
 
-  -- A page that no client has is in none of its frames.
-  private_lacked : (n : ℕ) → n ≢ 0 → is_live (slot_at s n) ≡ true → (q : ℕ) → IsPrivateAt s q → (e : Entry) → entry_of s 0 q ≡ Some e →
+  -- What another has of the server's pages, but that of the request, is a descriptor's.
+  pub others_lack : (n : ℕ) → n ≢ 0 → is_live (slot_at s n) ≡ true → (q : ℕ) → q ≢ request_page → (e : Entry) → entry_of s 0 q ≡ Some e →
       LacksFrame s n e.frame
   unfolding rows_of
-  private_lacked n other live q private e there p x is same =
+  others_lack n other live q ne e there p x beside is same =
       let found = entry_counts h (slot_at s n).directory p (lasting x) (other_space n other live) (ap (option_map lasting) is) in
-      private (lasting e) (ap (option_map lasting) there) found.slot found.page found.entry found.counts (found.frame ∙ same)
-
-  -- where nothing was ever opened no place of the table has a page
-  no_place_page : (d : Disk) → NothingOpened a (view_in d s 0) → (number : ℕ) → number < MAXOPEN → entry_of s 0 (place_page number) ≡ None
-  no_place_page d none number below = by_entry (entry_of s 0 (place_page number)) seen
-    where
-      low : nat_lt number MAXOPEN ≡ true
-      low = grind (arith, nat_tests, below)
-
-      seen : bytes_by s (entry_of s 0 (place_page number)) ≡ None
-      seen = ap (λ (t : Bool). bytes_by s (if t then entry_of s 0 (place_page number) else None)) (sym low) ∙ none.pages number
-
-      by_entry : (o : Option Entry) → bytes_by s o ≡ None → o ≡ None
-      by_entry None is = refl
-      by_entry (Some e) is = absurd (none-some (slice_index (s.spaces.pages e.frame)) (sym is))
-
-  -- so nobody else has a page of the server's but that of the request
-  pub others_lack : (d : Disk) → NothingOpened a (view_in d s 0) → (n : ℕ) → n ≢ 0 → is_live (slot_at s n) ≡ true → (q : ℕ) → q ≢ request_page →
-      (e : Entry) → entry_of s 0 q ≡ Some e → LacksFrame s n e.frame
-  others_lack d none n other live q ne e there =
-      private_lacked n other live q (plain_private h q (record { no_request = grind (arith, nat_tests, ne); no_place = no_place })) e there
-    where
-      no_place : IsPlacePage q → ⊥
-      no_place at =
-          let below = at.1 in
-          let is = at.2 in
-          let same : q ≡ place_page at.0 = omega (arith, below, is) in
-          none-some e (sym (no_place_page d none at.0 at.1) ∙ ap (entry_of s 0) (sym same) ∙ there)
+      let no_request : (q == page_number REQUEST) ≡ false = grind (arith, nat_tests, ne) in
+      let had : MayBeHad false found.page found.entry =
+      subst (λ (c : Bool). MayBeHad c found.page found.entry) no_request
+      (h.beside found.slot found.page q found.entry (lasting e) found.counts (ap (option_map lasting) there) (found.frame ∙ same)) in
+      let at_page : found.page ≡ p = found.itself (sym found.sharing ∙ had.shared) in
+      let contradiction : false ≡ true = sym beside ∙ ap is_descriptor (sym at_page) ∙ had.descriptor in cc
 
   -- ---- the page in which a client has told its request
 
@@ -133,7 +120,7 @@ module _ {names : Names} {s : KernelState} {a : AbstractState} (h : StandsFor na
     born_so : StandsForBorn names s.spaces (slot_at s client) b
     born_so = born_at h client b at
 
-    requests_so : IsRequesting (place_of (slot_at s client)) (slot_at s client) b
+    requests_so : IsRequesting (place_of (slot_at s client)) (view_of s.spaces (slot_at s client).directory) (slot_at s client) b
     requests_so =
         requesting (place_of (slot_at s client)) (view_of s.spaces (slot_at s client).directory) (slot_at s client) b born_so.at request
 
@@ -158,7 +145,7 @@ module _ {names : Names} {s : KernelState} {a : AbstractState} (h : StandsFor na
     -- and no other has it
     pub clients_page : (n : ℕ) → n ≢ 0 → is_live (slot_at s n) ≡ true → n ≢ client → LacksFrame s n own.frame
     unfolding rows_of
-    clients_page n other live ne p x is same =
+    clients_page n other live ne p x beside is same =
         other_frame counted h.apart client (page_number UTEMP) found.slot found.page found.entry page.entry elsewhere page_counts page.writes found.counts
         sharing frames
       where
@@ -193,7 +180,7 @@ module _ (d : Disk) (n : ℕ) (s after : KernelState) (other : n ≢ 0) (live : 
   there_as : has_request after 0 ≡ has_request s 0
   there_as = ap (λ (o : Option Entry). is_some o) (entries request_page)
 
-  -- the client of a removal, and the page that it has lent
+  -- the client, and the page that it has lent
   module _ (client : ℕ) (served : client_served a.server ≡ Some client) (lent : IsLent s client) where
     who : HasClient a client
     who = client_is a k.asked client served
@@ -245,38 +232,49 @@ module _ (d : Disk) (n : ℕ) (s after : KernelState) (other : n ≢ 0) (live : 
             let ne : client ≢ n = grind (arith, nat_tests, test) in
             working stands.1.in_order live a h client who.b ne who.is (born_live (born_at stands.1 client then_it.b then_it.is))
 
+  -- the bytes of the page of a request, where one is lent
+  by_page : (client : ℕ) → client_served a.server ≡ Some client → (c : Bool) → IsLentBy c s client → (e : Entry) →
+      entry_of s 0 request_page ≡ Some e → after.spaces.pages e.frame ≡ s.spaces.pages e.frame
+  by_page client served true lent e there = lent_bytes client served lent e there
+  by_page client served false none e there =
+      absurd (let contradiction : false ≡ true = sym none ∙ ap (λ (o : Option Entry). is_some o) there in cc)
+
   request_left : keeps_request a.server ≡ true → (e : Entry) → entry_of s 0 request_page ≡ Some e →
       after.spaces.pages e.frame ≡ s.spaces.pages e.frame
-  request_left keeps e there = by_server a.server refl keeps k.built k.lent
+  request_left keeps e there = by_server a.server refl keeps k.lent
     where
-      by_server : (x : Server) → a.server ≡ x → keeps_request x ≡ true → IsBuiltRequest x → HasLent x s →
-          after.spaces.pages e.frame ≡ s.spaces.pages e.frame
-      by_server leaving is keeps built lent = absurd (false≢true keeps)
-      by_server idle is keeps built lent = absurd (false≢true keeps)
-      by_server (busy client (act sync_files None) None) is keeps built none =
-          absurd (let contradiction : false ≡ true = sym none ∙ ap (λ (o : Option Entry). is_some o) there in cc)
-      by_server (busy client (act (remove_path path) None) None) is keeps built lent =
-          lent_bytes client (ap client_served is) lent e there
-      by_server (acted client answer [] None) is keeps built lent = absurd (false≢true keeps)
-      by_server _ is keeps built lent = absurd built
+      by_server : (x : Server) → a.server ≡ x → keeps_request x ≡ true → HasLent x s → after.spaces.pages e.frame ≡ s.spaces.pages e.frame
+      by_server leaving is keeps lent = absurd (false≢true keeps)
+      by_server idle is keeps lent = absurd (false≢true keeps)
+      by_server (looking client request number) is keeps lent = by_page client (ap client_served is) (sends_page request) lent e there
+      by_server (busy client request number) is keeps lent = by_page client (ap client_served is) (sends_page request) lent e there
+      by_server (acted client answer [] object) is keeps lent = absurd (false≢true keeps)
+      by_server (acted client answer (byte ∷ rest) object) is keeps lent = lent_bytes client (ap client_served is) lent e there
 
-  pub pages_left : LeavesPages a.server s after 0
+  pub pages_left : LeavesBytes a.server s after 0
   pages_left = record {
     slot = it.slot;
     entries = entries;
     tables = it.regions;
-    bytes = λ p e own ne there. it.pages p e there (others_lack h.1 d k.unopened n other live p ne e there);
+    bytes = λ p e own ne there. it.pages p e there (others_lack h.1 n other live p ne e there);
     request = request_left;
-    counts = λ number e below there. absurd (none-some e (sym (no_place_page h.1 d k.unopened number below) ∙ there));
   }
 
   pub lent_left : (c : AbstractState) → Stands after c → c.server ≡ a.server → ServesWhoAsked c → HasLent c.server after
   lent_left c stands same who_asked = subst (λ (x : Server). HasLent x after) (sym same) (by_server a.server refl k.lent)
     where
+      lent_then : (client : ℕ) → client_served a.server ≡ Some client → IsLent s client → IsLent after client
+      lent_then client is lent =
+          still_lent client is lent c stands (client_is c who_asked client (ap (λ (x : Server). client_served x) same ∙ is))
+
+      page_then : (client : ℕ) → client_served a.server ≡ Some client → (t : Bool) → IsLentBy t s client → IsLentBy t after client
+      page_then client is true lent = lent_then client is lent
+      page_then client is false none = there_as ∙ none
+
       by_server : (x : Server) → a.server ≡ x → HasLent x s → HasLent x after
       by_server leaving is lent = λ receiving. there_as ∙ lent (ap (λ (x : Slot). step_of x) (sym it.slot) ∙ receiving)
       by_server idle is none = there_as ∙ none
-      by_server (busy client (act sync_files None) None) is none = there_as ∙ none
-      by_server (busy client (act (remove_path path) None) None) is lent =
-          still_lent client (ap client_served is) lent c stands (client_is c who_asked client (ap client_served (same ∙ is)))
-      by_server _ is lent = tt
+      by_server (looking client request number) is lent = page_then client (ap client_served is) (sends_page request) lent
+      by_server (busy client request number) is lent = page_then client (ap client_served is) (sends_page request) lent
+      by_server (acted client answer [] object) is lent = tt
+      by_server (acted client answer (byte ∷ rest) object) is lent = lent_then client (ap client_served is) lent

@@ -14,11 +14,23 @@ use Rattle.lib_os.specs.Places.{place_of}
 abbrev pub awaits_reply : Place → Bool
 awaits_reply (place.InService service.Sync (step.Awaiting id)) = true
 awaits_reply (place.InService (service.Remove path) (step.Awaiting id)) = true
+awaits_reply (place.InService (service.OpenFile path mode) (step.OpenAwaiting id fd)) = true
+awaits_reply (place.InService (service.Seek fd offset) (step.Awaiting id)) = true
+awaits_reply (place.InService (service.SetSize fd size) (step.Awaiting id)) = true
+awaits_reply (place.InService (service.Write fd va len) (step.Awaiting id)) = true
+awaits_reply (place.InService (service.Read fd va len) (step.Awaiting id)) = true
+awaits_reply (place.InService (service.Stat fd va) (step.Awaiting id)) = true
 awaits_reply _ = false
 
 -- it is about to ask, with a page
 abbrev pub asks_by_page : Place → Bool
 asks_by_page (place.InService (service.Remove path) (step.Asking id)) = true
+asks_by_page (place.InService (service.OpenFile path mode) (step.OpenAsking id fd)) = true
+asks_by_page (place.InService (service.Seek fd offset) (step.Asking id)) = true
+asks_by_page (place.InService (service.SetSize fd size) (step.Asking id)) = true
+asks_by_page (place.InService (service.Write fd va len) (step.Asking id)) = true
+asks_by_page (place.InService (service.Read fd va len) (step.Asking id)) = true
+asks_by_page (place.InService (service.Stat fd va) (step.Asking id)) = true
 asks_by_page _ = false
 
 -- the environment in slot n has its own space

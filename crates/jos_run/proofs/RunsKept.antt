@@ -3,6 +3,7 @@
 use Rattle.std.proofs.Common.{◌≡◌, ◌≢◌, ◌∙◌, ℕ, ◌+◌, ◌<◌, ◌≤◌, ◌==◌, ◌||◌, Bool, true, false, List, [], ◌∷◌, ◌++◌, length}
 use Rattle.std.proofs.Common.{Option, Some, None, refl, sym, ap, subst, arith, add-one, append_assoc, if◌then◌else◌}
 use Rattle.std.specs.Prelude.{not, nat_le, nat_lt}
+use Rattle.std.proofs.lemmas.Bool.{false≢true}
 use Rattle.std.proofs.lemmas.Bool.Decides.{nat_tests}
 use Rattle.std.proofs.lemmas.List.{append-nil}
 use Rattle.jos_base.specs.declared.environment.Status.{Status}
@@ -14,6 +15,7 @@ use Rattle.jos_base.specs.KernelState as kernel
 use Rattle.jos_sched.specs.Quantum.{quantum}
 use Rattle.jos_sched.specs.RoundRobin.{next}
 use Rattle.jos_sched.proofs.RoundRobin.{next_runs}
+use Rattle.fs_layout.specs.FileTree.{open_path}
 use Rattle.jos_kernel.specs.declared.report.Turn.{Turn}
 use Rattle.jos_kernel.specs.Books.{turn_of}
 use Rattle.lib_os.specs.declared.place.Place.{Place}
@@ -22,17 +24,21 @@ use Rattle.lib_os.specs.declared.place.Step.{Step}
 use Rattle.lib_os.specs.declared.place.Step.TheVariants as step
 use Rattle.lib_os.specs.declared.progress.Progress.{Progress}
 use Rattle.lib_os.specs.declared.progress.Progress.TheVariants as progress
+use Rattle.lib_os.specs.declared.service.Service.{Service}
 use Rattle.lib_os.specs.declared.service.Service.TheVariants as service
 use Rattle.lib_os.specs.AbstractState.{AbstractState, Born, AbstractSlot, free, unborn, born, idle, serving, Stage, entered, guest, Phase, in_service, can_run, is_idle}
+use Rattle.lib_os.specs.AbstractState.{Request, act, seek}
+use Rattle.lib_os.specs.FileServer.{request_begun}
 use Rattle.lib_os.specs.AbstractRun.{abs_step, program_step, slot_step}
 use Rattle.lib_os.specs.LibraryCall.{library_step}
 use Rattle.lib_os.specs.LibrarySteps.{NothingRefused, Stands, is_pausing, is_yield}
 use Rattle.lib_os.specs.Places.{place_of}
 use Rattle.lib_os.specs.LibraryPages.{View}
 use Rattle.lib_os.specs.Rows.{Names}
-use Rattle.lib_os.specs.StandsFor.{HasWholePath, StandsFor, StandsForSlot, StandsAt, StandsAtStep, IsStatusFor, view_of}
+use Rattle.lib_os.specs.StandsFor.{StandsFor, StandsForSlot, StandsAt, StandsAtStep, TellsRequest, IsStatusFor, borne_in, view_of}
 use Rattle.lib_os.specs.Disk.{Disk}
-use Rattle.lib_os.proofs.PageAsked.{path_asking_step}
+use Rattle.lib_os.proofs.RequestPages.{IsBeside, brings_page, pausing_step, told_pausing}
+use Rattle.lib_os.proofs.RequestsTold.{request_told}
 use Rattle.lib_os.proofs.SlotsStand.{born_at}
 use Rattle.lib_os.proofs.StatesStand.{turn_begun_stands, turn_ended_stands}
 use Rattle.jos_run.specs.AbstractTurns.{turn_begun, steps_taken, abs_run, asks, asks_behind, waits_in, stands_waiting}
@@ -263,6 +269,14 @@ running_born {names = names} {s = s} {a = a} h n other runs = by_slot (a.slots n
 yield_step : (v : View) (k : Slot) (b : Born) (stands : Step) → StandsAtStep v k b service.Yield stands →
     (stage : Stage) × (b.phase ≡ in_service service.Yield stage)
 yield_step v k b step.Entered h = (_, h.phase)
+yield_step v k b (step.CountingReply id) h = absurd (false≢true h.hands)
+yield_step v k b (step.FileRegion done count) h = absurd (false≢true h.hands)
+yield_step v k b (step.FileEntry done count) h = absurd (false≢true h.0.hands)
+yield_step v k b (step.LoadingBytes done count) h = absurd (false≢true h.has.hands)
+yield_step v k b (step.LoadingRest done count first) h = absurd (false≢true h.has.hands)
+yield_step v k b (step.PuttingBytes done count word) h = absurd (false≢true h.has.hands)
+yield_step v k b (step.FileFaulting done count) h = absurd (false≢true h.0.hands)
+yield_step v k b (step.Returning answer) h = absurd (false≢true h.hands)
 yield_step v k b _ h = absurd h
 
 -- one that is about to ask the file server does so where that is idle
@@ -273,21 +287,54 @@ asks_sync a n b regs at awake program phase =
     ap (λ (slot : AbstractSlot). asks_behind (slot_step (record a { server = idle }) n slot)) at
     ∙ (λ i. asks_behind (if awake i then None else program_step (record a { server = idle }) n b (program i) (phase i)))
 
-asks_remove : (a : AbstractState) (n : ℕ) (v : View) (k : Slot) (b : Born) (path : ℕ) → a.slots n ≡ born b → HasWholePath v k b path → asks a n ≡ true
-asks_remove a n v k b path at h =
-    ap asks_behind (path_asking_step (record a { server = idle }) n b k path h.bytes at h.is_in h.ended refl)
+-- whatever is asked, the server is not idle behind that
+begun_serves : (n : ℕ) (request : Request) → is_idle (request_begun n request) ≡ false
+begun_serves n (act (open_path path mode) object) = refl
+begun_serves n (act _ object) = refl
+begun_serves n (seek name offset) = refl
 
-pausing_place : (a : AbstractState) (n : ℕ) (v : View) (k : Slot) (b : Born) (p : Place) → a.slots n ≡ born b → StandsAt p v k b → is_pausing p ≡ true →
-    (waits_in b.phase || asks a n) ≡ true
-pausing_place a n v k b (place.InService (service.Wait id) (step.Pausing perm)) at h pauses = ap (λ (x : Phase). waits_in x || asks a n) h.is_in.phase
-pausing_place a n v k b (place.InService (service.Send id value va) (step.Pausing perm)) at h pauses =
-    ap (λ (x : Phase). waits_in x || asks a n) h.is_in.phase
-pausing_place a n v k b (place.InService service.Sync (step.Pausing id)) at h pauses =
-    ap (λ (c : Bool). waits_in b.phase || c) (asks_sync a n b k.registers at h.1.awake h.1.program h.1.phase) ∙ or-true (waits_in b.phase)
-pausing_place a n v k b (place.InService (service.Remove path) (step.Pausing id)) at h pauses =
-    ap (λ (c : Bool). waits_in b.phase || c) (asks_remove a n v k b path at h.1) ∙ or-true (waits_in b.phase)
-pausing_place a n v k b (place.InService _ (step.Pausing perm)) at h pauses = absurd h
-pausing_place a n v k b _ at h pauses = absurd (let contradiction : false ≡ true = pauses in cc)
+module _ {names : Names} {s : KernelState} {a : AbstractState} (h : StandsFor names s a) (n : ℕ) (b : Born) (at : a.slots n ≡ born b) where
+  abbrev seen : View
+  seen = view_of s.spaces (slot_at s n).directory
+
+  asks_told : (call : Service) (fd : ℕ) → borne_in (place_of (slot_at s n)) ≡ None → IsBeside seen.row call fd →
+      TellsRequest seen (slot_at s n) b call → asks a n ≡ true
+  asks_told call fd unborne beside tells =
+      let it = request_told h n b at unborne call fd beside tells in
+      ap asks_behind (it.asks idle) ∙ ap not (begun_serves n it.request)
+
+  -- a service that asks with a page
+  pauses_to_ask : (call : Service) → brings_page call ≡ true → (id fd : ℕ) → place_of (slot_at s n) ≡ place.InService call (pausing_step call id fd) →
+      StandsAtStep seen (slot_at s n) b call (pausing_step call id fd) → borne_in (place.InService call (pausing_step call id fd)) ≡ None →
+      (waits_in b.phase || asks a n) ≡ true
+  pauses_to_ask call with_page id fd is there unborne =
+      let told = told_pausing seen (slot_at s n) b call with_page id fd there in
+      ap (λ (c : Bool). waits_in b.phase || c) (asks_told call fd (ap borne_in is ∙ unborne) told.1 told.2)
+      ∙ or-true (waits_in b.phase)
+
+  pausing_place : (p : Place) → place_of (slot_at s n) ≡ p → StandsAt p seen (slot_at s n) b → is_pausing p ≡ true → (waits_in b.phase || asks a n) ≡ true
+  pausing_place (place.InService (service.Wait id) (step.Pausing perm)) is there pauses =
+      ap (λ (x : Phase). waits_in x || asks a n) there.is_in.phase
+  pausing_place (place.InService (service.Send id value va) (step.Pausing perm)) is there pauses =
+      ap (λ (x : Phase). waits_in x || asks a n) there.is_in.phase
+  pausing_place (place.InService service.Sync (step.Pausing id)) is there pauses =
+      ap (λ (c : Bool). waits_in b.phase || c) (asks_sync a n b (slot_at s n).registers at there.1.awake there.1.program there.1.phase)
+      ∙ or-true (waits_in b.phase)
+  pausing_place (place.InService (service.Remove path) (step.Pausing id)) is there pauses =
+      pauses_to_ask (service.Remove path) refl id 0 is there refl
+  pausing_place (place.InService (service.OpenFile path mode) (step.OpenPausing id fd)) is there pauses =
+      pauses_to_ask (service.OpenFile path mode) refl id fd is there refl
+  pausing_place (place.InService (service.Seek fd offset) (step.Pausing id)) is there pauses =
+      pauses_to_ask (service.Seek fd offset) refl id 0 is there refl
+  pausing_place (place.InService (service.SetSize fd size) (step.Pausing id)) is there pauses =
+      pauses_to_ask (service.SetSize fd size) refl id 0 is there refl
+  pausing_place (place.InService (service.Write fd va len) (step.Pausing id)) is there pauses =
+      pauses_to_ask (service.Write fd va len) refl id 0 is there refl
+  pausing_place (place.InService (service.Read fd va len) (step.Pausing id)) is there pauses =
+      pauses_to_ask (service.Read fd va len) refl id 0 is there refl
+  pausing_place (place.InService (service.Stat fd va) (step.Pausing id)) is there pauses =
+      pauses_to_ask (service.Stat fd va) refl id 0 is there refl
+  pausing_place _ is there pauses = absurd (false≢true pauses)
 
 -- One that is about to give up its turn waits in a service.
 pub pausing_waits : {names : Names} {s : KernelState} {a : AbstractState} → StandsFor names s a → (n : ℕ) → n ≢ 0 → is_running (slot_at s n).status ≡ true →
@@ -295,7 +342,7 @@ pub pausing_waits : {names : Names} {s : KernelState} {a : AbstractState} → St
 pausing_waits {s = s} {a = a} h n other runs pauses =
     let who = running_born h n other runs in
     ap (λ (slot : AbstractSlot). stands_waiting a n slot) who.1
-    ∙ pausing_place a n (view_of s.spaces (slot_at s n).directory) (slot_at s n) who.0 (place_of (slot_at s n)) who.1 (born_at h n who.0 who.1).at pauses
+    ∙ pausing_place h n who.0 who.1 (place_of (slot_at s n)) refl (born_at h n who.0 who.1).at pauses
 
 yield_phase : (v : View) (k : Slot) (b : Born) (p : Place) → StandsAt p v k b → is_yield p ≡ true → yields_in b.phase ≡ true
 yield_phase v k b (place.InService service.Yield stands) h yields =

@@ -1,46 +1,62 @@
 -- The steps of the file server that are seen, and those with which it waits for its client: it waits for a request, shows that what is asked is done,
 -- and replies; or the client does not wait yet, and it gives up its turn.
 use Rattle.std.proofs.Common.{◌≡◌, ◌∙◌, ◌⊎◌, inl, inr, ◌<◌, ◌^◌, ℕ, true, false, List, [], ◌∷◌, length, Option, Some, None, Ok, refl}
-use Rattle.std.proofs.Common.{sym, ap, subst, arith}
-use Rattle.std.proofs.lemmas.Option.{same_Some}
+use Rattle.std.proofs.Common.{sym, ap, subst, arith, ◌+◌, ◌*◌, ◌≢◌}
+use Rattle.std.proofs.lemmas.Bool.Decides.{nat_tests}
+use Rattle.std.specs.Int.Bits.{bit_and}
+use Rattle.std.specs.Option.{option_map}
+use Rattle.std.specs.Prelude.{nat_lt, slice_index}
 use Rattle.jos_host.specs.Files.{Files}
 use Rattle.jos_host.specs.Frames.{Around}
 use Rattle.jos_base.specs.declared.called.Called.{Called}
 use Rattle.jos_base.specs.declared.called.Called.TheVariants.{Answered, Blocked}
 use Rattle.jos_base.specs.declared.environment.Status.TheVariants.{Runnable}
-use Rattle.jos_base.specs.declared.numbers.TheConstants.{E_IPC_NOT_RECV, NENV, SYS_GETENVID, SYS_IPC_RECV, SYS_IPC_TRY_SEND, SYS_YIELD, UTOP}
+use Rattle.jos_base.specs.declared.numbers.TheConstants.{E_IPC_NOT_RECV, E_NO_MEM, FDTABLE, NENV, PGSIZE, SYS_IPC_RECV, SYS_IPC_TRY_SEND}
+use Rattle.jos_base.specs.declared.numbers.TheConstants.{SYS_YIELD, UTOP}
+use Rattle.jos_base.specs.declared.memory.Access.TheVariants.{Read, Write}
 use Rattle.jos_base.specs.Below.{some_below}
 use Rattle.jos_base.specs.Environments.{Slot, is_runnable}
-use Rattle.jos_base.specs.KernelState.{KernelState, slot_at, with_status}
-use Rattle.jos_base.specs.Words.{negated}
+use Rattle.jos_base.specs.KernelState.{KernelState, slot_at, with_refusal, with_spaces, with_status}
+use Rattle.jos_base.specs.Reach.{Entry}
+use Rattle.jos_base.specs.SpacesState.{SpacesState, inserted}
+use Rattle.jos_base.specs.SystemCalls.{has_write}
+use Rattle.jos_base.specs.Words.{negated, word_at}
 use Rattle.jos_base.proofs.Maps.{upd-alike}
-use Rattle.fs_layout.specs.FileTree.{FileAct}
-use Rattle.lib_os.specs.declared.numbers.TheConstants.{MAXOPEN, REQUEST}
+use Rattle.lib_os.specs.declared.numbers.TheConstants.{FD_DEVICE, FD_FILE, FD_MODE, FD_OFFSET, MAXOPEN, REQUEST, SHORT_QUANTUM}
 use Rattle.lib_os.specs.declared.progress.Progress.{Progress}
 use Rattle.lib_os.specs.declared.progress.Progress.TheVariants as progress
-use Rattle.lib_os.specs.declared.request.RequestKind.{RequestKind}
 use Rattle.lib_os.specs.declared.service.Service.{Service}
-use Rattle.lib_os.specs.AbstractLaws.{ServedClientsStay, ServesWhoAsked, client_served}
-use Rattle.lib_os.specs.AbstractRun.{abs_step}
-use Rattle.lib_os.specs.AbstractState.{AbstractSlot, AbstractState, Born, Server, act, acted, born, busy, idle, leaving}
+use Rattle.lib_os.specs.declared.service.Service.TheVariants as service
+use Rattle.lib_os.specs.AbstractLaws.{ServedClientsStay, ServesWhoAsked, client_served, opened_by}
+use Rattle.lib_os.specs.AbstractRun.{abs_step, may_wait}
+use Rattle.lib_os.specs.AbstractState.{AbstractSlot, AbstractState, Born, Server, acted, born, idle, leaving}
+use Rattle.lib_os.specs.AskedFor.{AnswersBy, IsThere}
+use Rattle.lib_os.specs.DescriptorPages as descriptors
+use Rattle.lib_os.specs.DescriptorPages.{IsOpenFile, number_of}
 use Rattle.lib_os.specs.Descriptors.{holds_in, is_held}
 use Rattle.lib_os.specs.Disk.{Disk, DiskFile}
-use Rattle.lib_os.specs.FileServer.{act_done, served, server_step}
+use Rattle.lib_os.specs.FileServer.{server_step}
 use Rattle.lib_os.specs.GuestStep.{born_in}
+use Rattle.lib_os.specs.LibrarySteps.{NothingRefused}
 use Rattle.lib_os.specs.MadeCalls.{calls, yields}
+use Rattle.lib_os.specs.Rows.{IsPage, descriptor_perm, lasting, rows_of}
 use Rattle.lib_os.specs.InOrder.{IsInOrder}
-use Rattle.lib_os.specs.StandsFor.{IsServerStatus, StandsFor}
-use Rattle.lib_os.specs.UserCalls.{CallStep, IsCallStep, Output, Prints, answer_of, got, system}
-use Rattle.lib_os.proofs.Calls.{comes_to, getenvid_is, yield_is}
-use Rattle.lib_os.proofs.Quieting.{same_state, turn_given}
+use Rattle.lib_os.specs.StandsFor.{IsServerStatus, things_in}
+use Rattle.lib_os.specs.UserCalls.{CallStep, IsCallStep, Output, Prints, answer_of, giving, got, system}
+use Rattle.lib_os.proofs.BytesRead.{lasting_writes}
+use Rattle.lib_os.proofs.Calls.{comes_to, refusal_is_seen, yield_is}
+use Rattle.lib_os.proofs.Quieting.{turn_given}
+use Rattle.lib_os.proofs.Remapping.{lasting_write}
 use Rattle.lib_os.proofs.Sends.{received_in, with_message}
 use Rattle.lib_os.proofs.ServerReplies.{HasReplied, HasToWait, ready_slot, ready_state, receive_is, receives_stand, receives_step, replied_born}
 use Rattle.lib_os.proofs.ServerReplies.{replied_state, replies_stand, reply_call, served_is}
+use Rattle.lib_os.proofs.ServerOpens.{HasGivenFile, HasOpenedFile, descriptor_entry, open_reply_call, opened_state}
 use Rattle.lib_os.proofs.ServersCalls.{server_call_stands}
 use Rattle.lib_os.proofs.ServerStands.{first_slot, words_stand}
 use Rattle.lib_os.proofs.Serving.{printed_nothing}
-use Rattle.lib_os.proofs.Slots.{slot_kept, slot_put}
-use Rattle.lib_os.proofs.StatesStand.{born_not_first}
+use Rattle.lib_os.proofs.Slots.{slot_kept, slot_put, slots_alike}
+use Rattle.lib_os.proofs.SlotsStand.{born_at, born_live}
+use Rattle.lib_os.proofs.StatesStand.{born_not_first, slot_was_in_order}
 use Rattle.fs_blocks.specs.declared.place.CacheState.{CacheState}
 use Rattle.fs_blocks.specs.CachePlaces.{state_in}
 use Rattle.fs_requests.specs.declared.plan.ServerCall.{ServerCall}
@@ -49,24 +65,33 @@ use Rattle.fs_requests.specs.declared.plan.ServerNext.{ServerNext}
 use Rattle.fs_requests.specs.declared.state.ServerState.{ServerState}
 use Rattle.fs_requests.specs.declared.state.ServerStep.{ServerStep}
 use Rattle.fs_requests.specs.declared.state.ServerStep.TheVariants as step
-use Rattle.fs_requests.specs.ServerPlans.{call_for, hidden, next_at, next_for, next_replied, shown}
+use Rattle.fs_requests.specs.ServerPlans.{call_for, hidden, next_at, next_for, next_replied, open_page, shown}
 use Rattle.fs_requests.specs.ServerWords.{server_in}
 use Rattle.fs_server.specs.ServerSteps.{HasCalled, by_word, gone_on, server_at, was_stopped}
 use Rattle.fs_server.proofs.ServerMade.{server_sets}
-use Rattle.fs_serving.specs.ServerRuns.{TableStands}
-use Rattle.fs_seen.specs.ServerMemory.{HasWords, has_request, view_in}
+use Rattle.fs_serving.specs.ServerRuns.{HasFile, TableStands}
+use Rattle.fs_serving.specs.ServerViews.{page_word, word_of}
+use Rattle.fs_seen.specs.ServerMemory.{HasWords, IsOpenPage, StandsOver, bytes_by, entry_of, has_request, is_table_page, place_entry, place_page}
+use Rattle.fs_seen.specs.ServerMemory.{view_in}
+use Rattle.fs_seen.specs.ServerOthers.{GivesOpened, HasReplyPage}
 use Rattle.fs_seen.specs.ServerSees.{HasCalledAt}
-use Rattle.fs_seen.specs.ServerWhole.{GoesOnServing, IsServing, NothingOpened, SameTable, ServesOn}
+use Rattle.fs_seen.specs.ServerWhole.{ServesOn}
 use Rattle.fs_seen.proofs.BetweenRequests.{receives_serve}
 use Rattle.fs_seen.proofs.RepliesNow.{pauses_serve, replies_serve, replies_with_word, waits_serve}
-use Rattle.fs_seen.proofs.StaysUnopened.{unopened_as}
-use Rattle.fs_seen.proofs.Unopened.{unopened_tables}
+use Rattle.fs_seen.proofs.CountsTold.{standing_counts_tell}
+use Rattle.fs_seen.proofs.RepliesGiven.{given_files_are_apart, replies_give, replies_giving, replies_with_page}
+use Rattle.fs_seen.proofs.Setting.{was_in_order}
+use Rattle.fs_seen.proofs.TablesAlike.{table_again}
+use Rattle.fs_seen.proofs.TablesLeft.{table_serving}
 use Rattle.jos_run.specs.ServerStands.{BringsOwn, HasLent, IsClient, ServerStands, StandsWhole, WaitsToReply, serving_at, step_of}
 use Rattle.jos_run.specs.Worlds.{beside}
-use Rattle.jos_run.proofs.ActsStand.{HasBeenDone, done_stands, has_been_done}
-use Rattle.jos_run.proofs.ServerGoes.{CallBehind, ServesClient, behind_slot, behind_stands, gone_to, stands_told, step_behind, turn_kept}
-use Rattle.jos_run.proofs.ServerNow.{ClientThere, IsBuilt, client_there}
-use Rattle.jos_run.proofs.ServerStepped.{Stepped, as_before, below, call_same_table, call_served, called_at, serves_at, serves_none, unopened_behind}
+use Rattle.jos_run.proofs.ServerGoes.{CallBehind, ServesClient, behind_slot, behind_stands, directories_behind, gone_to, spaces_behind, stands_told, step_behind}
+use Rattle.jos_run.proofs.ServerGoes.{turn_kept}
+use Rattle.jos_run.proofs.ServerNow.{ClientThere, client_there}
+use Rattle.jos_run.proofs.OpenReplies.{OpenReplied, comes, file_unused, lacks, opened_replied, waits}
+use Rattle.jos_run.proofs.PageGiven.{given_leaves}
+use Rattle.jos_run.proofs.ReplyParts.{acted_lent, answers_by, fits_none, hands_over, tells_none}
+use Rattle.jos_run.proofs.ServerStepped.{Stepped, as_before, below, called_at, client_apart, serves_at, serves_none}
 
 -- ---- behind a call that leaves its space
 
@@ -80,23 +105,86 @@ same_behind {d = d} s mid k slot words h = record {
 
 -- ---- the abstract states
 
--- the server's step where it is to act
-server_acts : (a : AbstractState) (client : ℕ) (f : FileAct) → a.server ≡ busy client (act f None) None →
-    server_step a ≡ Some (act_done a client (act f None) None)
-unfolding server_step
-server_acts a client f is = ap (λ (x : Server). served a x) is
-
 -- behind the reply the same objects are held
-held_same : (a : AbstractState) (client : ℕ) (x : Service) (b : Born) (answer name : ℕ) → a.slots client ≡ born b →
-    is_held (replied_state a client x b answer) name ≡ is_held a name
-held_same a client x b answer name at i =
-    some_below NENV (λ n. upd-alike (λ (y : AbstractSlot). holds_in (born_in y) name) a.slots client (born (replied_born x b answer))
+held_same : (a : AbstractState) (client : ℕ) (x : Service) (b : Born) (bytes : List ℕ) (answer name : ℕ) → a.slots client ≡ born b →
+    is_held (replied_state a client x b bytes answer) name ≡ is_held a name
+held_same a client x b bytes answer name at i =
+    some_below NENV (λ n. upd-alike (λ (y : AbstractSlot). holds_in (born_in y) name) a.slots client (born (replied_born x b bytes answer))
     (sym (ap (λ (y : AbstractSlot). holds_in (born_in y) name) at)) n i)
 
 -- what it counts is a word
 count_small : (s : KernelState) → HasWords s 0 → (server_at s 0).count < 2 ^ 32
 unfolding server_in
 count_small s words = words.words 3
+
+-- ---- what was opened
+
+-- with a name it was asked to open a file
+record IsOpeningBy (call : Service) (answer : ℕ) (bytes : List ℕ) : Type 0 where
+  path : ℕ
+  mode : ℕ
+  service_is : call ≡ service.OpenFile path mode
+  zero_answer : answer ≡ 0
+  no_bytes : bytes ≡ []
+
+none_long : (bytes : List ℕ) → length bytes ≡ 0 → bytes ≡ []
+none_long [] none = refl
+none_long (byte ∷ rest) none = absurd (omega (arith, none))
+
+opening_by : (call : Service) (answer : ℕ) (bytes : List ℕ) (name : ℕ) → AnswersBy call answer bytes (Some name) → IsOpeningBy call answer bytes
+opening_by (service.OpenFile path mode) answer bytes name h =
+    record { path = path; mode = mode; service_is = refl; zero_answer = h.opened; no_bytes = none_long bytes h.many }
+opening_by _ answer bytes name h = absurd h.opened
+
+-- the page of its place
+module _ (d : Disk) (s : KernelState) (number : ℕ) (e : Entry) (below : number < MAXOPEN)
+    (there : entry_of s 0 (place_page number) ≡ Some e) where
+  is_table : is_table_page (place_page number) ≡ true
+  is_table = grind (arith, nat_tests)
+
+  open_page_stands : StandsOver d s 0 → IsOpenPage s e
+  open_page_stands stands = stands.table.pages (place_page number) e is_table there
+
+  open_page_whole : StandsOver d s 0 → IsPage (s.spaces.pages e.frame)
+  open_page_whole stands = (open_page_stands stands).whole
+
+  open_page_writes : StandsOver d s 0 → has_write e.perm ≡ true
+  open_page_writes stands =
+      let it = open_page_stands stands in
+      let reads : bit_and e.perm 5 ≡ 5 = let may = it.allowed Read in grind (arith, nat_tests, may) in
+      lasting_write e.perm ∙ sym (lasting_writes e.perm reads) ∙ it.allowed Write
+
+  page_seen : bytes_by s (place_entry s 0 number) ≡ Some (slice_index (s.spaces.pages e.frame))
+  page_seen =
+      let within : nat_lt number MAXOPEN ≡ true = grind (arith, nat_tests) in
+      rw within (ap (λ (o : Option Entry). bytes_by s o) there)
+
+  told_word : (at : ℕ) → page_word (view_in d s 0) number at ≡ word_at (slice_index (s.spaces.pages e.frame)) at
+  told_word at = ap (λ (o : Option (ℕ → ℕ)). word_of o at) page_seen
+
+  -- it tells the file
+  open_file_told : (a : AbstractState) (name : ℕ) → s.spaces.entries (slot_at s 0).directory (descriptors.place_page number) ≡ Some e →
+      (a.opened number).held_by ≡ Some name → {on : ℕ → ℕ} → (f : HasFile on a (view_in d s 0) number name) →
+      IsOpenFile (things_in s a) name e.frame f.f (s.spaces.pages e.frame)
+  unfolding rows_of
+  open_file_told a name stands held_by f =
+      let number_is : number_of (s.spaces.pages e.frame) ≡ number = sym (told_word FD_FILE) ∙ f.number_is in
+      record {
+        device = sym (told_word FD_DEVICE) ∙ f.device;
+        offset = sym (told_word FD_OFFSET) ∙ f.offset;
+        mode = sym (told_word FD_MODE) ∙ f.mode;
+        below = subst (λ (n : ℕ). n < MAXOPEN) (sym number_is) below;
+        held = ap (λ (n : ℕ). (a.opened n).held_by) number_is ∙ held_by;
+        entry = lasting e;
+        stands = ap (λ (n : ℕ). option_map lasting (s.spaces.entries (slot_at s 0).directory (descriptors.place_page n))) number_is
+            ∙ ap (λ (o : Option Entry). option_map lasting o) stands;
+        same = refl;
+      }
+
+-- a step of the server's own sets no count of refusals
+refusals_behind : (mid : KernelState) (next : ServerNext) → (gone_on mid 0 next).refusals ≡ mid.refusals
+unfolding gone_on
+refusals_behind mid next = refl
 
 module _ (stays : ServedClientsStay) (disk : DiskFile) (before after : KernelState) (files : Around (Option Files)) (output : Output) (d : Disk)
     (a : AbstractState) (whole : StandsWhole (beside before (Some d)) a) (words : HasWords before 0) where
@@ -105,6 +193,10 @@ module _ (stays : ServedClientsStay) (disk : DiskFile) (before after : KernelSta
 
   abbrev state : ServerState
   state = server_at before 0
+
+  its_step : {b : AbstractState} → abs_step a 0 ≡ Some b → server_step a ≡ Some b
+  unfolding server_step
+  its_step is = sym (served_is whole.0.1 a.server refl) ∙ is
 
   still_asked : (b : AbstractState) → abs_step a 0 ≡ Some b → ServesWhoAsked b
   still_asked b is = stays a b 0 (omega arith) whole.1.asked is
@@ -116,9 +208,6 @@ module _ (stays : ServedClientsStay) (disk : DiskFile) (before after : KernelSta
   at_its_step : (done : Progress) (x : ServerStep) → step_of k ≡ x → HasCalled (call_for state x) state before after 0 output done →
       HasCalledAt before after 0 output done
   at_its_step = called_at disk before after files output d a whole words
-
-  unopened_then : (b : AbstractState) → b.opened ≡ a.opened → SameTable before after 0 → NothingOpened b (view_in d after 0)
-  unopened_then = unopened_behind disk before after files output d a whole words
 
   unmoved : CallBehind d before
   unmoved = as_before disk before after files output d a whole words
@@ -177,82 +266,17 @@ module _ (stays : ServedClientsStay) (disk : DiskFile) (before after : KernelSta
           has_request after 0 ≡ has_request before 0 → StandsWhole (beside after (Some d)) b
       stands here in_order serves same = (
         (whole.0.0, words_stand (receives_stand whole.0.1) after (server_sets (ready_state before) after 0 next here) call_behind.twelve),
-        behind_stands d (ready_state before) after next b here its_number call_behind serves.serving tt
-            (serves_none b step.ReadingKind (gone_to (slot_at (ready_state before) 0) next) refl) (still_asked b now) tt (lent same)
-            (unopened_then b refl serves.table),
+        behind_stands d (ready_state before) after next b here its_number call_behind serves.serving
+            (serves_none b step.ReadingKind (gone_to (slot_at (ready_state before) 0) next) refl) (still_asked b now) (fits_none b refl) (lent same),
       )
   receive_steps done server at (was_stopped why end reply stops) = absurd reply
-
-  -- ---- it has done what is asked
 
   abbrev no_args : List ℕ
   no_args = 0 ∷ 0 ∷ 0 ∷ 0 ∷ 0 ∷ []
 
-  module _ (client : ℕ) (q : RequestKind) (f : FileAct) (built : IsBuilt q (act f None)) (server : a.server ≡ busy client (act f None) None) where
-    pub act_steps : (done : Progress) → step_of k ≡ step.Acting → HasCalled (call.System SYS_GETENVID no_args) state before after 0 output done →
-        files.after ≡ files.before → Stepped before (beside after (Some d)) a done output
-    act_steps done at (by_word word mid reply is) same =
-        let here_is : mid ≡ before = same_state before 0 no_args (first_slot whole.0.1).lives mid reply.0 output reply.2 in
-        let goes : next_at state word ≡ next = ap (λ (x : ServerStep). next_for state x word) at in
-        let here : after ≡ gone_on before 0 next = is ∙ (λ i. gone_on (here_is i) 0 (goes i)) in
-        subst (λ (p : Progress). Stepped before (beside after (Some d)) a p output)
-        (ap (λ (z : ServerNext). z.seen) (sym goes))
-        (record {
-          quiet = subst (λ (bytes : List ℕ). Prints output bytes)
-              (ap (λ (z : CallStep Called). z.written) (getenvid_is before 0 (first_slot whole.0.1).lives no_args)) reply.2.2;
-          follows = λ in_order nothing. (
-            b,
-            now,
-            printed_nothing a,
-            stands here in_order (by_word word mid reply is)
-                (serving_so (subst (λ (p : Progress). GoesOnServing p d after 0 a) (ap (λ (z : ServerNext). z.seen) goes)
-                (call_served disk before after files output d a whole words client q (act f None) built server (next_at state word).seen step.Acting at refl
-                (λ taking. let contradiction : step.Acting ≡ step.TakingPage = taking in cc) (by_word word mid reply is) in_order))),
-          );
-          calm = turn_kept k.status (slot_at after 0).status (ap (λ (x : Slot). x.status) (behind_slot before after next here));
-        })
-      where
-        next : ServerNext
-        next = shown state step.Replying
-
-        did : HasBeenDone a client f
-        did = has_been_done a client q f built
-
-        b : AbstractState
-        b = record a { files = did.files; server = acted client did.answer [] None }
-
-        now : abs_step a 0 ≡ Some b
-        now = served_is whole.0.1 (busy client (act f None) None) server ∙ ap (λ (z : AbstractState). Some z) did.is
-
-        serving_so : GoesOnServing progress.Visible d after 0 a → IsServing d after 0 b
-        serving_so it =
-            subst (λ (c : AbstractState). IsServing d after 0 c)
-            (same_Some it.0 b (sym it.1 ∙ server_acts a client f server ∙ ap (λ (z : AbstractState). Some z) did.is)) it.2
-
-        stands_for : after ≡ gone_on before 0 next → StandsFor whole.0.0 after b
-        stands_for here =
-            done_stands (words_stand whole.0.1 after (server_sets before after 0 next here) whole.1.twelve) client (act f None) server did.answer did.files
-            did.blocks
-
-        named : ServesClient b step.Replying (gone_to k next)
-        named who is =
-            let told = stands_told k next its_number whole.1.twelve in
-            let was = serves_at disk before after files output d a whole words step.Acting at who (ap client_served server ∙ is) in
-            subst (λ (i : ℕ). IsClient b who i) (sym told.client) (record { slot = was.slot; same = was.same })
-
-        stands : {seen : Progress} → after ≡ gone_on before 0 next → IsInOrder after →
-            HasCalled (call.System SYS_GETENVID no_args) state before after 0 output seen → IsServing d after 0 b → StandsWhole (beside after (Some d)) b
-        stands {seen = seen} here in_order called serving = (
-          (whole.0.0, stands_for here),
-          behind_stands d before after next b here its_number unmoved serving tt named (still_asked b now) tt tt
-              (unopened_then b refl
-              (call_same_table disk before after files output d a whole words client q (act f None) built server seen step.Acting at refl called in_order)),
-        )
-    act_steps done at (was_stopped why end reply stops) same = absurd reply
-
   -- ---- it waits with its reply
 
-  module _ (client answer : ℕ) (server : a.server ≡ acted client answer [] None) where
+  module _ (client answer : ℕ) (bytes : List ℕ) (object : Option ℕ) (server : a.server ≡ acted client answer bytes object) where
     -- the same client, at the other of the two steps
     waits_at : (x : ServerStep) → step_of k ≡ x → ServesClient a x k ≡ ServesClient a step.Replying k → (to : ServerStep) (j : Slot) →
         ServesClient a to j ≡ ServesClient a step.Replying j → (serving_at j).client ≡ state.client → ServesClient a to j
@@ -261,11 +285,15 @@ module _ (stays : ServedClientsStay) (disk : DiskFile) (before after : KernelSta
         (λ who served. subst (λ (i : ℕ). IsClient a who i) (sym client_same)
         (subst (λ (X : Type 0). X) x_is (serves_at disk before after files output d a whole words x at) who served))
 
-    -- no page counts then
-    lent_then : HasLent a.server after
-    lent_then = subst (λ (x : Server). HasLent x after) (sym server) tt
+    -- what is lent stays lent where no entry changes
+    lent_then : (mid : KernelState) (next : ServerNext) → after ≡ gone_on mid 0 next → next.state.number < MAXOPEN → CallBehind d mid →
+        mid.spaces ≡ before.spaces → ((m : ℕ) → (slot_at mid m).directory ≡ (slot_at before m).directory) → HasLent a.server after
+    lent_then mid next here small call spaces homes =
+        subst (λ (x : Server). HasLent x after) (sym server)
+        (acted_lent client answer bytes object before after (spaces_behind d mid after next a here small call ∙ spaces)
+        (λ m. directories_behind d mid after next a here small call m ∙ homes m) (subst (λ (x : Server). HasLent x before) server whole.1.lent))
 
-    status : IsServerStatus (acted client answer [] None) k
+    status : IsServerStatus (acted client answer bytes object) k
     status = subst (λ (x : Server). IsServerStatus x k) server whole.0.1.server.status
 
     -- it gives up its turn
@@ -289,10 +317,12 @@ module _ (stays : ServedClientsStay) (disk : DiskFile) (before after : KernelSta
                 refl,
                 (
                   (whole.0.0, left.stands),
-                  behind_stands d (with_status before 0 Runnable) after next a here its_number call_behind serves.1.serving tt
+                  behind_stands d (with_status before 0 Runnable) after next a here its_number call_behind serves.1.serving
                       (waits_at step.Pausing at refl step.Replying (gone_to (slot_at (with_status before 0 Runnable) 0) next) refl
                       (let told = stands_told (slot_at (with_status before 0 Runnable) 0) next its_number call_behind.twelve in told.client))
-                      whole.1.asked whole.1.built lent_then (unopened_then a refl serves.1.table),
+                      whole.1.asked whole.1.fits
+                      (lent_then (with_status before 0 Runnable) next here its_number call_behind refl
+                      (slots_alike before 0 (λ (x : Slot). x.directory) (record k { status = Runnable }) refl)),
                 ),
               );
           calm = λ running gave. subst (λ (x : Server). WaitsToReply x) (sym server) tt;
@@ -307,13 +337,48 @@ module _ (stays : ServedClientsStay) (disk : DiskFile) (before after : KernelSta
             (slot_put before 0 (record k { status = Runnable })) refl whole.1
     pause_steps done at (was_stopped why end reply stops) same = absurd reply
 
-    -- ---- it replies
+    -- ---- it waits on
 
+    -- where it replied, and the client does not wait for that yet
+    waits_on : step_of k ≡ step.Replying → Prints output [] → {word : ℕ} → word ≡ negated E_IPC_NOT_RECV →
+        after ≡ gone_on before 0 (next_replied state word) → may_wait a 0 SHORT_QUANTUM ≡ true →
+        Stepped before (beside after (Some d)) a (next_replied state word).seen output
+    waits_on at quiet {word} deaf there may =
+        let goes : next_replied state word ≡ next = ap (λ (w : ℕ). next_replied state w) deaf in
+        let here : after ≡ gone_on before 0 next = there ∙ ap (λ (z : ServerNext). gone_on before 0 z) goes in
+        let on : after ≡ gone_on before 0 (next_at state (negated E_IPC_NOT_RECV)) =
+        here ∙ ap (λ (y : ServerStep). gone_on before 0 (next_for state y (negated E_IPC_NOT_RECV))) (sym at) in
+        subst (λ (p : Progress). Stepped before (beside after (Some d)) a p output)
+        (ap (λ (z : ServerNext). z.seen) (sym goes))
+        (record {
+          quiet = quiet;
+          follows = λ in_order nothing. (
+            (refl, stands here (waits_serve a d before before after at whole.1.serving in_order (record { slot = refl; spaces = refl }) on)),
+            may,
+          );
+          calm = turn_kept k.status (slot_at after 0).status (ap (λ (x : Slot). x.status) (behind_slot before after next here));
+        })
+      where
+        next : ServerNext
+        next = record { state = record state { step = step.Pausing }; begins = None; seen = progress.Waited }
+
+        stands : after ≡ gone_on before 0 next → ServesOn d before after a step.Pausing → StandsWhole (beside after (Some d)) a
+        stands here serves = (
+          (whole.0.0, words_stand whole.0.1 after (server_sets before after 0 next here) whole.1.twelve),
+          behind_stands d before after next a here its_number unmoved serves.serving
+              (waits_at step.Replying at refl step.Pausing (gone_to k next) refl
+              (let told = stands_told k next its_number whole.1.twelve in told.client))
+              whole.1.asked whole.1.fits (lent_then before next here its_number unmoved refl (λ m. refl)),
+        )
+
+  -- ---- it replies
+
+  module _ (client answer : ℕ) (bytes : List ℕ) (server : a.server ≡ acted client answer bytes None) where
     module _ (at : step_of k ≡ step.Replying) where
       -- it counts the answer, and no page goes with it
       with_word : (call_for state step.Replying ≡ call.System SYS_IPC_TRY_SEND (state.client ∷ state.count ∷ UTOP ∷ 0 ∷ 0 ∷ [])) × (state.count ≡ answer)
       with_word =
-          let it = replies_with_word a d before client answer [] at server whole.1.serving in
+          let it = replies_with_word a d before client answer bytes at server whole.1.serving in
           (ap (λ (y : ServerStep). call_for state y) (sym at) ∙ it.0, it.2)
 
       small : answer < 2 ^ 32
@@ -334,7 +399,13 @@ module _ (stays : ServedClientsStay) (disk : DiskFile) (before after : KernelSta
           is ∙ (λ i. gone_on mid 0 (next_replied state (same i))) ∙ ap (λ (y : ServerStep). gone_on mid 0 (next_for state y w)) (sym at)
 
       -- the reply has come
-      replied_steps : HasReplied whole.0.0 before a client it.service it.b answer → (word : ℕ) (mid : KernelState) (called : Called) → word ≡ answer_of called →
+      fitting : AnswersBy it.service answer bytes None
+      fitting = answers_by a whole.1.fits client answer bytes None server it.b it.at it.service it.there
+
+      apart : (slot_at before client).directory ≢ k.directory
+      apart = client_apart disk before after files output d a whole words client (ap client_served server)
+
+      replied_steps : HasReplied whole.0.0 before a client it.service it.b bytes answer → (word : ℕ) (mid : KernelState) (called : Called) → word ≡ answer_of called →
           IsCallStep (reply_call before it.b.id answer) (Ok called) mid output → after ≡ gone_on mid 0 (next_replied state word) →
           Stepped before (beside after (Some d)) a (next_replied state word).seen output
       replied_steps so word mid called word_is reply is =
@@ -362,7 +433,7 @@ module _ (stays : ServedClientsStay) (disk : DiskFile) (before after : KernelSta
           next = shown state step.Releasing
 
           b : AbstractState
-          b = replied_state a client it.service it.b answer
+          b = replied_state a client it.service it.b bytes answer
 
           mid_is : KernelState
           mid_is = with_message before 0 client answer 0
@@ -373,19 +444,25 @@ module _ (stays : ServedClientsStay) (disk : DiskFile) (before after : KernelSta
           call_behind : CallBehind d mid_is
           call_behind = same_behind before mid_is k kept refl whole.1
 
-          -- where nothing was opened the table stands as it did
+          -- the table stands as it did
           table : (bytes : ℕ → ℕ) → TableStands bytes a (view_in d before 0) → TableStands bytes b (view_in d before 0)
-          table bytes h =
-              unopened_tables bytes b (view_in d before 0) (unopened_as a b (view_in d before 0) whole.1.unopened refl) so.stands.consoles
-              (λ name held. h.old_held name (sym (held_same a client it.service it.b answer name it.at) ∙ held))
+          table bytes_on h =
+              table_again bytes_on a b (view_in d before 0) (view_in d before 0)
+              (record {
+                opened = refl;
+                objects = refl;
+                held = λ name. held_same a client it.service it.b bytes answer name it.at;
+                names = refl;
+              })
+              (record { homes = λ number. refl; pages = λ number. refl; holders = λ number there. refl }) h
 
           stands : after ≡ gone_on mid_is 0 next → ServesOn d before after b step.Releasing → StandsWhole (beside after (Some d)) b
           stands here serves = (
             (whole.0.0, words_stand so.stands after (server_sets mid_is after 0 next here) call_behind.twelve),
-            behind_stands d mid_is after next b here its_number call_behind serves.serving tt
-                (serves_none b step.Releasing (gone_to (slot_at mid_is 0) next) refl) (still_asked b so.step) tt
+            behind_stands d mid_is after next b here its_number call_behind serves.serving
+                (serves_none b step.Releasing (gone_to (slot_at mid_is 0) next) refl) (still_asked b so.step) (fits_none b refl)
                 (λ receiving. absurd (let contradiction : step.Releasing ≡ step.Receiving =
-                sym (step_behind d mid_is after next b here its_number call_behind) ∙ receiving in cc)) (unopened_then b refl serves.table),
+                sym (step_behind d mid_is after next b here its_number call_behind) ∙ receiving in cc)),
           )
 
       -- the client does not wait for it yet
@@ -394,36 +471,8 @@ module _ (stays : ServedClientsStay) (disk : DiskFile) (before after : KernelSta
           Stepped before (beside after (Some d)) a (next_replied state word).seen output
       waited_steps so word mid called word_is reply is =
           let came = comes_to (reply_call before it.b.id answer) (Answered (negated E_IPC_NOT_RECV)) called before mid [] output so.call reply in
-          let deaf : word ≡ negated E_IPC_NOT_RECV = word_is ∙ ap answer_of came.0 in
-          let goes : next_replied state word ≡ next = ap (λ (w : ℕ). next_replied state w) deaf in
-          let there : after ≡ gone_on before 0 (next_replied state word) = is ∙ ap (λ (z : KernelState). gone_on z 0 (next_replied state word)) came.1 in
-          let here : after ≡ gone_on before 0 next = there ∙ ap (λ (z : ServerNext). gone_on before 0 z) goes in
-          subst (λ (p : Progress). Stepped before (beside after (Some d)) a p output)
-          (ap (λ (z : ServerNext). z.seen) (sym goes))
-          (record {
-            quiet = came.2;
-            follows = λ in_order nothing. (
-              (
-                refl,
-                stands here (waits_serve a d before before after at whole.1.serving in_order (record { slot = refl; spaces = refl })
-                    (goes_at before word (negated E_IPC_NOT_RECV) there deaf)),
-              ),
-              so.waits,
-            );
-            calm = turn_kept k.status (slot_at after 0).status (ap (λ (x : Slot). x.status) (behind_slot before after next here));
-          })
-        where
-          next : ServerNext
-          next = record { state = record state { step = step.Pausing }; begins = None; seen = progress.Waited }
-
-          stands : after ≡ gone_on before 0 next → ServesOn d before after a step.Pausing → StandsWhole (beside after (Some d)) a
-          stands here serves = (
-            (whole.0.0, words_stand whole.0.1 after (server_sets before after 0 next here) whole.1.twelve),
-            behind_stands d before after next a here its_number unmoved serves.serving tt
-                (waits_at step.Replying at refl step.Pausing (gone_to k next) refl
-                (let told = stands_told k next its_number whole.1.twelve in told.client))
-                whole.1.asked whole.1.built lent_then (unopened_then a refl serves.table),
-          )
+          waits_on client answer bytes None server at came.2 (word_is ∙ ap answer_of came.0)
+          (is ∙ ap (λ (z : KernelState). gone_on z 0 (next_replied state word)) came.1) so.waits
 
       sent_steps : (done : Progress) → HasCalled (call.System SYS_IPC_TRY_SEND (it.b.id ∷ answer ∷ UTOP ∷ 0 ∷ 0 ∷ [])) state before after 0 output done →
           Stepped before (beside after (Some d)) a done output
@@ -432,18 +481,212 @@ module _ (stays : ServedClientsStay) (disk : DiskFile) (before after : KernelSta
           let here : after ≡ gone_on mid 0 (next_replied state word) = is ∙ ap (λ (x : ServerNext). gone_on mid 0 x) goes in
           subst (λ (p : Progress). Stepped before (beside after (Some d)) a p output)
           (ap (λ (z : ServerNext). z.seen) (sym goes))
-          (by_way word mid reply.0 reply.1 reply.2 here (replies_stand whole.0.1 client answer server it.b it.at it.service it.there small))
+          (by_way word mid reply.0 reply.1 reply.2 here (replies_stand whole.0.1 client answer bytes server it.b it.at it.service it.there small
+          (hands_over d before a whole.0.1 whole.1 client answer bytes None server apart at it.service fitting.many)
+          (tells_none it.service answer fitting.opened)))
         where
           by_way : (word : ℕ) (mid : KernelState) (called : Called) → word ≡ answer_of called →
               IsCallStep (reply_call before it.b.id answer) (Ok called) mid output → after ≡ gone_on mid 0 (next_replied state word) →
-              HasReplied whole.0.0 before a client it.service it.b answer ⊎ HasToWait before a it.b answer →
+              HasReplied whole.0.0 before a client it.service it.b bytes answer ⊎ HasToWait before a it.b answer →
               Stepped before (beside after (Some d)) a (next_replied state word).seen output
           by_way word mid called word_is reply is (inl so) = replied_steps so word mid called word_is reply is
           by_way word mid called word_is reply is (inr so) = waited_steps so word mid called word_is reply is
       sent_steps done (was_stopped why end reply stops) = absurd reply
 
-      pub reply_steps : (done : Progress) → HasCalled (call_for state step.Replying) state before after 0 output done →
+      pub word_steps : (done : Progress) → HasCalled (call_for state step.Replying) state before after 0 output done →
           Stepped before (beside after (Some d)) a done output
-      reply_steps done called =
+      word_steps done called =
           subst (λ (c : ServerCall). HasCalled c state before after 0 output done → Stepped before (beside after (Some d)) a done output)
           (sym replies_with) (sent_steps done) called
+
+  -- ---- it replies with the page of what it has opened
+
+  module _ (client answer name : ℕ) (bytes : List ℕ) (server : a.server ≡ acted client answer bytes (Some name)) (at : step_of k ≡ step.Replying) where
+    abbrev opened_page : HasReplyPage a d before client answer name
+    opened_page = replies_with_page a d before client answer name bytes at server whole.1.serving
+
+    its : ClientThere before a client state.client
+    its =
+        client_there whole.0.1 client state.client whole.1.asked (ap client_served server)
+        (serves_at disk before after files output d a whole words step.Replying at client (ap client_served server))
+
+    answered_so : AnswersBy its.service answer bytes (Some name)
+    answered_so = answers_by a whole.1.fits client answer bytes (Some name) server its.b its.at its.service its.there
+
+    -- it was asked to open a file
+    opens_so : IsOpeningBy its.service answer bytes
+    opens_so = opening_by its.service answer bytes name answered_so
+
+    abbrev page_entry : Entry
+    page_entry = opened_page.entry
+
+    page_there : before.spaces.entries k.directory (descriptors.place_page state.number) ≡ Some page_entry
+    page_there =
+        let low = opened_page.below in
+        let same : place_page state.number ≡ descriptors.place_page state.number = omega (arith, low) in
+        ap (λ (p : ℕ). before.spaces.entries k.directory p) (sym same) ∙ opened_page.there
+
+    table : (on : ℕ → ℕ) × TableStands on a (view_in d before 0)
+    table = table_serving a d before whole.1.serving
+
+    has_opened : HasOpenedFile whole.0.0 before a state.number name
+    has_opened =
+        let nobodys = whole.1.asked.opens.opened name (ap (λ (x : Server). opened_by x) server) in
+        let f = opened_page.tells in
+        record {
+          below = opened_page.below;
+          source = page_entry;
+          stands = page_there;
+          writes = open_page_writes d before state.number page_entry opened_page.below opened_page.there whole.1.serving.stands;
+          file_is = f.f;
+          object = f.is;
+          told = open_file_told d before state.number page_entry opened_page.below opened_page.there a name page_there opened_page.held_by f;
+          whole = open_page_whole d before state.number page_entry opened_page.below opened_page.there whole.1.serving.stands;
+          old = nobodys.old;
+          unused = file_unused whole.0.1 state.number name page_entry opened_page.below page_there opened_page.held_by
+              (λ other by. table.1.alone state.number other name opened_page.held_by by) f.f f.is nobodys;
+        }
+
+    -- the call
+    opens_with : call_for state step.Replying ≡
+        call.System SYS_IPC_TRY_SEND (its.b.id ∷ 0 ∷ (FDTABLE + PGSIZE * state.number) ∷ descriptor_perm ∷ 0 ∷ [])
+    opens_with =
+        let low = opened_page.below in
+        let place : open_page state.number ≡ FDTABLE + PGSIZE * state.number = omega (arith, low) in
+        let none : state.count ≡ 0 = opened_page.answer_is ∙ opens_so.zero_answer in
+        ap (λ (y : ServerStep). call_for state y) (sym at) ∙ opened_page.calls
+        ∙ (λ i. call.System SYS_IPC_TRY_SEND (sym its.named i ∷ none i ∷ place i ∷ descriptor_perm ∷ 0 ∷ []))
+
+    refused_now : (mid : KernelState) (next : ServerNext) → after ≡ gone_on mid 0 next → mid ≡ with_refusal before → NothingRefused before after → ⊥
+    refused_now mid next is refused nothing =
+        refusal_is_seen before (record {
+          stays = ap (λ (z : KernelState). z.refusals) (sym refused) ∙ sym (refusals_behind mid next) ∙ ap (λ (z : KernelState). z.refusals) (sym is)
+              ∙ nothing.stays;
+          could = nothing.could;
+        })
+
+    -- there is no frame for a table of the client's: the kernel has refused it
+    lacked_steps : open_reply_call before its.b.id state.number ≡ giving (with_refusal before) (Answered (negated E_NO_MEM)) →
+        (word : ℕ) (mid : KernelState) (called : Called) → IsCallStep (open_reply_call before its.b.id state.number) (Ok called) mid output →
+        after ≡ gone_on mid 0 (next_replied state word) → Stepped before (beside after (Some d)) a (next_replied state word).seen output
+    lacked_steps lacking word mid called reply is =
+        let came = comes_to (open_reply_call before its.b.id state.number) (Answered (negated E_NO_MEM)) called (with_refusal before) mid [] output lacking
+        reply in
+        let slot = behind_slot mid after (next_replied state word) is
+        ∙ ap (λ (z : KernelState). gone_to (slot_at z 0) (next_replied state word)) came.1 in
+        record {
+          quiet = came.2;
+          follows = λ in_order nothing. absurd (refused_now mid (next_replied state word) is came.1 nothing);
+          calm = turn_kept k.status (slot_at after 0).status (ap (λ (x : Slot). x.status) slot);
+        }
+
+    -- the client has the page
+    given_steps : (sp : SpacesState) (p : ℕ) → inserted before.spaces (slot_at before client).directory p (descriptor_entry page_entry) ≡ Some sp →
+        HasGivenFile whole.0.0 before a client state.number name its.service its.b sp → (word : ℕ) (mid : KernelState) (called : Called) →
+        word ≡ answer_of called → IsCallStep (open_reply_call before its.b.id state.number) (Ok called) mid output →
+        after ≡ gone_on mid 0 (next_replied state word) → Stepped before (beside after (Some d)) a (next_replied state word).seen output
+    given_steps sp p put so word mid called word_is reply is =
+        let came = comes_to (open_reply_call before its.b.id state.number) (Answered 0) called mid_is mid [] output so.call reply in
+        let zero : word ≡ 0 = word_is ∙ ap answer_of came.0 in
+        let goes : next_replied state word ≡ next = ap (λ (w : ℕ). next_replied state w) zero in
+        let there : after ≡ gone_on mid_is 0 (next_replied state word) = is ∙ ap (λ (z : KernelState). gone_on z 0 (next_replied state word)) came.1 in
+        let here : after ≡ gone_on mid_is 0 next = there ∙ ap (λ (z : ServerNext). gone_on mid_is 0 z) goes in
+        let slot = behind_slot mid_is after next here ∙ ap (λ (x : Slot). gone_to x next) kept in
+        let on : after ≡ gone_on mid_is 0 (next_at state 0) = here ∙ ap (λ (y : ServerStep). gone_on mid_is 0 (next_for state y 0)) (sym at) in
+        subst (λ (p : Progress). Stepped before (beside after (Some d)) a p output)
+        (ap (λ (z : ServerNext). z.seen) (sym goes))
+        (record {
+          quiet = came.2;
+          follows = λ in_order nothing. (b, so.step, printed_nothing a, stands here on in_order);
+          calm = turn_kept k.status (slot_at after 0).status (ap (λ (x : Slot). x.status) slot);
+        })
+      where
+        next : ServerNext
+        next = shown state step.Releasing
+
+        b : AbstractState
+        b = opened_state a client its.service its.b name so.fd
+
+        mid_is : KernelState
+        mid_is = with_message (with_spaces before sp) 0 client 0 descriptor_perm
+
+        other : 0 ≢ client
+        other = born_not_first whole.0.1 client its.b its.at
+
+        kept : slot_at mid_is 0 ≡ k
+        kept = slot_kept (with_spaces before sp) client (received_in (slot_at before client) k.id 0 descriptor_perm) 0 other
+
+        call_behind : CallBehind d mid_is
+        call_behind = same_behind before mid_is k kept refl whole.1
+
+        gives : (b.server ≡ leaving) × GivesOpened a b name
+        gives = replies_give a b client answer name bytes server (its_step so.step)
+
+        order_of : after ≡ gone_on mid_is 0 next → IsInOrder after → IsInOrder (with_spaces before sp)
+        order_of here in_order =
+            slot_was_in_order (with_spaces before sp) client (received_in (slot_at before client) k.id 0 descriptor_perm)
+            (sym (born_live (born_at whole.0.1 client its.b its.at))) refl (was_in_order mid_is 0 next after here in_order)
+
+        stands : after ≡ gone_on mid_is 0 next → after ≡ gone_on mid_is 0 (next_at state 0) → IsInOrder after →
+            StandsWhole (beside after (Some d)) b
+        stands here on in_order =
+            let order = order_of here in_order in
+            let now = so.stands order in
+            let stands_b = words_stand now.1 after (server_sets mid_is after 0 next here) call_behind.twelve in
+            let leaves = given_leaves before sp client p (descriptor_entry page_entry) page_entry (descriptors.place_page state.number)
+            whole.0.1.in_order order refl refl page_there (client_apart disk before after files output d a whole words client (ap client_served server))
+            other put a.server 0 descriptor_perm in
+            let tells = standing_counts_tell now.0 after b stands_b
+            (given_files_are_apart a b d before client answer name bytes at server whole.1.serving gives.1) in
+            let serves = replies_giving a b d before mid_is after client answer name bytes at server whole.1.serving in_order leaves on gives.0 gives.1
+            tells in (
+              (now.0, stands_b),
+              behind_stands d mid_is after next b here its_number call_behind serves.serving
+                  (serves_none b step.Releasing (gone_to (slot_at mid_is 0) next) refl) (still_asked b so.step) (fits_none b refl)
+                  (λ receiving. absurd (let contradiction : step.Releasing ≡ step.Receiving =
+                  sym (step_behind d mid_is after next b here its_number call_behind) ∙ receiving in cc)),
+            )
+
+    page_sent : (done : Progress) →
+        HasCalled (call.System SYS_IPC_TRY_SEND (its.b.id ∷ 0 ∷ (FDTABLE + PGSIZE * state.number) ∷ descriptor_perm ∷ 0 ∷ [])) state before after 0 output done →
+        Stepped before (beside after (Some d)) a done output
+    unfolding has_opened
+    page_sent done (by_word word mid reply is) =
+        let goes : next_at state word ≡ next_replied state word = ap (λ (x : ServerStep). next_for state x word) at in
+        let here : after ≡ gone_on mid 0 (next_replied state word) = is ∙ ap (λ (x : ServerNext). gone_on mid 0 x) goes in
+        subst (λ (p : Progress). Stepped before (beside after (Some d)) a p output)
+        (ap (λ (z : ServerNext). z.seen) (sym goes))
+        (by_way word mid reply.0 reply.1 reply.2 here replied_so)
+      where
+        replied_so : OpenReplied whole.0.0 before a client state.number name its.service its.b (descriptor_entry page_entry)
+        replied_so =
+            subst (λ (x : Service). OpenReplied whole.0.0 before a client state.number name x its.b (descriptor_entry page_entry)) (sym opens_so.service_is)
+            (opened_replied whole.0.1 client state.number name answer opens_so.path opens_so.mode
+            (subst (λ (l : List ℕ). a.server ≡ acted client answer l (Some name)) opens_so.no_bytes server) its.b its.at has_opened
+            (subst (λ (x : Service). IsThere its.b x) opens_so.service_is its.there))
+
+        by_way : (word : ℕ) (mid : KernelState) (called : Called) → word ≡ answer_of called →
+            IsCallStep (open_reply_call before its.b.id state.number) (Ok called) mid output → after ≡ gone_on mid 0 (next_replied state word) →
+            OpenReplied whole.0.0 before a client state.number name its.service its.b (descriptor_entry page_entry) →
+            Stepped before (beside after (Some d)) a (next_replied state word).seen output
+        by_way word mid called word_is reply is (waits so none may) =
+            let came = comes_to (open_reply_call before its.b.id state.number) (Answered (negated E_IPC_NOT_RECV)) called before mid [] output so reply in
+            waits_on client answer bytes (Some name) server at came.2 (word_is ∙ ap answer_of came.0)
+            (is ∙ ap (λ (z : KernelState). gone_on z 0 (next_replied state word)) came.1) may
+        by_way word mid called word_is reply is (comes sp p put so) = given_steps sp p put so word mid called word_is reply is
+        by_way word mid called word_is reply is (lacks so) = lacked_steps so word mid called reply is
+    page_sent done (was_stopped why end reply stops) = absurd reply
+
+    page_steps : (done : Progress) → HasCalled (call_for state step.Replying) state before after 0 output done →
+        Stepped before (beside after (Some d)) a done output
+    page_steps done called =
+        subst (λ (c : ServerCall). HasCalled c state before after 0 output done → Stepped before (beside after (Some d)) a done output)
+        (sym opens_with) (page_sent done) called
+
+  -- ---- it replies with either
+
+  pub reply_steps : (client answer : ℕ) (bytes : List ℕ) (object : Option ℕ) → a.server ≡ acted client answer bytes object →
+      step_of k ≡ step.Replying → (done : Progress) → HasCalled (call_for state step.Replying) state before after 0 output done →
+      Stepped before (beside after (Some d)) a done output
+  reply_steps client answer bytes None server at done called = word_steps client answer bytes server at done called
+  reply_steps client answer bytes (Some name) server at done called = page_steps client answer name bytes server at done called

@@ -1,6 +1,6 @@
 -- A step of the flush that the file server makes for a sync: a call of its cache, which nobody sees; or all is written, and the server is about to show
 -- that it is done.
-use Rattle.std.proofs.Common.{◌≡◌, ◌∙◌, ◌<◌, ◌≤◌, ℕ, [], Option, Some, None, Err, refl, sym, ap, subst}
+use Rattle.std.proofs.Common.{◌≡◌, ◌≢◌, ◌∙◌, ◌<◌, ◌≤◌, ℕ, true, [], Option, Some, None, Err, refl, sym, ap, subst}
 use Rattle.std.proofs.lemmas.Option.{same_Some}
 use Rattle.jos_host.specs.declared.host.Failed.{Failed}
 use Rattle.jos_host.specs.Files.{Files}
@@ -12,8 +12,7 @@ use Rattle.fs_layout.specs.FileTree.{sync_files}
 use Rattle.lib_os.specs.declared.numbers.TheConstants.{MAXOPEN}
 use Rattle.lib_os.specs.declared.progress.Progress.{Progress}
 use Rattle.lib_os.specs.declared.progress.Progress.TheVariants as progress
-use Rattle.lib_os.specs.declared.request.RequestKind.TheVariants as kind
-use Rattle.lib_os.specs.AbstractState.{AbstractState, act, busy}
+use Rattle.lib_os.specs.AbstractState.{AbstractState, act, busy, idle, leaving}
 use Rattle.lib_os.specs.Disk.{Disk, DiskFile, disk_in}
 use Rattle.lib_os.specs.InOrder.{IsInOrder}
 use Rattle.lib_os.specs.UserCalls.{Output, Prints}
@@ -32,22 +31,18 @@ use Rattle.fs_requests.specs.ServerPlans.{acting as about_to_act, next_at, next_
 use Rattle.fs_server.specs.ServerSteps.{HasFlushed, ends, goes, gone_on, server_at}
 use Rattle.fs_server.proofs.ServerMade.{server_sets}
 use Rattle.fs_serving.specs.ServerRuns.{StandsServing}
-use Rattle.fs_seen.specs.ServerMemory.{HasWords, serving_in, view_in}
-use Rattle.fs_seen.specs.ServerWhole.{GoesOnServing, NothingOpened}
+use Rattle.fs_seen.specs.ServerMemory.{HasWords, serving_in}
+use Rattle.fs_seen.specs.ServerWhole.{GoesOnServing}
 use Rattle.fs_seen.proofs.CacheLeaves.{CacheLeaves, step_leaves}
 use Rattle.fs_seen.proofs.FlushesServed.{flushes_serve}
 use Rattle.fs_seen.proofs.ServesFor.{served_is_kept}
-use Rattle.fs_seen.proofs.TableStays.{flushes_leave_table}
-use Rattle.fs_seen.proofs.Unopened.{unopened_stays}
-use Rattle.fs_tree.specs.TreeSteps.{job_in}
-use Rattle.jos_run.specs.RemovalJobs.{HasJob}
-use Rattle.jos_run.specs.ServerStands.{BringsOwn, IsClient, StandsWhole, client_id, serving_at, step_of}
+use Rattle.jos_run.specs.AbstractTurns.{is_acting}
+use Rattle.jos_run.specs.ServerStands.{BringsOwn, HasLent, IsClient, StandsWhole, client_id, serving_at, step_of}
 use Rattle.jos_run.specs.Worlds.{beside}
 use Rattle.jos_run.proofs.CacheCalls.{flush_brings}
 use Rattle.jos_run.proofs.CacheGoes.{CacheStep, blocks_are, cache_failed, cache_step, makes_then_sets}
 use Rattle.jos_run.proofs.ServerGoes.{ServesClient, behind_slot, behind_stands, gone_to, number_below, stands_told}
-use Rattle.jos_run.proofs.ServerNow.{for_sync}
-use Rattle.jos_run.proofs.ServerRows.{server_call_rows}
+use Rattle.jos_run.proofs.ServerRows.{RowsStay, server_call_rows}
 use Rattle.jos_run.proofs.ServerStepped.{Stepped, all_stand, lent_still, stands_serving, unseen}
 
 module _ (disk : DiskFile) (before : KernelState) (files : Around (Option Files)) (output : Output) (f : Files) (told : files.before ≡ Some f)
@@ -62,6 +57,18 @@ module _ (disk : DiskFile) (before : KernelState) (files : Around (Option Files)
   abbrev state : ServerState
   state = server_at before 0
 
+  acts : is_acting a.server ≡ true
+  acts = ap is_acting server
+
+  not_idle : a.server ≢ idle
+  not_idle is = let contradiction : busy client (act sync_files None) None ≡ idle = sym server ∙ is in cc
+
+  not_leaving : a.server ≢ leaving
+  not_leaving is = let contradiction : busy client (act sync_files None) None ≡ leaving = sym server ∙ is in cc
+
+  lent_so : (after : KernelState) → RowsStay before after → HasLent a.server after
+  lent_so after rows = lent_still disk before after files output d a whole words not_leaving rows
+
   flush_stands_so : CacheStands d (cache_seen before 0) (flush_state before 0).place (flush_state before 0).hand
   flush_stands_so =
       flush_stands d (cache_seen before 0) (cache_state before 0).place (cache_state before 0).hand whole.1.serving.stands.cache.stands
@@ -74,7 +81,7 @@ module _ (disk : DiskFile) (before : KernelState) (files : Around (Option Files)
 
   -- what it stands for, whatever is behind it
   serving_so : (after : KernelState) → StandsServing d.count a (serving_in d before 0)
-  serving_so after = stands_serving disk before after files output d a whole words client kind.Sync (act sync_files None) for_sync server
+  serving_so after = stands_serving disk before after files output d a whole words not_idle
 
   count_is : (after : KernelState) → a.files.blocks ≡ d.count
   count_is after = let it = serving_so after in blocks_are d.count it.before a.files it.files
@@ -102,18 +109,13 @@ module _ (disk : DiskFile) (before : KernelState) (files : Around (Option Files)
       (subst (λ (o : Option Files). HasGone (flush_state before 0) (caller before 0 disk) (from_to o files.after) tells mid output) told gone)
 
   module _ (at_step : step_of k ≡ step.Flushing) (after : KernelState) where
-    -- It serves over the disk that the host tells then, and the table is as it was.
+    -- It serves over the disk that the host tells then.
     flush_served : (done : Progress) → HasFlushed state disk before after 0 files output done → IsInOrder after →
-        (now : Files) × (files.after ≡ Some now) × GoesOnServing done (disk_in now disk) after 0 a × NothingOpened a (view_in (disk_in now disk) after 0)
+        (now : Files) × (files.after ≡ Some now) × GoesOnServing done (disk_in now disk) after 0 a
     flush_served done flushed in_order =
-        let all = all_stand disk before after files output d a whole words client kind.Sync (act sync_files None) for_sync server in
+        let all = all_stand disk before after files output d a whole words acts in
         let it = flushes_serve d.count a disk f before after files output done at_step all (serving_so after) in_order told flushed in
-        let same = flushes_leave_table disk f before after files output done at_step whole.1.serving.stands in_order told flushed in (
-          it.0,
-          it.1,
-          served_is_kept a (disk_in it.0 disk) before after done whole.1.serving.requested it.2,
-          unopened_stays a a d (disk_in it.0 disk) before after 0 whole.1.unopened same refl,
-        )
+        (it.0, it.1, served_is_kept a (disk_in it.0 disk) before after done whole.1.serving.requested it.2)
 
     -- the client that it serves
     serves_as : (x : ServerStep) (j : Slot) → client_id x j ≡ (serving_at k).client → ServesClient a x j
@@ -138,9 +140,8 @@ module _ (disk : DiskFile) (before : KernelState) (files : Around (Option Files)
         sym (ap (λ (x : ServerNext). x.seen) goes_to)
 
     flush_stands_behind : (done : Progress) → HasFlushed state disk before after 0 files output done → (now : Files) → IsInOrder after →
-        GoesOnServing done (disk_in now disk) after 0 a → NothingOpened a (view_in (disk_in now disk) after 0) →
-        StandsWhole (beside after (Some (disk_in now disk))) a
-    flush_stands_behind done (goes flushes) now in_order serving unopened =
+        GoesOnServing done (disk_in now disk) after 0 a → StandsWhole (beside after (Some (disk_in now disk))) a
+    flush_stands_behind done (goes flushes) now in_order serving =
         let made = flushes.made in
         let it = made_so after made.0 made.2 in
         let same = left_so after made.0 made.2 in
@@ -151,16 +152,14 @@ module _ (disk : DiskFile) (before : KernelState) (files : Around (Option Files)
             serving = serving;
             twelve = it.twelve;
             brings = it.brings_on;
-            job = subst (λ (y : ServerStep). HasJob y (job_in after 0)) (sym (ap (λ (x : ServerState). x.step) same.server ∙ at_step)) tt;
             client = subst (λ (y : ServerStep). ServesClient a y (slot_at after 0)) (sym (ap (λ (x : ServerState). x.step) same.server ∙ at_step))
                 (serves_as step.Flushing (slot_at after 0) (ap (λ (x : ServerState). x.client) same.server));
             asked = whole.1.asked;
-            built = whole.1.built;
-            lent = lent_still disk before after files output d a whole words client kind.Sync (act sync_files None) for_sync server rows;
-            unopened = unopened;
+            fits = whole.1.fits;
+            lent = lent_so after rows;
           },
         )
-    flush_stands_behind done (ends mid flushes is) now in_order serving unopened =
+    flush_stands_behind done (ends mid flushes is) now in_order serving =
         let made = flushes.made in
         let it = made_so mid made.0 made.2 in
         let same = left_so mid made.0 made.2 in
@@ -172,9 +171,8 @@ module _ (disk : DiskFile) (before : KernelState) (files : Around (Option Files)
         let told_so = stands_told (slot_at mid 0) next below it.twelve in (
           (whole.0.0, left.stands),
           behind_stands (disk_in now disk) mid after next a here below (record { twelve = it.twelve; brings = it.brings_on })
-              (subst (λ (p : Progress). GoesOnServing p (disk_in now disk) after 0 a) (ap (λ (x : ServerNext). x.seen) goes_to) serving) tt
-              (serves_as step.Acting (gone_to (slot_at mid 0) next) told_so.client) whole.1.asked whole.1.built
-              (lent_still disk before after files output d a whole words client kind.Sync (act sync_files None) for_sync server rows) unopened,
+              (subst (λ (p : Progress). GoesOnServing p (disk_in now disk) after 0 a) (ap (λ (x : ServerNext). x.seen) goes_to) serving)
+              (serves_as step.Acting (gone_to (slot_at mid 0) next) told_so.client) whole.1.asked whole.1.fits (lent_so after rows),
         )
       where
         next : ServerNext
@@ -195,9 +193,7 @@ module _ (disk : DiskFile) (before : KernelState) (files : Around (Option Files)
         unseen before (beside after (Some (disk_in now disk))) a done output (flush_hidden done flushed) (flush_quiet done flushed)
         (λ in_order nothing. let it = flush_served done flushed in_order in
         let same : it.0 ≡ now = same_Some it.0 now (sym it.1 ∙ is) in
-        flush_stands_behind done flushed now in_order
-        (subst (λ (g : Files). GoesOnServing done (disk_in g disk) after 0 a) same it.2)
-        (subst (λ (g : Files). NothingOpened a (view_in (disk_in g disk) after 0)) same it.3))
+        flush_stands_behind done flushed now in_order (subst (λ (g : Files). GoesOnServing done (disk_in g disk) after 0 a) same it.2))
         (flush_calm done flushed)
 
     pub flush_steps : (done : Progress) → HasFlushed state disk before after 0 files output done →

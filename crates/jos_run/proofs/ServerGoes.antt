@@ -1,39 +1,29 @@
 -- Where the file server goes, by its registers and words: they tell the state in which it goes on, and the cache's words stay. And what is known of
 -- it there, by what the kernel has left behind its call.
-use Rattle.std.proofs.Common.{◌≡◌, ◌∙◌, ◌<◌, ℕ, true, false, List, length, Some, None, refl, sym, ap, subst, arith}
-use Rattle.std.specs.Prelude.{is_some}
+use Rattle.std.proofs.Common.{◌≡◌, ◌∙◌, ◌<◌, ℕ, true, false, List, length, Some, refl, sym, ap, subst, arith}
 use Rattle.jos_base.specs.declared.registers.Regs.{Regs}
 use Rattle.jos_base.specs.Environments.{Slot, is_runnable, is_running}
 use Rattle.jos_base.specs.declared.environment.Status.{Status}
 use Rattle.jos_base.specs.KernelState.{KernelState, slot_at}
-use Rattle.jos_base.specs.Words.{page_number}
-use Rattle.jos_base.specs.declared.numbers.TheConstants.{UTEMP}
-use Rattle.fs_layout.specs.FileTree.{remove_path, sync_files}
-use Rattle.lib_os.specs.declared.numbers.TheConstants.{MAXOPEN, REQUEST}
+use Rattle.lib_os.specs.declared.numbers.TheConstants.{MAXOPEN}
 use Rattle.lib_os.specs.AbstractLaws.{ServesWhoAsked, client_served}
-use Rattle.lib_os.specs.AbstractState.{AbstractState, Server, act, busy, idle, leaving}
+use Rattle.lib_os.specs.AbstractState.{AbstractState}
+use Rattle.lib_os.specs.AskedFor.{ServesAsAsked}
 use Rattle.lib_os.specs.Disk.{Disk}
-use Rattle.lib_os.specs.Rows.{rows_of}
 use Rattle.lib_os.proofs.Leaving.{running_calm}
 use Rattle.lib_os.proofs.Slots.{slot_put, slots_alike}
 use Rattle.lib_os.proofs.SlotsSet.{both_set}
 use Rattle.fs_blocks.specs.declared.place.CacheState.{CacheState}
 use Rattle.fs_blocks.specs.CachePlaces.{state_in}
 use Rattle.fs_cache.specs.CacheSteps.{cache_state}
-use Rattle.fs_jobs.specs.declared.place.Job.{Job}
-use Rattle.fs_jobs.specs.declared.place.TreeState.{TreeState}
-use Rattle.fs_places.specs.TreePlaces.{state_in as job_state_in}
-use Rattle.fs_runs.specs.TreeRuns.{begun_with}
 use Rattle.fs_tree.proofs.TiesWords.{cache_alike}
 use Rattle.fs_requests.specs.declared.plan.ServerNext.{ServerNext}
 use Rattle.fs_requests.specs.declared.state.ServerStep.{ServerStep}
 use Rattle.fs_requests.specs.ServerWords.{registers_with, server_in, words_with}
-use Rattle.fs_seen.specs.ServerMemory.{request_page, view_in}
-use Rattle.fs_seen.specs.ServerWhole.{IsServing, NothingOpened}
-use Rattle.fs_seen.proofs.WordsBack.{StandsIn, begun_long, begun_rest, job_told, stands_in, stands_whole}
+use Rattle.fs_seen.specs.ServerWhole.{IsServing}
+use Rattle.fs_seen.proofs.WordsBack.{StandsIn, begun_long, begun_rest, stands_in}
 use Rattle.fs_server.specs.ServerSteps.{gone_on, registers_begun, words_begun}
-use Rattle.jos_run.specs.RemovalJobs.{HasJob, LeadsToRemoval}
-use Rattle.jos_run.specs.ServerStands.{BringsOwn, HasLent, IsBuiltRequest, IsClient, IsLent, ServerStands, client_id, serving_at, step_of}
+use Rattle.jos_run.specs.ServerStands.{BringsOwn, HasLent, IsClient, ServerStands, client_id, step_of}
 
 -- ---- its slot
 
@@ -51,11 +41,7 @@ gone_slot mid next =
     (both_set mid 0 (registers_begun next.begins (registers_with k.registers next.state)) (words_begun next.begins (words_with k.extra next.state)))
     ∙ slot_put mid 0 (gone_to k next)
 
--- and its messages
-pub gone_meets : (k : Slot) (next : ServerNext) → (gone_to k next).rendezvous ≡ k.rendezvous
-gone_meets k next = refl
-
-gone_spaces : (mid : KernelState) (next : ServerNext) → (gone_on mid 0 next).spaces ≡ mid.spaces
+pub gone_spaces : (mid : KernelState) (next : ServerNext) → (gone_on mid 0 next).spaces ≡ mid.spaces
 unfolding gone_on
 gone_spaces mid next = refl
 
@@ -71,10 +57,6 @@ module _ (k : Slot) (next : ServerNext) (below : next.state.number < MAXOPEN) (t
   pub stands_told : StandsIn (gone_to k next).registers (gone_to k next).extra next.state
   stands_told = stands_in k.registers k.extra next.state below twelve next.begins
 
-  -- and all of it where no job begins,
-  pub state_told : next.begins ≡ None → serving_at (gone_to k next) ≡ next.state
-  state_told none = stands_whole k.registers k.extra next.state below twelve next.begins none
-
   -- and where the cache stands,
   pub cache_told : state_in (gone_to k next).extra ≡ state_in k.extra
   cache_told = cache_alike (gone_to k next).extra k.extra (begun_rest k.registers k.extra next.state below twelve next.begins)
@@ -83,47 +65,16 @@ module _ (k : Slot) (next : ServerNext) (below : next.state.number < MAXOPEN) (t
   pub twelve_told : length (gone_to k next).extra ≡ 12
   twelve_told = begun_long k.registers k.extra next.state below twelve next.begins
 
--- where its job stands then
-abbrev pub job_of : Slot → TreeState
-job_of k = job_state_in k.registers k.extra
-
--- one that begins stands at its beginning
-pub begun_job : (k : Slot) (next : ServerNext) (j : Job) → next.begins ≡ Some j → LeadsToRemoval (begun_with j) → LeadsToRemoval (job_of (gone_to k next))
-begun_job k next j begins leads =
-    subst LeadsToRemoval (sym (job_told (registers_with k.registers next.state) (words_with k.extra next.state) next.begins j begins)) leads
-
--- ---- the page that is lent
+-- ---- the spaces
 
 -- no slot has another space
-gone_directories : (mid : KernelState) (next : ServerNext) (m : ℕ) → (slot_at (gone_on mid 0 next) m).directory ≡ (slot_at mid m).directory
+pub gone_directories : (mid : KernelState) (next : ServerNext) (m : ℕ) → (slot_at (gone_on mid 0 next) m).directory ≡ (slot_at mid m).directory
 unfolding gone_on
 gone_directories mid next m =
     let k : Slot = slot_at mid 0 in
     ap (λ (z : KernelState). (slot_at z m).directory)
     (both_set mid 0 (registers_begun next.begins (registers_with k.registers next.state)) (words_begun next.begins (words_with k.extra next.state)))
     ∙ slots_alike mid 0 (λ (x : Slot). x.directory) (gone_to k next) refl m
-
--- So the page is lent where the spaces, and whose they are, are the same.
-pub lent_alike : {s t : KernelState} {client : ℕ} → t.spaces ≡ s.spaces → ((m : ℕ) → (slot_at t m).directory ≡ (slot_at s m).directory) →
-    IsLent s client → IsLent t client
-lent_alike {client = client} spaces directories h = record {
-  own = h.own;
-  kept = (λ i. rows_of (spaces i) (directories client i) (page_number UTEMP)) ∙ h.kept;
-  entry = h.entry;
-  stands = (λ i. rows_of (spaces i) (directories 0 i) (page_number REQUEST)) ∙ h.stands;
-  same = h.same;
-}
-
--- The same of whatever is known of it, where it doesn't wait for a request then.
-pub has_lent_alike : (server : Server) (s t : KernelState) → t.spaces ≡ s.spaces → ((m : ℕ) → (slot_at t m).directory ≡ (slot_at s m).directory) →
-    (server ≡ leaving → HasLent leaving t) → HasLent server s → HasLent server t
-has_lent_alike leaving s t spaces directories waits h = waits refl
-has_lent_alike idle s t spaces directories waits h =
-    (λ i. is_some ((spaces i).entries (directories 0 i) request_page)) ∙ h
-has_lent_alike (busy client (act sync_files None) None) s t spaces directories waits h =
-    (λ i. is_some ((spaces i).entries (directories 0 i) request_page)) ∙ h
-has_lent_alike (busy client (act (remove_path path) None) None) s t spaces directories waits h = lent_alike spaces directories h
-has_lent_alike _ s t spaces directories waits h = tt
 
 -- ---- where it stands behind its call
 
@@ -155,24 +106,19 @@ module _ (d : Disk) (mid after : KernelState) (next : ServerNext) (b : AbstractS
   pub directories_behind : (m : ℕ) → (slot_at after m).directory ≡ (slot_at mid m).directory
   directories_behind m = ap (λ (z : KernelState). (slot_at z m).directory) is ∙ gone_directories mid next m
 
-  pub behind_stands : IsServing d after 0 b → HasJob next.state.step (job_of (gone_to (slot_at mid 0) next)) →
-      ServesClient b next.state.step (gone_to (slot_at mid 0) next) → ServesWhoAsked b →
-      IsBuiltRequest b.server → HasLent b.server after → NothingOpened b (view_in d after 0) → ServerStands d after b
-  behind_stands serving its_job named asked built lent unopened = record {
+  pub behind_stands : IsServing d after 0 b → ServesClient b next.state.step (gone_to (slot_at mid 0) next) → ServesWhoAsked b →
+      ServesAsAsked b → HasLent b.server after → ServerStands d after b
+  behind_stands serving named asked fits lent = record {
     serving = serving;
     twelve = ap (λ (x : Slot). length x.extra) slot ∙ twelve_told (slot_at mid 0) next below call.twelve;
     brings = subst (λ (x : CacheState). BringsOwn d x.place)
         (sym (ap (λ (x : Slot). state_in x.extra) slot ∙ cache_told (slot_at mid 0) next below call.twelve)) call.brings;
-    job = subst (λ (x : Slot). HasJob (step_of x) (job_of x)) (sym slot)
-        (subst (λ (x : ServerStep). HasJob x (job_of (gone_to (slot_at mid 0) next)))
-        (sym (stands_told (slot_at mid 0) next below call.twelve).at_step) its_job);
     client = subst (λ (x : Slot). ServesClient b (step_of x) x) (sym slot)
         (subst (λ (x : ServerStep). ServesClient b x (gone_to (slot_at mid 0) next)) (sym (stands_told (slot_at mid 0) next below call.twelve).at_step)
         named);
     asked = asked;
-    built = built;
+    fits = fits;
     lent = lent;
-    unopened = unopened;
   }
 
 -- ---- its turn

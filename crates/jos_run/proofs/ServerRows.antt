@@ -1,5 +1,5 @@
--- A call of the file server's for its blocks, or one that reads, leaves the entries of all other spaces, and that of the page of a request; so the
--- page that a client has lent it stays lent.
+-- A call of the file server's that is no message, and takes no page of a request away, leaves the entries of all other spaces, and that of the page of
+-- a request; so the page that a client has lent it stays lent. And it prints nothing.
 use Rattle.std.proofs.Common.{◌≡◌, ◌≢◌, ◌∙◌, ◌⊎◌, inl, inr, ◌+◌, ◌<◌, ◌&&◌, ℕ, Bool, true, false, not, List, [], ◌∷◌, Option, Some, None, Result}
 use Rattle.std.proofs.Common.{Ok, Err, refl, sym, ap, subst, arith, if◌then◌else◌}
 use Rattle.std.specs.Int.{w32, to_le_bytes}
@@ -25,16 +25,17 @@ use Rattle.jos_base.specs.SystemCalls.{call_of, entry_at, handled, has_write, in
 use Rattle.jos_base.specs.UserMemory.{reach_in, stored_byte, touched, with_byte_at}
 use Rattle.jos_base.specs.Words.{negated, page_number}
 use Rattle.jos_base.proofs.Puts.{put-other}
-use Rattle.lib_os.specs.declared.numbers.TheConstants.{CACHE_BLOCKS, REQUEST}
+use Rattle.lib_os.specs.declared.numbers.TheConstants.{CACHE_BLOCKS, MAXOPEN, REQUEST}
 use Rattle.lib_os.specs.BlockCache.{block_address}
 use Rattle.lib_os.specs.Disk.{DiskFile}
 use Rattle.lib_os.specs.InOrder.{IsInOrder}
 use Rattle.lib_os.specs.MadeCalls.{HasCome, IsMade, IsServersCall, IsServersSystemCall, MakesCall, SetsWords, UserCall, asks_id, block_perm, calls, faulted}
 use Rattle.lib_os.specs.MadeCalls.{gave, loads, loads_byte, maps_block, reads_block, receives, sends, sends_place, stores, stores_byte, takes_block}
-use Rattle.lib_os.specs.MadeCalls.{takes_place, unmaps_block, unmaps_request, writes_block, yields}
+use Rattle.lib_os.specs.MadeCalls.{place_address, place_perm, takes_place, unmaps_block, unmaps_request, writes_block, yields}
 use Rattle.lib_os.specs.Rows.{Names, lasting, rows_of}
 use Rattle.lib_os.specs.StandsFor.{StandsFor}
-use Rattle.lib_os.specs.AbstractState.{AbstractState}
+use Rattle.lib_os.specs.AbstractLaws.{client_served}
+use Rattle.lib_os.specs.AbstractState.{AbstractState, Server, acted, busy, idle, leaving, looking}
 use Rattle.lib_os.specs.UserCalls.{CallStep, IsBlockRead, IsBlockWrite, IsCallStep, IsReadBy, IsSentBy, Output, Prints, accessing, asking, block_call, block_put}
 use Rattle.lib_os.specs.UserCalls.{by_access, faulting, giving, gone, got, load, load_byte, may_read_block, may_write_block, store, store_byte, system}
 use Rattle.lib_os.specs.UserCalls.{to_handler, user_byte, user_word, with_bytes_put, with_user_byte, with_user_word}
@@ -51,8 +52,8 @@ use Rattle.lib_os.proofs.Slots.{slots_alike}
 use Rattle.lib_os.proofs.SlotsSet.{both_set}
 use Rattle.lib_os.proofs.StatesStand.{slot_was_in_order}
 use Rattle.lib_os.proofs.Touching.{touched_quiet}
-use Rattle.fs_seen.specs.ServerMemory.{has_request, request_page}
-use Rattle.jos_run.specs.ServerStands.{IsLent}
+use Rattle.fs_seen.specs.ServerMemory.{has_request, request_page, sends_page}
+use Rattle.jos_run.specs.ServerStands.{HasLent, IsLent, IsLentBy}
 
 -- ---- what is left
 
@@ -93,6 +94,21 @@ request_stays {s = s} {t = t} stay =
     ∙ ap (λ (o : Option Entry). is_some o) stay.request
     ∙ row_there s.spaces (slot_at s 0).directory request_page
 
+-- So what is known of it stays, where it is not about to wait for a request.
+lent_by_rows : {s t : KernelState} {client : ℕ} (sends : Bool) → RowsStay s t → (slot_at s client).directory ≢ (slot_at s 0).directory →
+    IsLentBy sends s client → IsLentBy sends t client
+lent_by_rows true stay apart h = still_lent stay apart h
+lent_by_rows false stay apart h = request_stays stay ∙ h
+
+pub lent_rows : {s t : KernelState} (server : Server) → server ≢ leaving → RowsStay s t →
+    ((client : ℕ) → client_served server ≡ Some client → (slot_at s client).directory ≢ (slot_at s 0).directory) → HasLent server s → HasLent server t
+lent_rows leaving other stay apart h = absurd (other refl)
+lent_rows idle other stay apart h = request_stays stay ∙ h
+lent_rows (looking client request place) other stay apart h = lent_by_rows (sends_page request) stay (apart client refl) h
+lent_rows (busy client request place) other stay apart h = lent_by_rows (sends_page request) stay (apart client refl) h
+lent_rows (acted client answer [] object) other stay apart h = tt
+lent_rows (acted client answer (byte ∷ bytes) object) other stay apart h = still_lent stay (apart client refl) h
+
 -- ---- an access that gives something
 
 -- is the state in which it has set its bits, with what is done there; and prints nothing
@@ -112,11 +128,6 @@ module _ {X : Type 0} (s : KernelState) (n va : ℕ) (access : Access) (done : K
       by_reach (Ok location) is = refl
       by_reach (Err fault) is = by_handled fault (handled s n fault) is
 
-pub load_quiet : (s : KernelState) (n va word : ℕ) → (load s n va).gives ≡ got word → (load s n va).written ≡ []
-unfolding load
-load_quiet s n va word gives =
-    ap (λ (z : CallStep ℕ). z.written) (given_is s n va Read (λ after. giving after (user_word after n va)) word gives)
-
 -- ---- bytes that are put
 
 byte_entries : (s : SpacesState) (d va byte : ℕ) → (stored_byte s d va byte).entries ≡ s.entries
@@ -134,24 +145,48 @@ put_entries s d va (byte ∷ rest) = put_entries (stored_byte s d va byte) d (va
 
 -- ---- each call
 
--- One that concerns the page of a request, or a place's, or is a message, is none of these.
+-- One that concerns the page of a request, or is a message, or gives up its turn, is none of these.
 abbrev pub LeavesRequest : {number : ℕ} {args : List ℕ} → IsServersSystemCall number args → Type 0
 LeavesRequest asks_id = Unit {0}
 LeavesRequest (takes_block k below) = Unit {0}
 LeavesRequest (maps_block from to from_below to_below) = Unit {0}
 LeavesRequest (unmaps_block k below) = Unit {0}
+LeavesRequest (takes_place k below) = Unit {0}
 LeavesRequest _ = ⊥
 
 abbrev pub LeavesRequestBy : (call : UserCall) → IsServersCall call → Type 0
 LeavesRequestBy (calls number args) own = LeavesRequest own
 LeavesRequestBy _ own = Unit {0}
 
--- the page of a block is not that of a request
+-- an access gives something
+abbrev pub Gives : UserCall → KernelState → Type 0
+Gives (loads va) s = (word : ℕ) × ((load s 0 va).gives ≡ got word)
+Gives (loads_byte va) s = (byte : ℕ) × ((load_byte s 0 va).gives ≡ got byte)
+Gives (stores va word) s = (store s 0 va word).gives ≡ got tt
+Gives (stores_byte va byte) s = (store_byte s 0 va byte).gives ≡ got tt
+Gives _ s = Unit {0}
+
+may_gives : (call : UserCall) (own : IsServersCall call) (s : KernelState) (a : AbstractState) → MayCall call own s a → Gives call s
+may_gives (loads va) own s a may = may
+may_gives (loads_byte va) own s a may = may
+may_gives (stores va word) own s a may = may.0
+may_gives (stores_byte va byte) own s a may = may.0
+may_gives (calls number args) own s a may = tt
+may_gives (reads_block block va) own s a may = tt
+may_gives (writes_block block va) own s a may = tt
+
+-- neither the page of a block is that of a request, nor is that of a place
 block_apart : (k : ℕ) → k < CACHE_BLOCKS → page_number (block_address k) ≢ request_page
 block_apart k below is = absurd (omega (arith, below, is))
 
 block_begins : (k : ℕ) → k < CACHE_BLOCKS → is_page_address (block_address k) ≡ true
 block_begins k below = grind (arith, nat_tests)
+
+place_apart : (k : ℕ) → k < MAXOPEN → page_number (place_address k) ≢ request_page
+place_apart k below is = absurd (omega (arith, below, is))
+
+place_begins : (k : ℕ) → k < MAXOPEN → is_page_address (place_address k) ≡ true
+place_begins k below = grind (arith, nat_tests)
 
 -- where an entry can't be given on, nothing is done
 map_refused : (s : KernelState) (n : ℕ) → is_live (slot_at s n) ≡ true → (from to perm : ℕ) → is_page_address from ≡ true →
@@ -213,34 +248,34 @@ module _ {names : Names} {s : KernelState} {a : AbstractState} (h : StandsFor na
       rows_so mid (spaces_put t dir va bytes) (same ∙ put_is (with_spaces s t) 0 va bytes)
       (λ q r where_is. (λ i. option_map lasting (put_entries t dir va bytes i q r)) ∙ (λ i. (touched_quiet s.spaces dir va Write).rows i q r))
 
-  -- these are not at a block's page
-  elsewhere : (k q r : ℕ) → k < CACHE_BLOCKS → (q ≢ dir) ⊎ (r ≡ request_page) → q ≡ dir → r ≢ page_number (block_address k)
-  elsewhere k q r below (inl other) same here = absurd (other same)
-  elsewhere k q r below (inr is) same here = block_apart k below (sym here ∙ is)
+  -- these are not at a page that is not that of a request
+  elsewhere : (p q r : ℕ) → p ≢ request_page → (q ≢ dir) ⊎ (r ≡ request_page) → q ≡ dir → r ≢ p
+  elsewhere p q r apart (inl other) same here = absurd (other same)
+  elsewhere p q r apart (inr is) same here = apart (sym here ∙ is)
 
   module _ (mid : KernelState) (called : Called) (output : Output) (in_order : IsInOrder mid) where
-    takes : (k : ℕ) → k < CACHE_BLOCKS → IsCallStep (system s 0 SYS_PAGE_ALLOC (0 ∷ block_address k ∷ block_perm ∷ 0 ∷ 0 ∷ [])) (Ok called) mid output →
-        RowsStay s mid
-    takes k below call = elim (page_made_or_refused s 0 (block_address k) block_perm (0 ∷ 0 ∷ []) live (block_begins k below) refl) [
+    takes : (va perm : ℕ) → is_page_address va ≡ true → is_page_perm perm ≡ true → page_number va ≢ request_page →
+        IsCallStep (system s 0 SYS_PAGE_ALLOC (0 ∷ va ∷ perm ∷ 0 ∷ 0 ∷ [])) (Ok called) mid output → RowsStay s mid
+    takes va perm begins permitted apart call = elim (page_made_or_refused s 0 va perm (0 ∷ 0 ∷ []) live begins permitted) [
       | inl made ↦ was_made made
       | inr none ↦ was_none none
     ]
       where
         asked : CallStep Called
-        asked = system s 0 SYS_PAGE_ALLOC (0 ∷ block_address k ∷ block_perm ∷ 0 ∷ 0 ∷ [])
+        asked = system s 0 SYS_PAGE_ALLOC (0 ∷ va ∷ perm ∷ 0 ∷ 0 ∷ [])
 
-        was_none : PageRefused s 0 (block_address k) block_perm asked → RowsStay s mid
+        was_none : PageRefused s 0 va perm asked → RowsStay s mid
         was_none none =
             let it = comes_to asked (Answered (negated E_NO_MEM)) called (with_refusal s) mid [] output none.step call in refused_so mid it.1
 
-        was_made : PageMade s 0 (block_address k) block_perm asked → RowsStay s mid
+        was_made : PageMade s 0 va perm asked → RowsStay s mid
         was_made made =
             let it = comes_to asked (Answered 0) called (with_spaces s made.spaces) mid [] output made.step call in
             let order : IsInOrder (with_spaces s made.spaces) = subst IsInOrder it.1 in_order in
-            let m = allocated_made s.spaces made.spaces dir (page_number (block_address k)) block_perm made.frame h.in_order.frames order.frames refl made.is in
+            let m = allocated_made s.spaces made.spaces dir (page_number va) perm made.frame h.in_order.frames order.frames permitted made.is in
             rows_so mid made.spaces it.1
             (λ q r where_is. (λ i. m.placed.rows i q r)
-            ∙ put-other (rows_of s.spaces) dir (page_number (block_address k)) _ q r (elsewhere k q r below where_is))
+            ∙ put-other (rows_of s.spaces) dir (page_number va) _ q r (elsewhere (page_number va) q r apart where_is))
 
     maps : (from to : ℕ) → from < CACHE_BLOCKS → to < CACHE_BLOCKS →
         IsCallStep (system s 0 SYS_PAGE_MAP (0 ∷ block_address from ∷ 0 ∷ block_address to ∷ block_perm ∷ [])) (Ok called) mid output → RowsStay s mid
@@ -262,7 +297,7 @@ module _ {names : Names} {s : KernelState} {a : AbstractState} (h : StandsFor na
             order.frames bits x.1 x.2 is in
             rows_so mid sp it.1
             (λ q r where_is. (λ i. m.placed.rows i q r)
-            ∙ put-other (rows_of s.spaces) dir (page_number (block_address to)) _ q r (elsewhere to q r to_below where_is))
+            ∙ put-other (rows_of s.spaces) dir (page_number (block_address to)) _ q r (elsewhere (page_number (block_address to)) q r (block_apart to to_below) where_is))
 
         by_entry : (o : Option Entry) → shared_entry (entry_at s 0 (block_address from)) block_perm ≡ o → RowsStay s mid
         by_entry None none =
@@ -282,17 +317,19 @@ module _ {names : Names} {s : KernelState} {a : AbstractState} (h : StandsFor na
         let removed = unmapped_removed s.spaces dir (page_number (block_address k)) h.in_order.frames in
         rows_so mid sp it.1
         (λ q r where_is. (λ i. removed.rows i q r)
-        ∙ put-other (rows_of s.spaces) dir (page_number (block_address k)) None q r (elsewhere k q r below where_is))
+        ∙ put-other (rows_of s.spaces) dir (page_number (block_address k)) None q r (elsewhere (page_number (block_address k)) q r (block_apart k below) where_is))
 
   asked_so : (number : ℕ) (args : List ℕ) (own : IsServersSystemCall number args) → LeavesRequest own → (mid : KernelState) (called : Called)
       (output : Output) → IsInOrder mid → IsCallStep (system s 0 number args) (Ok called) mid output → RowsStay s mid
   asked_so number args asks_id leaves mid called output in_order call = same_as mid (same_state s 0 args live mid called output call)
   asked_so number args yields leaves mid called output in_order call = absurd leaves
-  asked_so number args (takes_block k below) leaves mid called output in_order call = takes mid called output in_order k below call
+  asked_so number args (takes_block k below) leaves mid called output in_order call =
+      takes mid called output in_order (block_address k) block_perm (block_begins k below) refl (block_apart k below) call
   asked_so number args (maps_block from to from_below to_below) leaves mid called output in_order call =
       maps mid called output in_order from to from_below to_below call
   asked_so number args (unmaps_block k below) leaves mid called output in_order call = unmaps mid called output in_order k below call
-  asked_so number args (takes_place k below) leaves mid called output in_order call = absurd leaves
+  asked_so number args (takes_place k below) leaves mid called output in_order call =
+      takes mid called output in_order (place_address k) place_perm (place_begins k below) refl (place_apart k below) call
   asked_so number args unmaps_request leaves mid called output in_order call = absurd leaves
   asked_so number args receives leaves mid called output in_order call = absurd leaves
   asked_so number args (sends client word) leaves mid called output in_order call = absurd leaves
@@ -321,37 +358,37 @@ module _ {names : Names} {s : KernelState} {a : AbstractState} (h : StandsFor na
       by_test true is = was_touched mid va Read is.1
       by_test false is = same_as mid is.1
 
-  made_so : (call : UserCall) (own : IsServersCall call) → LeavesRequestBy call own → MayCall call own s a → (mid : KernelState) (disk : DiskFile)
+  made_so : (call : UserCall) (own : IsServersCall call) → LeavesRequestBy call own → Gives call s → (mid : KernelState) (disk : DiskFile)
       (files : Around (Option Files)) (output : Output) → IsInOrder mid → IsMade call s 0 disk files mid output → RowsStay s mid
   unfolding load load_byte store store_byte
-  made_so (loads va) own leaves may mid disk files output in_order made =
+  made_so (loads va) own leaves gives mid disk files output in_order made =
       was_touched mid va Read
       (came (load s 0 va) mid output made.0
-      ∙ ap (λ (z : CallStep ℕ). z.state) (given_is s 0 va Read (λ after. giving after (user_word after 0 va)) may.0 may.1))
-  made_so (loads_byte va) own leaves may mid disk files output in_order made =
+      ∙ ap (λ (z : CallStep ℕ). z.state) (given_is s 0 va Read (λ after. giving after (user_word after 0 va)) gives.0 gives.1))
+  made_so (loads_byte va) own leaves gives mid disk files output in_order made =
       was_touched mid va Read
       (came (load_byte s 0 va) mid output made.0
-      ∙ ap (λ (z : CallStep ℕ). z.state) (given_is s 0 va Read (λ after. giving after (user_byte after 0 va)) may.0 may.1))
-  made_so (stores va word) own leaves may mid disk files output in_order made =
+      ∙ ap (λ (z : CallStep ℕ). z.state) (given_is s 0 va Read (λ after. giving after (user_byte after 0 va)) gives.0 gives.1))
+  made_so (stores va word) own leaves gives mid disk files output in_order made =
       was_put mid va (to_le_bytes w32 word)
       (came (store s 0 va word) mid output made.0
-      ∙ ap (λ (z : CallStep (Unit {0})). z.state) (given_is s 0 va Write (λ after. giving (with_user_word after 0 va word) tt) tt may.0))
-  made_so (stores_byte va byte) own leaves may mid disk files output in_order made =
+      ∙ ap (λ (z : CallStep (Unit {0})). z.state) (given_is s 0 va Write (λ after. giving (with_user_word after 0 va word) tt) tt gives))
+  made_so (stores_byte va byte) own leaves gives mid disk files output in_order made =
       was_put mid va (byte ∷ [])
       (came (store_byte s 0 va byte) mid output made.0
-      ∙ ap (λ (z : CallStep (Unit {0})). z.state) (given_is s 0 va Write (λ after. giving (with_user_byte after 0 va byte) tt) tt may.0))
-  made_so (calls number args) own leaves may mid disk files output in_order made =
+      ∙ ap (λ (z : CallStep (Unit {0})). z.state) (given_is s 0 va Write (λ after. giving (with_user_byte after 0 va byte) tt) tt gives))
+  made_so (calls number args) own leaves gives mid disk files output in_order made =
       asked_so number args own leaves mid made.0 output in_order made.1
-  made_so (reads_block block va) own leaves may mid disk files output in_order made = read_so block va disk files.before made.0 mid made.1
-  made_so (writes_block block va) own leaves may mid disk files output in_order made = sent_so block va disk made.0 mid made.1
+  made_so (reads_block block va) own leaves gives mid disk files output in_order made = read_so block va disk files.before made.0 mid made.1
+  made_so (writes_block block va) own leaves gives mid disk files output in_order made = sent_so block va disk made.0 mid made.1
 
   -- Behind the words that are set, too.
-  pub server_call_rows : (call : UserCall) (own : IsServersCall call) → LeavesRequestBy call own → (after : KernelState) (disk : DiskFile)
-      (files : Around (Option Files)) (output : Output) → MakesCall call s after 0 disk files output → MayCall call own s a → IsInOrder after → RowsStay s after
-  server_call_rows call own leaves after disk files output makes may in_order = by_left makes.left
+  pub rows_by : (call : UserCall) (own : IsServersCall call) → LeavesRequestBy call own → (after : KernelState) (disk : DiskFile)
+      (files : Around (Option Files)) (output : Output) → MakesCall call s after 0 disk files output → Gives call s → IsInOrder after → RowsStay s after
+  rows_by call own leaves after disk files output makes gives in_order = by_left makes.left
     where
       stay : IsInOrder makes.mid → RowsStay s makes.mid
-      stay order = made_so call own leaves may makes.mid disk files output order makes.made
+      stay order = made_so call own leaves gives makes.mid disk files output order makes.made
 
       by_left : (after ≡ makes.mid) ⊎ SetsWords makes.mid after 0 → RowsStay s after
       by_left (inl same) = subst (λ (z : KernelState). RowsStay s z) (sym same) (stay (subst IsInOrder same in_order))
@@ -364,6 +401,11 @@ module _ {names : Names} {s : KernelState} {a : AbstractState} (h : StandsFor na
             others = it.others;
             request = it.request;
           })
+
+  pub server_call_rows : (call : UserCall) (own : IsServersCall call) → LeavesRequestBy call own → (after : KernelState) (disk : DiskFile)
+      (files : Around (Option Files)) (output : Output) → MakesCall call s after 0 disk files output → MayCall call own s a → IsInOrder after → RowsStay s after
+  server_call_rows call own leaves after disk files output makes may in_order =
+      rows_by call own leaves after disk files output makes (may_gives call own s a may) in_order
 
   -- ---- the environments stay, and nothing is printed
 
@@ -382,6 +424,27 @@ module _ {names : Names} {s : KernelState} {a : AbstractState} (h : StandsFor na
   gave_quietly step mid output x gives none (faulted stop.Ended other is) = absurd (let contradiction : gone ≡ got x = sym is.0 ∙ gives in cc)
   gave_quietly step mid output x gives none (faulted stop.Failed other is) = absurd (other refl)
 
+  taken_environments : (va perm : ℕ) → is_page_address va ≡ true → is_page_perm perm ≡ true → (mid : KernelState) (called : Called) (output : Output) →
+      IsCallStep (system s 0 SYS_PAGE_ALLOC (0 ∷ va ∷ perm ∷ 0 ∷ 0 ∷ [])) (Ok called) mid output → Quietly mid output
+  taken_environments va perm begins permitted mid called output call =
+      elim (page_made_or_refused s 0 va perm (0 ∷ 0 ∷ []) live begins permitted) [
+        | inl made ↦ was_made made
+        | inr none ↦ was_none none
+      ]
+    where
+      asked : CallStep Called
+      asked = system s 0 SYS_PAGE_ALLOC (0 ∷ va ∷ perm ∷ 0 ∷ 0 ∷ [])
+
+      was_none : PageRefused s 0 va perm asked → Quietly mid output
+      was_none none =
+          let it = comes_to asked (Answered (negated E_NO_MEM)) called (with_refusal s) mid [] output none.step call in
+          quietly mid (with_refusal s) output it.1 refl it.2
+
+      was_made : PageMade s 0 va perm asked → Quietly mid output
+      was_made made =
+          let it = comes_to asked (Answered 0) called (with_spaces s made.spaces) mid [] output made.step call in
+          quietly mid (with_spaces s made.spaces) output it.1 refl it.2
+
   asked_environments : (number : ℕ) (args : List ℕ) (own : IsServersSystemCall number args) → LeavesRequest own → (mid : KernelState) (called : Called)
       (output : Output) → IsCallStep (system s 0 number args) (Ok called) mid output → Quietly mid output
   asked_environments number args asks_id leaves mid called output call =
@@ -389,23 +452,7 @@ module _ {names : Names} {s : KernelState} {a : AbstractState} (h : StandsFor na
       (subst (λ (bytes : List ℕ). Prints output bytes) (ap (λ (z : CallStep Called). z.written) (getenvid_is s 0 live args)) call.2)
   asked_environments number args yields leaves mid called output call = absurd leaves
   asked_environments number args (takes_block k below) leaves mid called output call =
-      elim (page_made_or_refused s 0 (block_address k) block_perm (0 ∷ 0 ∷ []) live (block_begins k below) refl) [
-        | inl made ↦ was_made made
-        | inr none ↦ was_none none
-      ]
-    where
-      asked : CallStep Called
-      asked = system s 0 SYS_PAGE_ALLOC (0 ∷ block_address k ∷ block_perm ∷ 0 ∷ 0 ∷ [])
-
-      was_none : PageRefused s 0 (block_address k) block_perm asked → Quietly mid output
-      was_none none =
-          let it = comes_to asked (Answered (negated E_NO_MEM)) called (with_refusal s) mid [] output none.step call in
-          quietly mid (with_refusal s) output it.1 refl it.2
-
-      was_made : PageMade s 0 (block_address k) block_perm asked → Quietly mid output
-      was_made made =
-          let it = comes_to asked (Answered 0) called (with_spaces s made.spaces) mid [] output made.step call in
-          quietly mid (with_spaces s made.spaces) output it.1 refl it.2
+      taken_environments (block_address k) block_perm (block_begins k below) refl mid called output call
   asked_environments number args (maps_block from to from_below to_below) leaves mid called output call =
       by_entry (shared_entry (entry_at s 0 (block_address from)) block_perm) refl
     where
@@ -433,7 +480,8 @@ module _ {names : Names} {s : KernelState} {a : AbstractState} (h : StandsFor na
       let it = comes_to (system s 0 SYS_PAGE_UNMAP (0 ∷ block_address k ∷ 0 ∷ 0 ∷ 0 ∷ [])) (Answered 0) called (with_spaces s sp) mid [] output
       (page_unmap_is s 0 live (block_address k) (0 ∷ 0 ∷ 0 ∷ []) (block_begins k below)) call in
       quietly mid (with_spaces s sp) output it.1 refl it.2
-  asked_environments number args (takes_place k below) leaves mid called output call = absurd leaves
+  asked_environments number args (takes_place k below) leaves mid called output call =
+      taken_environments (place_address k) place_perm (place_begins k below) refl mid called output call
   asked_environments number args unmaps_request leaves mid called output call = absurd leaves
   asked_environments number args receives leaves mid called output call = absurd leaves
   asked_environments number args (sends client word) leaves mid called output call = absurd leaves
@@ -465,37 +513,41 @@ module _ {names : Names} {s : KernelState} {a : AbstractState} (h : StandsFor na
       by_test true is = same_environments mid (with_spaces s (touched s.spaces dir va Read)) is.1 refl
       by_test false is = same_environments mid s is.1 refl
 
-  pub made_quietly : (call : UserCall) (own : IsServersCall call) → LeavesRequestBy call own → MayCall call own s a → (mid : KernelState)
+  pub quietly_by : (call : UserCall) (own : IsServersCall call) → LeavesRequestBy call own → Gives call s → (mid : KernelState)
       (disk : DiskFile) (files : Around (Option Files)) (output : Output) → IsMade call s 0 disk files mid output → Quietly mid output
   unfolding load load_byte store store_byte
-  made_quietly (loads va) own leaves may mid disk files output made =
-      let is = given_is s 0 va Read (λ after. giving after (user_word after 0 va)) may.0 may.1 in
+  quietly_by (loads va) own leaves gives mid disk files output made =
+      let is = given_is s 0 va Read (λ after. giving after (user_word after 0 va)) gives.0 gives.1 in
       quietly mid (with_spaces s (touched s.spaces dir va Read)) output
       (came (load s 0 va) mid output made.0 ∙ ap (λ (z : CallStep ℕ). z.state) is) refl
-      (gave_quietly (load s 0 va) mid output may.0 may.1 (ap (λ (z : CallStep ℕ). z.written) is) made.0)
-  made_quietly (loads_byte va) own leaves may mid disk files output made =
-      let is = given_is s 0 va Read (λ after. giving after (user_byte after 0 va)) may.0 may.1 in
+      (gave_quietly (load s 0 va) mid output gives.0 gives.1 (ap (λ (z : CallStep ℕ). z.written) is) made.0)
+  quietly_by (loads_byte va) own leaves gives mid disk files output made =
+      let is = given_is s 0 va Read (λ after. giving after (user_byte after 0 va)) gives.0 gives.1 in
       quietly mid (with_spaces s (touched s.spaces dir va Read)) output
       (came (load_byte s 0 va) mid output made.0 ∙ ap (λ (z : CallStep ℕ). z.state) is) refl
-      (gave_quietly (load_byte s 0 va) mid output may.0 may.1 (ap (λ (z : CallStep ℕ). z.written) is) made.0)
-  made_quietly (stores va word) own leaves may mid disk files output made =
-      let is = given_is s 0 va Write (λ after. giving (with_user_word after 0 va word) tt) tt may.0 in (
+      (gave_quietly (load_byte s 0 va) mid output gives.0 gives.1 (ap (λ (z : CallStep ℕ). z.written) is) made.0)
+  quietly_by (stores va word) own leaves gives mid disk files output made =
+      let is = given_is s 0 va Write (λ after. giving (with_user_word after 0 va word) tt) tt gives in (
         put_environments mid va (to_le_bytes w32 word)
             (came (store s 0 va word) mid output made.0 ∙ ap (λ (z : CallStep (Unit {0})). z.state) is),
-        gave_quietly (store s 0 va word) mid output tt may.0 (ap (λ (z : CallStep (Unit {0})). z.written) is) made.0,
+        gave_quietly (store s 0 va word) mid output tt gives (ap (λ (z : CallStep (Unit {0})). z.written) is) made.0,
       )
-  made_quietly (stores_byte va byte) own leaves may mid disk files output made =
-      let is = given_is s 0 va Write (λ after. giving (with_user_byte after 0 va byte) tt) tt may.0 in (
+  quietly_by (stores_byte va byte) own leaves gives mid disk files output made =
+      let is = given_is s 0 va Write (λ after. giving (with_user_byte after 0 va byte) tt) tt gives in (
         put_environments mid va (byte ∷ [])
             (came (store_byte s 0 va byte) mid output made.0 ∙ ap (λ (z : CallStep (Unit {0})). z.state) is),
-        gave_quietly (store_byte s 0 va byte) mid output tt may.0 (ap (λ (z : CallStep (Unit {0})). z.written) is) made.0,
+        gave_quietly (store_byte s 0 va byte) mid output tt gives (ap (λ (z : CallStep (Unit {0})). z.written) is) made.0,
       )
-  made_quietly (calls number args) own leaves may mid disk files output made =
+  quietly_by (calls number args) own leaves gives mid disk files output made =
       asked_environments number args own leaves mid made.0 output made.1
-  made_quietly (reads_block block va) own leaves may mid disk files output made =
+  quietly_by (reads_block block va) own leaves gives mid disk files output made =
       (read_environments block va disk files.before made.0 mid made.1, made.2)
-  made_quietly (writes_block block va) own leaves may mid disk files output made =
+  quietly_by (writes_block block va) own leaves gives mid disk files output made =
       (sent_environments block va disk made.0 mid made.1, made.2)
+
+  pub made_quietly : (call : UserCall) (own : IsServersCall call) → LeavesRequestBy call own → MayCall call own s a → (mid : KernelState)
+      (disk : DiskFile) (files : Around (Option Files)) (output : Output) → IsMade call s 0 disk files mid output → Quietly mid output
+  made_quietly call own leaves may mid disk files output made = quietly_by call own leaves (may_gives call own s a may) mid disk files output made
 
   -- The status stays behind the words that are set.
   pub status_stays : (mid after : KernelState) → mid.environments ≡ s.environments → (after ≡ mid) ⊎ SetsWords mid after 0 →

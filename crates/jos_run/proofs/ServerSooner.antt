@@ -6,22 +6,20 @@ use Rattle.jos_host.specs.Files.{Files}
 use Rattle.jos_host.specs.Frames.{Around, from_to}
 use Rattle.jos_base.specs.declared.environment.Status.TheVariants.{NotRunnable}
 use Rattle.jos_base.specs.KernelState.{KernelState, slot_at}
-use Rattle.fs_layout.specs.FileTree.{remove_path, sync_files}
 use Rattle.lib_os.specs.declared.progress.Progress.{Progress}
 use Rattle.lib_os.specs.declared.progress.Progress.TheVariants as progress
-use Rattle.lib_os.specs.declared.request.RequestKind.{RequestKind}
-use Rattle.lib_os.specs.declared.request.RequestKind.TheVariants as kind
-use Rattle.lib_os.specs.AbstractState.{AbstractState, Request, act, busy, idle}
+use Rattle.lib_os.specs.AbstractState.{AbstractState, idle}
 use Rattle.lib_os.specs.Disk.{Disk, DiskFile, disk_in}
 use Rattle.lib_os.specs.InOrder.{IsInOrder}
 use Rattle.lib_os.specs.LibrarySteps.{NothingRefused, Stands}
 use Rattle.lib_os.specs.MadeCalls.{MakesServersCall}
 use Rattle.lib_os.specs.UserCalls.{Output}
+use Rattle.fs_requests.specs.declared.plan.ServerAsk.{ServerAsk}
 use Rattle.fs_requests.specs.declared.state.ServerState.{ServerState}
 use Rattle.fs_requests.specs.declared.state.ServerStep.{ServerStep}
 use Rattle.fs_requests.specs.declared.state.ServerStep.TheVariants as step
 use Rattle.fs_requests.specs.ServerPlans.{ask_for, call_for}
-use Rattle.fs_server.specs.ServerSteps.{HasCalled, Serves, ServesBy, WorksWhereTold, server_at}
+use Rattle.fs_server.specs.ServerSteps.{HasCalled, Serves, ServesBy, WorksQuietly, WorksWhereTold, server_at}
 use Rattle.fs_serving.specs.ServerRuns.{is_serving}
 use Rattle.fs_seen.specs.BlockSteps.{LacksBlock}
 use Rattle.fs_seen.specs.ServerMemory.{HasWords}
@@ -29,12 +27,13 @@ use Rattle.fs_seen.specs.ServerSees.{AllStands, LacksPage, is_working, makes_cal
 use Rattle.fs_seen.specs.ServerSoon.{ActsWithin, Sooner}
 use Rattle.fs_seen.proofs.ActsSoon.{calls_act_soon, flushes_act_soon, jobs_act_soon}
 use Rattle.fs_seen.proofs.JobsServed.{jobs_are_lawful}
+use Rattle.jos_run.specs.AbstractTurns.{is_acting}
 use Rattle.jos_run.specs.Closing.{ActsSooner, ActsWithinOver, SoonerOver}
 use Rattle.jos_run.specs.ServerStands.{ServesOver, StandsWhole, step_of}
 use Rattle.jos_run.specs.Worlds.{beside, told_disk, world_of}
-use Rattle.jos_run.proofs.ServerNow.{IsBuilt, StandsNow, acting, checking, finding, flushing, for_removal, for_sync, pausing, reading_client, reading_kind}
-use Rattle.jos_run.proofs.ServerNow.{receiving, releasing, replying, stands_now, working}
-use Rattle.jos_run.proofs.ServerStepped.{all_stand, called_at, not_idle, stands_serving}
+use Rattle.jos_run.proofs.CallNexts.{calls_it}
+use Rattle.jos_run.proofs.ServerNow.{StandsNow, calling, flushing, pausing, receiving, releasing, replying, stands_now, working}
+use Rattle.jos_run.proofs.ServerStepped.{acting_not_idle, all_stand, stands_serving}
 
 module _ (disk : DiskFile) (before after : KernelState) (files : Around (Option Files)) (output : Output) where
   abbrev state : ServerState
@@ -54,39 +53,35 @@ module _ (disk : DiskFile) (before after : KernelState) (files : Around (Option 
     abbrev Comes : Type 0
     Comes = (now : Files) × (files.after ≡ Some now) × Sooner most done (disk_in now disk) after a
 
-    module _ (client : ℕ) (k : RequestKind) (request : Request) (built : IsBuilt k request) (server : a.server ≡ busy client request None) where
+    module _ (acts : is_acting a.server ≡ true) where
       other : a.server ≢ idle
-      other = not_idle disk before after files output d a whole words client k request built server
+      other = acting_not_idle disk before after files output d a whole words acts
 
       all : AllStands d before 0
-      all = all_stand disk before after files output d a whole words client k request built server
+      all = all_stand disk before after files output d a whole words acts
 
       -- by a call of its own
-      call_sooner : (x : ServerStep) → step_of (slot_at before 0) ≡ x → makes_call x ≡ true → x ≢ step.TakingPage →
-          HasCalled (call_for state x) state before after 0 output done → files.after ≡ files.before → Comes
-      call_sooner x at makes apart called same = (
+      call_sooner : makes_call state.step ≡ true → HasCalled (call_for state state.step) state before after 0 output done → files.after ≡ files.before → Comes
+      call_sooner makes called same = (
         f,
         same ∙ told,
-        by_soon (calls_act_soon most a d before after output done (ap (λ (y : ServerStep). makes_call y) at ∙ makes) all within other order
-            (called_at disk before after files output d a whole words done x at called)),
+        by_soon (calls_act_soon most a d before after output done makes all within other order called),
       )
         where
           by_soon : Sooner most done d after a ⊎ ((state.step ≡ step.TakingPage) × LacksPage d before after 0 done) → Sooner most done d after a
           by_soon (inl soon) = soon
-          by_soon (inr lacks) = absurd (apart (sym at ∙ lacks.0))
+          by_soon (inr (taking, lacks)) = absurd (let more = lacks.counted nothing.could in let same = nothing.stays in omega (arith, more, same))
 
       -- by a step of its job
-      job_sooner : (x : ServerStep) → step_of (slot_at before 0) ≡ x → is_working x ≡ true → MakesServersCall (from_to before after) 0 disk files output →
+      job_sooner : is_working state.step ≡ true → MakesServersCall (from_to before after) 0 disk files output →
           WorksWhereTold state (Ok done) disk 0 (from_to before after) files → Comes
-      job_sooner x at on made works =
-          let working_now : is_working state.step ≡ true = ap (λ (y : ServerStep). is_working y) at ∙ on in
-          let tree = jobs_are_lawful a d before 0 working_now whole.1.serving.requested all
-          (stands_serving disk before after files output d a whole words client k request built server) in
+      job_sooner on made works =
+          let tree = jobs_are_lawful a d before 0 on whole.1.serving.requested all
+          (stands_serving disk before after files output d a whole words other) in
           let came = works f told tree.0 tree.1 in (
             came.0,
             came.1,
-            by_soon came.0
-                (jobs_act_soon most a disk f came.0 before after files output done working_now all within other order told came.1 made came.2),
+            by_soon came.0 (jobs_act_soon most a disk f came.0 before after files output done on all within other order told came.1 made came.2),
           )
         where
           by_soon : (now : Files) → Sooner most done (disk_in now disk) after a ⊎ LacksBlock d (disk_in now disk) before after 0 done →
@@ -100,35 +95,26 @@ module _ (disk : DiskFile) (before after : KernelState) (files : Around (Option 
     serves_none x at serves_now none =
         absurd (let contradiction : false ≡ true = sym none ∙ sym (ap (λ (y : ServerStep). is_serving y) at) ∙ serves_now in cc)
 
+    work_asked : (x : ServerStep) → is_working x ≡ true → ServesBy (ask_for state x) state (Ok done) disk 0 (from_to before after) files output →
+        WorksWhereTold state (Ok done) disk 0 (from_to before after) files × WorksQuietly (Ok done) disk 0 before files.before output
+    work_asked step.Working works serves = serves
+    work_asked step.Finding works serves = serves
+    work_asked _ works serves = absurd (let contradiction : false ≡ true = works in cc)
+
     comes_sooner : StandsNow before a → is_serving (step_of (slot_at before 0)) ≡ true → Serves (Ok done) disk 0 (from_to before after) files output →
         MakesServersCall (from_to before after) 0 disk files output → Comes
     comes_sooner (releasing server at) on serves made = serves_none step.Releasing at on refl
     comes_sooner (receiving server at) on serves made = serves_none step.Receiving at on refl
-    comes_sooner (reading_kind client k request built server at) on serves made =
-        let it = asked done step.ReadingKind at serves in
-        call_sooner client k request built server step.ReadingKind at refl (λ is. let contradiction : step.ReadingKind ≡ step.TakingPage = is in cc) it.0 it.1
-    comes_sooner (reading_client client k request built server at kind_is) on serves made =
-        let it = asked done step.ReadingClient at serves in
-        call_sooner client k request built server step.ReadingClient at refl (λ is. let contradiction : step.ReadingClient ≡ step.TakingPage = is in cc)
-        it.0 it.1
+    comes_sooner (calling acts makes) on serves made =
+        let it = subst (λ (y : ServerAsk). ServesBy y state (Ok done) disk 0 (from_to before after) files output) (calls_it state state.step makes) serves in
+        call_sooner acts makes it.0 it.1
+    comes_sooner (working acts works) on serves made =
+        let it = work_asked state.step works serves in job_sooner acts works made it.0
     comes_sooner (flushing client server at) on serves made =
-        flushes_act_soon most a disk f before after files output done at (all client kind.Sync (act sync_files None) for_sync server) within
-        (other client kind.Sync (act sync_files None) for_sync server) order told (asked done step.Flushing at serves)
-    comes_sooner (finding client path removing at) on serves made =
-        let it = asked done step.Finding at serves in
-        job_sooner client kind.Remove (act (remove_path path) None) (for_removal path) removing.0 step.Finding at refl made it.0
-    comes_sooner (checking client path removing at) on serves made =
-        let it = asked done step.CheckingRecord at serves in
-        call_sooner client kind.Remove (act (remove_path path) None) (for_removal path) removing.0 step.CheckingRecord at refl
-        (λ is. let contradiction : step.CheckingRecord ≡ step.TakingPage = is in cc) it.0 it.1
-    comes_sooner (working client path removing at) on serves made =
-        let it = asked done step.Working at serves in
-        job_sooner client kind.Remove (act (remove_path path) None) (for_removal path) removing.0 step.Working at refl made it.0
-    comes_sooner (acting client k f built server at) on serves made =
-        let it = asked done step.Acting at serves in
-        call_sooner client k (act f None) built server step.Acting at refl (λ is. let contradiction : step.Acting ≡ step.TakingPage = is in cc) it.0 it.1
-    comes_sooner (replying client answer server at) on serves made = serves_none step.Replying at on refl
-    comes_sooner (pausing client answer server at) on serves made = serves_none step.Pausing at on refl
+        let acts : is_acting a.server ≡ true = ap is_acting server in
+        flushes_act_soon most a disk f before after files output done at (all acts) within (other acts) order told (asked done step.Flushing at serves)
+    comes_sooner (replying client answer bytes object server at) on serves made = serves_none step.Replying at on refl
+    comes_sooner (pausing client answer bytes object server at) on serves made = serves_none step.Pausing at on refl
 
   -- over the disk that is told
   told_sooner : (done : Progress) (most : ℕ) (e : Disk) (a : AbstractState) → Sooner most done e after a → SoonerOver most done (beside after (Some e)) a

@@ -1,19 +1,16 @@
 -- What a step of the file server is to a run. At each step at which it may stand its call comes to what the abstract system's server does, or nobody
 -- sees it; and whatever it calls, it leaves the others as they were. Where the host fails in it, nothing is printed.
-use Rattle.std.proofs.Common.{◌≡◌, ◌≢◌, ◌∙◌, ◌==◌, ◌+◌, ◌*◌, ℕ, Bool, true, false, List, [], Option, Some, None, Result, Ok, Err, OnOk, OnErr, refl, sym, ap, subst}
+use Rattle.std.proofs.Common.{◌≡◌, ◌≢◌, ◌∙◌, ◌==◌, ℕ, Bool, true, false, List, [], Option, Some, None, Result, Ok, Err, OnOk, OnErr, refl, sym, ap, subst}
 use Rattle.std.proofs.Common.{arith}
 use Rattle.std.proofs.lemmas.Bool.Decides.{nat_tests}
 use Rattle.jos_host.specs.declared.host.Failed.{Failed}
 use Rattle.jos_host.specs.Files.{Files}
 use Rattle.jos_host.specs.Frames.{Around, from_to}
 use Rattle.jos_base.specs.declared.environment.Status.TheVariants.{NotRunnable}
-use Rattle.jos_base.specs.declared.numbers.TheConstants.{ENV_IPC_FROM, ENV_IPC_VALUE, UENVS}
 use Rattle.jos_base.specs.KernelState.{KernelState, slot_at}
-use Rattle.fs_layout.specs.FileTree.{remove_path}
 use Rattle.lib_os.specs.declared.progress.Progress.{Progress}
-use Rattle.lib_os.specs.declared.request.RequestKind.TheVariants as kind
 use Rattle.lib_os.specs.declared.user_os.Stop.TheVariants as stop
-use Rattle.lib_os.specs.AbstractState.{AbstractState, act}
+use Rattle.lib_os.specs.AbstractState.{AbstractState}
 use Rattle.lib_os.specs.Disk.{Disk, DiskFile, disk_in}
 use Rattle.lib_os.specs.InOrder.{IsInOrder}
 use Rattle.lib_os.specs.LibrarySteps.{Stands}
@@ -24,20 +21,23 @@ use Rattle.fs_tree.proofs.TiesLaw.{no_part}
 use Rattle.fs_requests.specs.declared.state.ServerState.{ServerState}
 use Rattle.fs_requests.specs.declared.state.ServerStep.{ServerStep}
 use Rattle.fs_requests.specs.declared.state.ServerStep.TheVariants as step
-use Rattle.fs_requests.specs.ServerPlans.{ask_for, open_record}
-use Rattle.fs_server.specs.ServerSteps.{Serves, ServesBy, server_at}
+use Rattle.fs_requests.specs.declared.plan.ServerAsk.{ServerAsk}
+use Rattle.fs_requests.specs.ServerPlans.{ask_for, call_for}
+use Rattle.fs_server.specs.ServerSteps.{IsCalled, Serves, ServesBy, WorksQuietly, WorksWhereTold, server_at}
 use Rattle.fs_seen.specs.ServerMemory.{HasWords}
+use Rattle.fs_seen.specs.ServerSees.{is_working, makes_call}
 use Rattle.jos_run.specs.ServerStands.{IsWholeStep, LeavesServed, ServerLeaves, ServesOver, StandsWhole, WholeFollows}
 use Rattle.jos_run.specs.Steps.{is_awake}
 use Rattle.jos_run.specs.Worlds.{beside, told_disk, world_of}
-use Rattle.jos_run.proofs.ServerAnswers.{act_steps, pause_steps, receive_steps, reply_steps}
+use Rattle.jos_run.proofs.ServerAnswers.{pause_steps, receive_steps, reply_steps}
+use Rattle.jos_run.proofs.CallNexts.{calls_it}
+use Rattle.jos_run.proofs.ServerCalls.{call_goes_on, call_steps}
 use Rattle.jos_run.proofs.ServerFlushes.{flush_fails, flush_steps}
 use Rattle.jos_run.proofs.ServerLeavings.{made_prints, numbers_left, places_left, server_call_leaves}
-use Rattle.jos_run.proofs.ServerNow.{StandsNow, acting, awake_so, checking, finding, flushing, for_removal, is_first, pausing, reading_client, reading_kind}
-use Rattle.jos_run.proofs.ServerNow.{receiving, releasing, replying, running_so, stands_now, working}
+use Rattle.jos_run.proofs.ServerNow.{StandsNow, awake_so, calling, flushing, is_first, pausing, receiving, releasing, replying, running_so, stands_now, working}
 use Rattle.jos_run.proofs.ServerPrints.{prints_only, prints_part_only}
-use Rattle.jos_run.proofs.ServerStepped.{Stepped, check_at, check_steps, client_at, client_steps, kind_at, kind_steps, load_goes_on, release_steps}
-use Rattle.jos_run.proofs.ServerWorks.{find_fails, find_steps, work_fails, work_steps}
+use Rattle.jos_run.proofs.ServerStepped.{Stepped, release_steps}
+use Rattle.jos_run.proofs.ServerWorks.{job_fails, job_steps}
 
 module _ (disk : DiskFile) (before after : KernelState) (files : Around (Option Files)) (output : Output) where
   abbrev state : ServerState
@@ -64,6 +64,20 @@ module _ (disk : DiskFile) (before after : KernelState) (files : Around (Option 
     same_comes : (done : Progress) → files.after ≡ files.before → Stepped before (beside after (Some d)) a done output → Comes done
     same_comes done same stepped = (f, same ∙ told, stepped)
 
+    -- a call of its own is what it asks for
+    call_asked : (result : Result Progress Failed) (x : ServerStep) → makes_call x ≡ true →
+        ServesBy (ask_for state x) state result disk 0 (from_to before after) files output →
+        IsCalled (call_for state x) state result 0 (from_to before after) output × (files.after ≡ files.before)
+    call_asked result x makes serves = subst (λ (y : ServerAsk). ServesBy y state result disk 0 (from_to before after) files output) (calls_it state x makes) serves
+
+    -- and so it is with a job
+    work_asked : (result : Result Progress Failed) (x : ServerStep) → is_working x ≡ true →
+        ServesBy (ask_for state x) state result disk 0 (from_to before after) files output →
+        WorksWhereTold state result disk 0 (from_to before after) files × WorksQuietly result disk 0 before files.before output
+    work_asked result step.Working on serves = serves
+    work_asked result step.Finding on serves = serves
+    work_asked result _ on serves = absurd (let contradiction : false ≡ true = on in cc)
+
     comes_to : (done : Progress) → StandsNow before a → Serves (Ok done) disk 0 (from_to before after) files output →
         MakesServersCall (from_to before after) 0 disk files output → Comes done
     comes_to done (releasing server at) serves made =
@@ -72,62 +86,38 @@ module _ (disk : DiskFile) (before after : KernelState) (files : Around (Option 
     comes_to done (receiving server at) serves made =
         let it = asked (Ok done) step.Receiving at serves in
         same_comes done it.1 (receive_steps served_clients_stay disk before after files output d a whole words done server at it.0)
-    comes_to done (reading_kind client k request built server at) serves made =
-        let it = asked (Ok done) step.ReadingKind at serves in
-        same_comes done it.1 (kind_steps disk before after files output d a whole words client k request built server done at it.0 it.1)
-    comes_to done (reading_client client k request built server at kind_is) serves made =
-        let it = asked (Ok done) step.ReadingClient at serves in
-        same_comes done it.1 (client_steps disk before after files output d a whole words client k request built server done at kind_is it.0 it.1)
+    comes_to done (calling acts makes) serves made =
+        let it = call_asked (Ok done) state.step makes serves in
+        same_comes done it.1 (call_steps disk before after files output d a whole words acts done makes it.0 it.1)
+    comes_to done (working acts on) serves made =
+        let it = work_asked (Ok done) state.step on serves in
+        job_steps disk before files output f told a whole words acts on after done made it.0 it.1
     comes_to done (flushing client server at) serves made =
         flush_steps disk before files output f told a whole words client server at after done (asked (Ok done) step.Flushing at serves)
-    comes_to done (finding client path removing at) serves made =
-        let it = asked (Ok done) step.Finding at serves in
-        find_steps disk before files output f told a whole words client path removing at after done made it.0 it.1
-    comes_to done (checking client path removing at) serves made =
-        let it = asked (Ok done) step.CheckingRecord at serves in
-        same_comes done it.1 (check_steps disk before after files output d a whole words client path removing done at it.0 it.1)
-    comes_to done (working client path removing at) serves made =
-        let it = asked (Ok done) step.Working at serves in
-        work_steps disk before files output f told a whole words client path removing at after done made it.0 it.1
-    comes_to done (acting client k act_is built server at) serves made =
-        let it = asked (Ok done) step.Acting at serves in
-        same_comes done it.1
-        (act_steps served_clients_stay disk before after files output d a whole words client k act_is built server done at it.0 it.1)
-    comes_to done (replying client answer server at) serves made =
+    comes_to done (replying client answer bytes object server at) serves made =
         let it = asked (Ok done) step.Replying at serves in
-        same_comes done it.1 (reply_steps served_clients_stay disk before after files output d a whole words client answer server at done it.0)
-    comes_to done (pausing client answer server at) serves made =
+        same_comes done it.1
+        (reply_steps served_clients_stay disk before after files output d a whole words client answer bytes object server at done it.0)
+    comes_to done (pausing client answer bytes object server at) serves made =
         let it = asked (Ok done) step.Pausing at serves in
         same_comes done it.1
-        (pause_steps served_clients_stay disk before after files output d a whole words client answer server done at it.0 it.1)
+        (pause_steps served_clients_stay disk before after files output d a whole words client answer bytes object server done at it.0 it.1)
 
     -- ---- where the host fails in it
 
     fails : (failed : Failed) → StandsNow before a → Serves (Err failed) disk 0 (from_to before after) files output → PrintsPart output []
     fails failed (releasing server at) serves = let it = asked (Err failed) step.Releasing at serves in absurd it.0
     fails failed (receiving server at) serves = let it = asked (Err failed) step.Receiving at serves in absurd it.0
-    fails failed (reading_kind client k request built server at) serves =
-        let it = asked (Err failed) step.ReadingKind at serves in
-        absurd (load_goes_on disk before after files output d a whole words client k request built server step.ReadingKind (UENVS + 4 * ENV_IPC_VALUE)
-        (kind_at disk before after files output d a whole words client k request built server at) stop.Failed it.0)
-    fails failed (reading_client client k request built server at kind_is) serves =
-        let it = asked (Err failed) step.ReadingClient at serves in
-        absurd (load_goes_on disk before after files output d a whole words client k request built server step.ReadingClient (UENVS + 4 * ENV_IPC_FROM)
-        (client_at disk before after files output d a whole words client k request built server at) stop.Failed it.0)
+    fails failed (calling acts makes) serves =
+        let it = call_asked (Err failed) state.step makes serves in
+        absurd (call_goes_on disk before after files output d a whole words acts stop.Failed makes it.0)
+    fails failed (working acts on) serves =
+        let it = work_asked (Err failed) state.step on serves in job_fails disk before files output f told a whole words acts on failed it.1
     fails failed (flushing client server at) serves =
         no_part output
         (flush_fails disk before files output f told a whole words client server at after failed (asked (Err failed) step.Flushing at serves))
-    fails failed (finding client path removing at) serves =
-        let it = asked (Err failed) step.Finding at serves in find_fails disk before files output f told a whole words client path removing at failed it.1
-    fails failed (checking client path removing at) serves =
-        let it = asked (Err failed) step.CheckingRecord at serves in
-        absurd (load_goes_on disk before after files output d a whole words client kind.Remove (act (remove_path path) None) (for_removal path) removing.0
-        step.CheckingRecord (open_record state.number) (check_at disk before after files output d a whole words client path removing at) stop.Failed it.0)
-    fails failed (working client path removing at) serves =
-        let it = asked (Err failed) step.Working at serves in work_fails disk before files output f told a whole words client path removing at failed it.1
-    fails failed (acting client k act_is built server at) serves = let it = asked (Err failed) step.Acting at serves in absurd it.0
-    fails failed (replying client answer server at) serves = let it = asked (Err failed) step.Replying at serves in absurd it.0
-    fails failed (pausing client answer server at) serves = let it = asked (Err failed) step.Pausing at serves in absurd it.0
+    fails failed (replying client answer bytes object server at) serves = let it = asked (Err failed) step.Replying at serves in absurd it.0
+    fails failed (pausing client answer bytes object server at) serves = let it = asked (Err failed) step.Pausing at serves in absurd it.0
 
   -- ---- the disk that the host tells
 

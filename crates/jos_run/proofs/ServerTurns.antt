@@ -1,5 +1,5 @@
 -- Turns of the file server: where one begins, and that others stay live in it.
-use Rattle.std.proofs.Common.{◌≡◌, ◌≢◌, ◌∙◌, ℕ, ◌+◌, ◌%◌, ◌^◌, true, false, List, [], Option, Some, None, refl, sym, ap, subst}
+use Rattle.std.proofs.Common.{◌≡◌, ◌≢◌, ◌∙◌, ℕ, ◌+◌, ◌%◌, ◌^◌, ◌==◌, Bool, true, false, not, nat_lt, if◌then◌else◌, List, [], Option, Some, None, refl, sym, ap, subst}
 use Rattle.std.specs.Prelude.{unwrap_or}
 use Rattle.jos_base.specs.declared.environment.EnvType.TheVariants.{User}
 use Rattle.jos_base.specs.declared.environment.Status.{Status}
@@ -9,7 +9,9 @@ use Rattle.jos_base.specs.Environments.{Slot, is_live, is_running}
 use Rattle.jos_base.specs.KernelState.{KernelState, slot_at, turn_begun}
 use Rattle.jos_base.specs.SpacesState.{SpacesState}
 use Rattle.jos_base.specs.Words.{upd}
-use Rattle.lib_os.specs.AbstractState.{AbstractState, AbstractSlot, Born, free, born, unborn, serving, Server, idle, leaving, looking, busy, acted, act, is_idle}
+use Rattle.lib_os.specs.AbstractState.{AbstractState, AbstractSlot, Born, free, born, unborn, serving, Server, idle, leaving, looking, busy, acted, act, seek, is_idle}
+use Rattle.lib_os.specs.AbstractState.{Object, Request, file, read_end, terminal, write_end}
+use Rattle.lib_os.specs.declared.numbers.TheConstants.{MAXOPEN}
 use Rattle.lib_os.specs.AbstractState.{Phase, in_service, awaiting, replied, with_born}
 use Rattle.lib_os.specs.Places.{place_of}
 use Rattle.lib_os.specs.Rows.{Names, counted, is_clients, logical, logical_by, rows_of}
@@ -21,17 +23,18 @@ use Rattle.lib_os.proofs.StatesStand.{server_same, slot_in_order}
 use Rattle.lib_os.specs.declared.progress.Progress.{Progress}
 use Rattle.lib_os.specs.declared.progress.Progress.TheVariants as progress
 use Rattle.lib_os.specs.AbstractRun.{abs_step, slot_step}
-use Rattle.fs_layout.specs.FileTree.{remove_path, sync_files}
+use Rattle.fs_layout.specs.FileActs.{Acted, file_act, file_named}
+use Rattle.fs_layout.specs.FileTree.{FileAct, open_path, read_file, remove_path, set_file_size, stat_file, sync_files, write_file}
 use Rattle.lib_os.specs.Descriptors.{lowest_free}
-use Rattle.lib_os.specs.Disk.{Disk}
-use Rattle.lib_os.specs.FileServer.{given, reply, reply_at, reply_to, served, server_step}
+use Rattle.lib_os.specs.FileServer.{act_done, after_act, file_opened, given, is_count, is_held_by, is_file_open, looked, low_mode, moved_on, offset_in}
+use Rattle.lib_os.specs.FileServer.{reply, reply_at, reply_to, served, server_step, with_offset_of}
 use Rattle.lib_os.specs.GuestStep.{born_in}
 use Rattle.lib_os.specs.LibrarySteps.{NothingRefused}
 use Rattle.std.proofs.lemmas.Option.{none-some, same_Some}
 use Rattle.jos_base.specs.Below.{some_below}
 use Rattle.jos_run.specs.AbstractTurns.{any_live, is_client}
 use Rattle.jos_run.specs.LibraryRuns.{others_live}
-use Rattle.jos_run.specs.ServerStands.{IsBuiltRequest, KeepsWhole, ServesOver, StandsWhole, WholeFollows, WholeGoesOn, WholeStays}
+use Rattle.jos_run.specs.ServerStands.{KeepsWhole, StandsWhole, WholeFollows, WholeGoesOn, WholeStays}
 use Rattle.jos_run.specs.Worlds.{World}
 use Rattle.jos_run.proofs.Choices.{any_live_stands, only_first_serves}
 use Rattle.jos_base.proofs.Maps.{upd-all, upd-at, upd-other}
@@ -72,7 +75,6 @@ server_begun_stands {names = names} {s = s} {a = a} h busy_now none =
       first = h.first;
       server = server_same (upd-at s.environments.slots 0 k)
           (record { status = ready; pages = h.server.pages; tables = h.server.tables; alone = h.server.alone });
-      consoles = h.consoles;
       input = h.input;
       last = refl;
       turns = ap (λ (t : ℕ). t + 1) h.turns;
@@ -145,12 +147,12 @@ running_serves h runs =
     awake_serves h (λ is. let contradiction : true ≡ false = sym runs ∙ ap (λ (x : Status). is_running x) is in cc)
 
 -- Its step leaves it open who is there: a client that has its reply is there still.
-replied_alike : (a b : AbstractState) (client answer : ℕ) (o : Option Born) → born_in (a.slots client) ≡ o → reply a client answer [] None o ≡ Some b →
-    (n : ℕ) → is_client (b.slots n) ≡ is_client (a.slots n)
-replied_alike a b client answer None there is n =
+replied_alike : (a b : AbstractState) (client answer : ℕ) (bytes : List ℕ) (object : Option ℕ) (o : Option Born) → born_in (a.slots client) ≡ o →
+    reply a client answer bytes object o ≡ Some b → (n : ℕ) → is_client (b.slots n) ≡ is_client (a.slots n)
+replied_alike a b client answer bytes object None there is n =
     let same : ◌≡◌ {A = Option AbstractState} (Some (record a { server = leaving })) (Some b) = is in
     ap (λ (o : Option AbstractState). is_client ((unwrap_or o a).slots n)) (sym same)
-replied_alike a b client answer (Some c) there is n = by_phase c.phase is
+replied_alike a b client answer bytes object (Some c) there is n = by_phase c.phase is
   where
     was : is_client (a.slots client) ≡ true
     was = by_slot (a.slots client) there
@@ -166,34 +168,79 @@ replied_alike a b client answer (Some c) there is n = by_phase c.phase is
         ap (λ (y : AbstractState). is_client (y.slots n)) same
         ∙ upd-all (λ m (slot : AbstractSlot). is_client slot ≡ is_client (a.slots m)) a.slots client (born d) (sym was) (λ m ne. refl) n
 
-    by_phase : (p : Phase) → reply_at a client c answer [] None p ≡ Some b → is_client (b.slots n) ≡ is_client (a.slots n)
+    by_phase : (p : Phase) → reply_at a client c answer bytes object p ≡ Some b → is_client (b.slots n) ≡ is_client (a.slots n)
     by_phase (in_service service awaiting) same =
-        let to = given c None (lowest_free c) answer in
-        alike b (record to.0 { phase = in_service service (replied [] to.1); blocked = false })
-        (same_Some b (reply_to a client service [] to) (sym same))
+        let to = given c object (lowest_free c) answer in
+        alike b (record to.0 { phase = in_service service (replied bytes to.1); blocked = false })
+        (same_Some b (reply_to a client service bytes to) (sym same))
     by_phase _ same = absurd (none-some b same)
 
-served_alike : (a b : AbstractState) (server : Server) → IsBuiltRequest server → served a server ≡ Some b → (n : ℕ) →
-    is_client (b.slots n) ≡ is_client (a.slots n)
-served_alike a b leaving built step n =
-    ap (λ (o : Option AbstractState). is_client ((unwrap_or o a).slots n)) (sym step)
-served_alike a b idle built step n = absurd (none-some b step)
-served_alike a b (busy client (act sync_files None) None) built step n =
-    ap (λ (o : Option AbstractState). is_client ((unwrap_or o a).slots n)) (sym step)
-served_alike a b (busy client (act (remove_path path) None) None) built step n =
-    ap (λ (o : Option AbstractState). is_client ((unwrap_or o a).slots n)) (sym step)
-served_alike a b (acted client answer [] None) built step n = replied_alike a b client answer (born_in (a.slots client)) refl step n
-served_alike a b _ built step n = absurd built
+-- what it looks at and what it acts leaves the slots
+either_slots : (t : Bool) (a x y : AbstractState) → x.slots ≡ a.slots → y.slots ≡ a.slots → (if t then x else y).slots ≡ a.slots
+either_slots true a x y first second = first
+either_slots false a x y first second = second
 
-server_leaves : (a b : AbstractState) (id : ℕ) → a.slots 0 ≡ serving id → IsBuiltRequest a.server → abs_step a 0 ≡ Some b → any_live b ≡ any_live a
+looked_slots : (a : AbstractState) (client : ℕ) (request : Request) (place : ℕ) → (looked a client request place).slots ≡ a.slots
+looked_slots a client request place =
+    either_slots (not (is_held_by a (a.opened place).held_by)) a _ _ refl (either_slots (nat_lt (place + 1) MAXOPEN) a _ _ refl refl)
+
+offset_slots : (a : AbstractState) (name offset : ℕ) (o : Object) → (with_offset_of a name offset o).slots ≡ a.slots
+offset_slots a name offset (file f) = refl
+offset_slots a name offset terminal = refl
+offset_slots a name offset (read_end pipe) = refl
+offset_slots a name offset (write_end pipe) = refl
+
+moved_slots : (a : AbstractState) (object : Option ℕ) (answer : ℕ) → (moved_on a object answer).slots ≡ a.slots
+moved_slots a None answer = refl
+moved_slots a (Some name) answer =
+    either_slots (is_count answer) a _ a (offset_slots a name (offset_in (a.objects name) + answer) (a.objects name)) refl
+
+opened_slots : (a : AbstractState) (client answer : ℕ) (place : Option ℕ) (way : Option (List ℕ)) (mode : ℕ) →
+    (file_opened a client answer place way mode).slots ≡ a.slots
+opened_slots a client answer place None mode = refl
+opened_slots a client answer None (Some way) mode = refl
+opened_slots a client answer (Some place) (Some way) mode = refl
+
+act_slots : (a : AbstractState) (client : ℕ) (f : FileAct) (object place : Option ℕ) (did : Acted) →
+    (after_act a client f object place did).slots ≡ a.slots
+act_slots a client (open_path path mode) object place did =
+    either_slots (did.answer == 0) a _ _
+    (opened_slots (record a { files = did.files }) client 0 place (file_named did.files path) (low_mode mode)) refl
+act_slots a client (read_file way at count) object place did =
+    moved_slots (record a { files = did.files; server = acted client did.answer did.bytes None }) object did.answer
+act_slots a client (write_file way at bytes) object place did =
+    moved_slots (record a { files = did.files; server = acted client did.answer did.bytes None }) object did.answer
+act_slots a client (set_file_size way size) object place did =
+    moved_slots (record a { files = did.files; server = acted client did.answer did.bytes None }) object did.answer
+act_slots a client (stat_file way) object place did =
+    moved_slots (record a { files = did.files; server = acted client did.answer did.bytes None }) object did.answer
+act_slots a client (remove_path path) object place did =
+    moved_slots (record a { files = did.files; server = acted client did.answer did.bytes None }) object did.answer
+act_slots a client sync_files object place did =
+    moved_slots (record a { files = did.files; server = acted client did.answer did.bytes None }) object did.answer
+
+done_slots : (a : AbstractState) (client : ℕ) (request : Request) (place : Option ℕ) → (act_done a client request place).slots ≡ a.slots
+done_slots a client (act f object) place = act_slots a client f object place (file_act (is_file_open a) a.files f)
+done_slots a client (seek name offset) place =
+    offset_slots (record a { server = acted client 0 [] None }) name offset (a.objects name)
+
+served_alike : (a b : AbstractState) (server : Server) → served a server ≡ Some b → (n : ℕ) → is_client (b.slots n) ≡ is_client (a.slots n)
+served_alike a b leaving step n = ap (λ (o : Option AbstractState). is_client ((unwrap_or o a).slots n)) (sym step)
+served_alike a b idle step n = absurd (none-some b step)
+served_alike a b (looking client request place) step n =
+    ap (λ (o : Option AbstractState). is_client ((unwrap_or o a).slots n)) (sym step)
+    ∙ ap (λ (slots : ℕ → AbstractSlot). is_client (slots n)) (looked_slots a client request place)
+served_alike a b (busy client request place) step n =
+    ap (λ (o : Option AbstractState). is_client ((unwrap_or o a).slots n)) (sym step)
+    ∙ ap (λ (slots : ℕ → AbstractSlot). is_client (slots n)) (done_slots a client request place)
+served_alike a b (acted client answer bytes object) step n =
+    replied_alike a b client answer bytes object (born_in (a.slots client)) refl step n
+
+server_leaves : (a b : AbstractState) (id : ℕ) → a.slots 0 ≡ serving id → abs_step a 0 ≡ Some b → any_live b ≡ any_live a
 unfolding abs_step server_step
-server_leaves a b id first built step =
-    let alike = served_alike a b a.server built (sym (ap (λ (slot : AbstractSlot). slot_step a 0 slot) first) ∙ step) in
+server_leaves a b id first step =
+    let alike = served_alike a b a.server (sym (ap (λ (slot : AbstractSlot). slot_step a 0 slot) first) ∙ step) in
     λ i. some_below NENV (λ n. alike n i)
-
-built_over : (disk : Option Disk) (s : KernelState) (a : AbstractState) → ServesOver disk s a → IsBuiltRequest a.server
-built_over None s a h = absurd h
-built_over (Some d) s a h = h.built
 
 -- Where another environment is there, it is there still behind a step of the file server.
 pub server_others : (n : ℕ) (w after : World) (done : Progress) (bytes : List ℕ) → n ≡ 0 → (a : AbstractState) → StandsWhole w a →
@@ -209,7 +256,7 @@ server_others n w after done bytes is_first a h none_refused keeps live = by_don
     goes_on : WholeGoesOn n after a bytes → others_live after.state ≡ true
     goes_on x =
         sym (any_live_stands x.3.0.1 (only_first_serves x.3.0.1))
-        ∙ server_leaves a x.0 FIRST_ENV_ID h.0.1.first (built_over w.disk w.state a h.1) (ap (λ (m : ℕ). abs_step a m) (sym is_first) ∙ x.1)
+        ∙ server_leaves a x.0 FIRST_ENV_ID h.0.1.first (ap (λ (m : ℕ). abs_step a m) (sym is_first) ∙ x.1)
         ∙ stood
 
     by_done : (d : Progress) → WholeFollows d n after a bytes → others_live after.state ≡ true

@@ -14,15 +14,16 @@ use Rattle.lib_stage.specs.ServiceSteps.{ServiceHolds}
 use Rattle.lib_fd.proofs.CloseLaw.{close_holds}
 use Rattle.lib_fd.proofs.DupLaw.{dup_holds}
 use Rattle.lib_fd.proofs.ExitLaw.{exit_holds}
-use Rattle.lib_file.proofs.FileOnlyLaw.{seek_holds, set_size_holds}
 use Rattle.lib_fork.proofs.ForkLaw.{fork_holds}
 use Rattle.lib_mem.specs.declared.services.MemoryService.TheVariants as memory
 use Rattle.lib_mem.proofs.MemoryLaw.{memory_holds}
 use Rattle.lib_msg.proofs.ReceiveLaw.{receive_holds}
 use Rattle.lib_msg.proofs.SendLaw.{send_holds}
+use Rattle.lib_offset.proofs.OffsetLaw.{seek_holds, set_size_holds}
 use Rattle.lib_os.specs.StandsInHandler.{AreSmall}
 use Rattle.lib_read.proofs.ReadLaw.{read_holds}
 use Rattle.lib_read.proofs.StatLaw.{stat_holds}
+use Rattle.lib_request.proofs.OpenLaw.{open_holds}
 use Rattle.lib_request.proofs.RemoveLaw.{remove_holds}
 use Rattle.lib_request.proofs.SyncLaw.{sync_holds}
 use Rattle.lib_spawn.proofs.WaitLaw.{wait_holds}
@@ -43,12 +44,13 @@ module _ (s : KernelState) (n : ℕ) (live : is_live (slot_at s n) ≡ true)
   by_service (service.PageDrop va) built stands = memory_holds s n at live (memory.PageDrop va) stands
   by_service (service.Send id value va) built stands = send_holds s n id value va live small.ecx at stands
   by_service (service.Receive va from) built stands = receive_holds s n va from live awake at stands
+  by_service (service.OpenFile path mode) built stands = open_holds s n path mode live small awake at stands
   by_service (service.Close fd) built stands = close_holds s n fd live at stands
-  by_service (service.Read fd va len) built stands = read_holds s n fd va len live small at stands
-  by_service (service.Write fd va len) built stands = write_holds s n fd va len live small at stands
-  by_service (service.Seek fd offset) built stands = seek_holds s n fd live offset at stands
-  by_service (service.Stat fd va) built stands = stat_holds s n fd va live small at stands
-  by_service (service.SetSize fd size) built stands = set_size_holds s n fd live size at stands
+  by_service (service.Read fd va len) built stands = read_holds s n fd va len live small awake at stands
+  by_service (service.Write fd va len) built stands = write_holds s n fd va len live small awake at stands
+  by_service (service.Seek fd offset) built stands = seek_holds s n fd live small awake offset at stands
+  by_service (service.Stat fd va) built stands = stat_holds s n fd va live small awake at stands
+  by_service (service.SetSize fd size) built stands = set_size_holds s n fd live small awake size at stands
   by_service (service.Remove path) built stands = remove_holds s n path live small awake at stands
   by_service service.Sync built stands = sync_holds s n live awake at stands
   by_service (service.Dup old new) built stands = dup_holds s n old new live at stands

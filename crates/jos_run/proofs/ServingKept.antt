@@ -1,15 +1,12 @@
--- The file server serves on behind a step of another, where nothing was ever opened, and where its slot has another status alone.
-use Rattle.std.proofs.Common.{◌≡◌, ◌∙◌, ◌<◌, inl, inr, ℕ, true, List, Option, refl, sym, ap, subst, arith}
+-- The file server serves on where its slot has another status alone.
+use Rattle.std.proofs.Common.{◌≡◌, ◌∙◌, ℕ, List, Option, sym, ap, subst}
 use Rattle.std.specs.Prelude.{is_some}
 use Rattle.jos_base.specs.declared.registers.Regs.{Regs}
 use Rattle.jos_base.specs.KernelState.{KernelState, slot_at}
 use Rattle.jos_base.specs.Reach.{Entry}
-use Rattle.lib_os.specs.AbstractLaws.{LeavesFiles}
 use Rattle.lib_os.specs.AbstractState.{AbstractState, Server, acted, busy, idle, leaving, looking}
-use Rattle.lib_os.specs.Descriptors.{is_held}
 use Rattle.lib_os.specs.Disk.{Disk}
 use Rattle.lib_os.specs.InOrder.{IsInOrder}
-use Rattle.lib_os.specs.StandsFor.{AllConsoles}
 use Rattle.fs_places.specs.TreePlaces as places
 use Rattle.fs_tree.specs.TreeSteps.{memory_in}
 use Rattle.fs_requests.specs.declared.state.ServerState.{ServerState}
@@ -19,49 +16,13 @@ use Rattle.fs_serving.specs.ServerViews.{Serving}
 use Rattle.fs_server.specs.ServerSteps.{server_at}
 use Rattle.fs_seen.specs.BlockSteps.{SeesAlike}
 use Rattle.fs_seen.specs.ServerMemory.{entry_of, request_page, serving_in, view_in}
-use Rattle.fs_seen.specs.ServerWhole.{IsIdle, IsServing, LeavesPages, NothingOpened, ServesBy}
+use Rattle.fs_seen.specs.ServerWhole.{IsIdle, IsServing, ServesBy}
 use Rattle.fs_seen.proofs.Between.{files_over, same_state, sees_same, table_seen}
-use Rattle.fs_seen.proofs.OthersNow.{others_serve}
 use Rattle.fs_seen.proofs.SeenAlike.{sees_as}
 use Rattle.fs_seen.proofs.ServesFor.{requested_stays}
 use Rattle.fs_seen.proofs.StaysGone.{SlotStays, counts_still, stays_still, still_entry}
-use Rattle.fs_seen.proofs.StaysSo.{CountsStay, Stays, disk_same, same_table, stands_so}
+use Rattle.fs_seen.proofs.StaysSo.{CountsStay, Stays, disk_same, stands_so}
 use Rattle.fs_seen.proofs.TablesAlike.{table_again}
-use Rattle.fs_seen.proofs.StaysUnopened.{others_unopened}
-use Rattle.fs_seen.proofs.Unopened.{unopened_alike, unopened_stays, unopened_tables}
-
--- ---- names
-
--- Each object of which there is a descriptor was named.
-abbrev pub NamesAreGiven : AbstractState → Type 0
-NamesAreGiven a = (name : ℕ) → is_held a name ≡ true → name < a.next_name
-
-pub names_given : (d : Disk) (s : KernelState) (a : AbstractState) → IsServing d s 0 a → NamesAreGiven a
-names_given d s a h = by_server a.server h.serves
-  where
-    by_server : (x : Server) → ServesBy x d s 0 a → NamesAreGiven a
-    by_server idle was = was.table.old_held
-    by_server leaving was = was.table.old_held
-    by_server (looking client request place) was = was.table.old_held
-    by_server (busy client request place) was = was.table.old_held
-    by_server (acted client answer bytes object) was = was.table.old_held
-
--- and so it is behind a client's step
-pub names_kept : {a b : AbstractState} → LeavesFiles a b → NamesAreGiven a → NamesAreGiven b
-names_kept left old name held = elim (left.held name held) [
-  | inl was ↦ (let low = old name was in let more = left.names in omega (arith, low, more))
-  | inr new ↦ new.1
-]
-
--- ---- another's step
-
--- Where what it has left is left so, it serves on, for an abstract state that has the same of the server, the files and the table.
-pub serves_left : {d : Disk} {s t : KernelState} {a b : AbstractState} → IsServing d s 0 a → IsInOrder t → LeavesPages a.server s t 0 →
-    NothingOpened a (view_in d s 0) → AllConsoles a → AllConsoles b → b.server ≡ a.server → b.files ≡ a.files → b.opened ≡ a.opened →
-    NamesAreGiven b → IsServing d t 0 b
-serves_left {d = d} {s = s} {t = t} {a = a} {b = b} h in_order left unopened before behind server files opened names =
-    (others_serve a b d s t h in_order left (unopened_alike a b before behind server files opened)
-    (λ disk table. unopened_tables disk b (view_in d t 0) (others_unopened a b a.server d d s t 0 unopened left opened) behind names)).serving
 
 -- ---- its slot has another status
 
@@ -113,7 +74,3 @@ module _ (d : Disk) (s t : KernelState) (a : AbstractState) (h : IsServing d s 0
     serves = by_server a.server h.serves;
     requested = requested_stays s t 0 (ap (λ (o : Option Entry). is_some o) request_same) a.server h.requested;
   }
-
-  -- and nothing was ever opened
-  pub unopened_still : NothingOpened a (view_in d s 0) → NothingOpened a (view_in d t 0)
-  unopened_still none = unopened_stays a a d d s t 0 none (same_table s t 0 stays) refl

@@ -43,15 +43,12 @@ use Rattle.lib_spawn.proofs.StackPages.{fits}
 use Rattle.lib_os.specs.Rows.{AreBytes}
 use Rattle.fs_layout.specs.FileTree.{FileSystem}
 use Rattle.fs_blocks.specs.declared.place.CachePlace.{CachePlace}
-use Rattle.fs_tree.specs.TreeSteps.{job_in}
-use Rattle.fs_requests.specs.declared.state.ServerStep.{ServerStep}
 use Rattle.fs_requests.specs.declared.state.ServerStep.TheVariants as server_at
 use Rattle.fs_seen.specs.ServerMemory.{records_page}
 use Rattle.fs_seen.specs.ServerWhole.{IsFirst}
 use Rattle.fs_seen.proofs.FirstServes.{starts_serve}
 use Rattle.jos_run.specs.Begun.{IsNew, ProgramsBegin}
 use Rattle.jos_run.specs.Boot.{booted_within, console_bytes, handler_page}
-use Rattle.jos_run.specs.RemovalJobs.{HasJob}
 use Rattle.jos_run.specs.ServerStands.{BringsOwn, ServerStands, StandsWhole}
 use Rattle.jos_run.specs.Start.{HoldsFiles, first_descriptors, first_memory, no_place, program_with, start_state}
 use Rattle.jos_run.specs.Worlds.{beside}
@@ -65,7 +62,7 @@ use Rattle.jos_run.proofs.FirstState.{base, begun_new, has_begun, registers, spa
 use Rattle.jos_run.proofs.PagesBegin.{space_memory}
 use Rattle.jos_run.proofs.StackLoaded.{fits-some}
 use Rattle.jos_run.proofs.TwoSlots as two
-use Rattle.jos_run.proofs.Unopened.{HasRecordsAlone, records_unopened}
+use Rattle.jos_run.proofs.Unopened.{HasRecordsAlone}
 
 -- the name of the console, which stands in this frame
 abbrev pub the_names : ℕ → Names
@@ -460,7 +457,6 @@ module _ (image : Layout) (words : List (List ℕ)) (input : List ℕ) (frames f
         first = refl;
         beside = λ m p q x e is stands same. let a = found m p x is in absurd (server_apart q p e x stands a.1 (sym same));
         server = two.server_has first (second_at first) regs u no_server_row has_records.tables (λ number. no_place) files.blocks;
-        consoles = λ name. refl;
         input = (refl, input_bytes);
         last = refl;
         turns = refl;
@@ -495,14 +491,17 @@ module _ (image : Layout) (words : List (List ℕ)) (input : List ℕ) (frames f
         asked = record {
           asked = λ client is. absurd (none-some client is);
           given = two.given_apart born refl;
+          opens = record {
+            pages = λ name above. refl;
+            held = first_held image file words input files;
+            opened = λ name is. absurd (none-some name is);
+          };
         };
         brings = subst (λ (at : CachePlace). BringsOwn d at) (sym (two.cache_rests first (second_at first) regs)) tt;
-        job = subst (λ (at : ServerStep). HasJob at (job_in first_whole 0)) (sym (two.server_leaves first (second_at first) regs)) tt;
-        built = tt;
+        fits = λ client born_is call served is there. absurd (none-some client served);
         lent = λ receiving. absurd (
             let contradiction : server_at.Releasing ≡ server_at.Receiving = sym (two.server_leaves first (second_at first) regs) ∙ receiving in cc
             );
-        unopened = records_unopened d (start_state image file words input files) has_records (λ number. refl);
       }
 
 pub programs_begin : ProgramsBegin

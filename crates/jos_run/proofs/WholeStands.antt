@@ -1,8 +1,7 @@
 -- Whose step it is, and where the file server stands while others make their steps, and where turns begin and end.
-use Rattle.std.proofs.Common.{◌≡◌, ◌≢◌, ◌∙◌, inl, inr, ℕ, ◌+◌, ◌%◌, ◌^◌, ◌==◌, ◌<◌, Bool, true, false, List, Option, Some, None, length, if◌then◌else◌}
-use Rattle.std.proofs.Common.{refl, sym, ap, subst, arith}
-use Rattle.std.specs.Prelude.{IfSome, is_some, slice_index}
-use Rattle.std.specs.List.{before_first, position_or_len}
+use Rattle.std.proofs.Common.{◌≡◌, ◌≢◌, ◌∙◌, inl, inr, ℕ, ◌+◌, ◌%◌, ◌^◌, ◌==◌, ◌<◌, Bool, true, false, List, [], ◌∷◌, Option, Some, None, length}
+use Rattle.std.proofs.Common.{refl, sym, ap, subst, arith, if◌then◌else◌}
+use Rattle.std.specs.Prelude.{IfSome, is_some}
 use Rattle.std.specs.Option.{option_map}
 use Rattle.std.proofs.lemmas.Bool.Decides.{nat_tests}
 use Rattle.std.proofs.lemmas.Bool.{cases_eq, false≢true}
@@ -10,14 +9,14 @@ use Rattle.std.proofs.lemmas.Option.{none-some, same_Some}
 use Rattle.jos_base.specs.declared.environment.EnvType.{EnvType}
 use Rattle.jos_base.specs.declared.environment.Status.{Status}
 use Rattle.jos_base.specs.declared.environment.Status.TheVariants.{NotRunnable, Runnable, Running}
-use Rattle.jos_base.specs.declared.numbers.TheConstants.{FIRST_ENV_ID, NENV, PGSIZE, UTEMP}
+use Rattle.jos_base.specs.declared.numbers.TheConstants.{FIRST_ENV_ID, NENV, UTEMP}
 use Rattle.jos_base.specs.declared.registers.Regs.{Regs}
 use Rattle.jos_base.specs.Environments.{Slot, is_live, is_running}
 use Rattle.jos_base.specs.KernelState.{KernelState, slot_at, turn_begun, turn_ended, with_slot_at, with_status}
 use Rattle.jos_base.specs.Messages.{Rendezvous}
 use Rattle.jos_base.specs.Reach.{Entry}
 use Rattle.jos_base.specs.Words.{page_number}
-use Rattle.fs_layout.specs.FileTree.{open_path, remove_path, sync_files}
+use Rattle.fs_layout.specs.FileTree.{open_path, read_file, remove_path, set_file_size, stat_file, sync_files, write_file}
 use Rattle.fs_blocks.specs.CachePlaces.{state_in}
 use Rattle.fs_requests.specs.declared.state.ServerState.{ServerState}
 use Rattle.fs_requests.specs.declared.state.ServerStep.{ServerStep}
@@ -27,57 +26,65 @@ use Rattle.lib_os.specs.declared.place.Place.{Place}
 use Rattle.lib_os.specs.declared.place.Place.TheVariants as place
 use Rattle.lib_os.specs.declared.place.Step.TheVariants as step_at
 use Rattle.lib_os.specs.Places.{place_of}
-use Rattle.lib_os.specs.declared.numbers.TheConstants.{FSREQ_REMOVE, FSREQ_SYNC, REQUEST}
+use Rattle.lib_os.specs.declared.numbers.TheConstants.{FSREQ_OPEN, FSREQ_READ, FSREQ_REMOVE, FSREQ_SEEK, FSREQ_SET_SIZE, FSREQ_STAT, FSREQ_SYNC}
+use Rattle.lib_os.specs.declared.numbers.TheConstants.{FSREQ_WRITE, REQUEST}
 use Rattle.lib_os.specs.declared.progress.Progress.{Progress}
 use Rattle.lib_os.specs.declared.progress.Progress.TheVariants as progress
 use Rattle.lib_os.specs.declared.request.RequestKind.{RequestKind}
 use Rattle.lib_os.specs.declared.request.RequestKind.TheVariants as kind
 use Rattle.lib_os.specs.declared.service.Service.{Service}
 use Rattle.lib_os.specs.declared.service.Service.TheVariants as service
-use Rattle.lib_os.specs.AbstractLaws.{AsksOrLeaves, LeavesFiles, ServesWhoAsked, asks, client_served, leaves}
+use Rattle.lib_os.specs.AbstractLaws.{AsksOrLeaves, LeavesFiles, ServesWhoAsked, asks, asks_server, client_served, leaves}
 use Rattle.lib_os.specs.AbstractRun.{abs_step, program_step, slot_step}
 use Rattle.lib_os.specs.AbstractState.{AbstractSlot, AbstractState, Born, Request, Server, act, acted, asked, awaiting, born, busy, entered}
-use Rattle.lib_os.specs.AbstractState.{gathering, guest, idle, in_service, leaving, looking, seek, slot_id}
-use Rattle.lib_os.specs.Answers.{at_stage}
+use Rattle.lib_os.specs.AbstractState.{guest, idle, in_service, leaving, looking, seek, slot_id}
+use Rattle.lib_os.specs.AskedFor.{AsksBy, ServesAsAsked}
 use Rattle.lib_os.specs.Disk.{Disk}
 use Rattle.lib_os.specs.FileServer.{await_reply, request_begun, request_taken}
 use Rattle.lib_os.specs.LibraryCall.{library_step}
-use Rattle.lib_os.specs.LibrarySteps.{AbstractFollows, AsksServer, BringsRequest, GivesPage, GoesOn, KeepsPlaces, KeepsServer, KeepsStanding, KeepsWorking}
-use Rattle.lib_os.specs.LibrarySteps.{LeavesEach, LeavesOrAsks, LeavesServer, Stands, Stays, asked_it, left_alone, request_perm, with_message_in}
+use Rattle.lib_os.specs.LibraryPages.{View}
+use Rattle.lib_os.specs.LibrarySteps.{AbstractFollows, AsksServer, BringsRequest, BringsWithPage, GivesPage, GoesOn, KeepsPlaces, KeepsServer}
+use Rattle.lib_os.specs.LibrarySteps.{KeepsStanding, KeepsWorking, LeavesEach, LeavesOrAsks, LeavesServer, Stands, Stays, asked_it, asking_step}
+use Rattle.lib_os.specs.LibrarySteps.{left_alone, request_perm, with_message_in}
 use Rattle.lib_os.specs.MadeCalls.{is_server_page}
-use Rattle.lib_os.specs.FileServices.{is_nul}
 use Rattle.lib_os.specs.Requests as requests_of
-use Rattle.lib_os.specs.Rows.{Names, lasting, rows_of}
-use Rattle.lib_os.specs.StandsFor.{AwaitsRequest, HasWholePath, IsIn, IsServerStatus, IsStatusFor, StandsAt, StandsFor, StandsForBorn}
+use Rattle.lib_os.specs.Rows.{Names, is_descriptor, lasting, rows_of}
+use Rattle.lib_os.specs.StandsFor.{AwaitsRequest, IsIn, IsServerStatus, IsStatusFor, StandsAt, StandsFor, StandsForBorn, TellsRequest, borne_in}
 use Rattle.lib_os.specs.StandsFor.{StandsForServer, StandsForSlot, view_of}
 use Rattle.lib_os.specs.UserCalls.{is_file_server}
-use Rattle.lib_os.proofs.AskedPlaces.{IsRequesting, asks as asks_it, awaiting_step, expects, is_requests, requesting}
+use Rattle.lib_os.proofs.AnswersFit.{asked_fits, client_fits}
+use Rattle.lib_os.proofs.AskedPlaces.{IsRequesting, asked_step, asks as asks_it, awaiting_step, expects, expects_so, is_requests, requesting}
+use Rattle.lib_os.proofs.AskersStay.{asker_waits}
 use Rattle.lib_os.proofs.Effects.{Placed}
 use Rattle.lib_os.proofs.FilesLeft.{clients_leave_files}
-use Rattle.lib_os.proofs.PageAsked.{path_asking_step}
 use Rattle.lib_os.proofs.Placing.{inserted_given}
+use Rattle.lib_os.proofs.RequestPages.{IsBeside, brings_page, brings_unborne, told_asking, word_asked}
 use Rattle.lib_os.proofs.ServedStay.{HasClient, client_is, served_clients_stay}
 use Rattle.lib_os.proofs.SlotsStand.{born_at, born_live}
-use Rattle.fs_places.specs.TreePlaces.{state_in as tree_at}
-use Rattle.fs_tree.specs.TreeSteps.{job_in, memory_in, request_bytes}
-use Rattle.fs_serving.specs.ServerRuns.{AsksFor, removes, syncs}
-use Rattle.fs_seen.specs.ServerMemory.{HasRequested, entry_of, has_request, request_page, view_in}
-use Rattle.fs_seen.specs.ServerWhole.{IsAsked, IsAskedBy, IsServing, LeavesPages, NothingOpened, ServesOn}
+use Rattle.fs_tree.specs.TreeSteps.{memory_in, request_bytes}
+use Rattle.fs_serving.specs.ServerRuns.{AsksFor, TableStands, syncs}
+use Rattle.fs_seen.specs.ServerMemory.{HasRequested, entry_of, has_request, request_page, sends_page, view_in}
+use Rattle.fs_seen.specs.ServerOthers.{CountsTell, LeavesServed}
+use Rattle.fs_seen.specs.ServerWhole.{IsAsked, IsAskedBy, IsServing, LeavesPages, SameServed, ServesBy, ServesOn}
 use Rattle.fs_seen.proofs.AskedByPages.{asked_by_page, requested_where}
 use Rattle.fs_seen.proofs.AskedNow.{asked_by_word, asked_serves, word_request}
+use Rattle.fs_seen.proofs.Between.{same_state}
+use Rattle.fs_seen.proofs.ClientSteps.{clients_leave_served}
+use Rattle.fs_seen.proofs.CountsTold.{standing_counts_tell}
+use Rattle.fs_seen.proofs.OthersNow.{clients_serve, others_serve}
 use Rattle.fs_seen.proofs.StaysGone.{SlotStays}
-use Rattle.fs_seen.proofs.StaysUnopened.{asked_unopened, others_unopened, unopened_as}
-use Rattle.fs_seen.proofs.Unopened.{unopened_tables}
+use Rattle.fs_seen.proofs.StaysUnopened.{asked_table}
+use Rattle.fs_seen.proofs.TablesAlike.{SameObjects, TableSeen, table_again}
+use Rattle.fs_seen.proofs.TablesLeft.{files_are_apart, tables_are_left}
 use Rattle.jos_run.specs.AbstractTurns.{turn_begun as begun_at}
-use Rattle.jos_run.specs.RemovalJobs.{HasJob}
-use Rattle.jos_run.specs.ServerStands.{BringsOwn, HasLent, IsBuiltRequest, IsClient, IsLent, KeepsWhole, ServerStands, client_id}
+use Rattle.jos_run.specs.ServerStands.{BringsOwn, HasLent, IsClient, IsLent, IsLentBy, KeepsWhole, ServerStands, client_id}
 use Rattle.jos_run.specs.ServerStands.{WholeFollows, WholeGoesOn, WholeStays, serving_at, step_of}
 use Rattle.jos_run.specs.Steps.{is_awake, is_servers}
 use Rattle.jos_run.specs.Worlds.{beside}
 use Rattle.jos_run.proofs.RequestsCalm.{RequestsCalmly, asks_by_page}
+use Rattle.jos_run.proofs.RequestsMade.{Asks, asked_state, kind_asked, request_made, word_of_kind}
 use Rattle.jos_run.proofs.PagesLeft.{lent_left, others_lack, pages_left, requests}
-use Rattle.jos_run.proofs.PathTold.{told_path}
-use Rattle.jos_run.proofs.ServingKept.{NamesAreGiven, names_given, names_kept, serves_left, serves_still, unopened_still}
+use Rattle.jos_run.proofs.ServingKept.{serves_still}
 use Rattle.jos_base.proofs.Maps.{upd-all, upd-at}
 use Rattle.jos_base.proofs.Puts.{put-other}
 
@@ -142,21 +149,17 @@ module _ (k after : Slot) (same : SameServing k after) where
 
 -- Where its slot is the same but for its status, it stands for an abstract state that has the same of what it has.
 stands_kept : {d : Disk} {s t : KernelState} {a b : AbstractState} → SameServing (slot_at s 0) (slot_at t 0) → IsServing d t 0 b →
-    HasLent b.server t → NothingOpened b (view_in d t 0) → b.server ≡ a.server → SameClient a.server a b → ServesWhoAsked b → ServerStands d s a →
-    ServerStands d t b
-stands_kept {d = d} {s = s} {t = t} {a = a} {b = b} same serves lent unopened server ids who h = record {
+    HasLent b.server t → b.server ≡ a.server → SameClient a.server a b → ServesWhoAsked b → ServesAsAsked b → ServerStands d s a → ServerStands d t b
+stands_kept {d = d} {s = s} {t = t} {a = a} {b = b} same serves lent server ids who fits h = record {
   serving = serves;
   twelve = ap (λ (words : List ℕ). length words) same.words ∙ h.twelve;
   brings = subst (λ (words : List ℕ). BringsOwn d (state_in words).place) (sym same.words) h.brings;
-  job = subst (λ (regs : Regs). HasJob (server_in regs (slot_at t 0).extra).step (tree_at regs (slot_at t 0).extra)) (sym same.registers)
-      (subst (λ (words : List ℕ). HasJob (server_in (slot_at s 0).registers words).step (tree_at (slot_at s 0).registers words)) (sym same.words) h.job);
   client = λ client is.
       let was : client_served a.server ≡ Some client = ap (λ (x : Server). client_served x) (sym server) ∙ is in
       client_kept (same_id (slot_at s 0) (slot_at t 0) same) (ids client was) (h.client client was);
   asked = who;
-  built = subst (λ (x : Server). IsBuiltRequest x) (sym server) h.built;
+  fits = fits;
   lent = lent;
-  unopened = unopened;
 }
 
 -- ---- turns
@@ -176,20 +179,16 @@ set_home s n status runs m =
 
 -- where the slot is so, and the spaces are the same,
 turned_server : (d : Disk) (s t : KernelState) (a b : AbstractState) → SameServing (slot_at s 0) (slot_at t 0) → t.spaces ≡ s.spaces →
-    ((m : ℕ) → (slot_at t m).directory ≡ (slot_at s m).directory) →
-    Stands s a → Stands t b → b.server ≡ a.server → b.files ≡ a.files → b.opened ≡ a.opened → NamesAreGiven b → SameClient a.server a b →
-    ServesWhoAsked b → ServerStands d s a → ServerStands d t b
-turned_server d s t a b same spaces homes before behind server files opened names ids who h =
+    ((m : ℕ) → (slot_at t m).directory ≡ (slot_at s m).directory) → Stands t b → SameServed a b → SameObjects a b → SameClient a.server a b →
+    ServesWhoAsked b → ServesAsAsked b → ServerStands d s a → ServerStands d t b
+turned_server d s t a b same spaces homes behind served objects ids who fits h =
     stands_kept same
-    (serves_left (serves_still d s t a h.serving slot same.registers same.message behind.1.in_order) behind.1.in_order itself
-    unopened before.1.consoles behind.1.consoles server files opened names)
-    (subst (λ (x : Server). HasLent x t) (sym server) (lent_still a.server h.lent)) (unopened_as a b (view_in d t 0) unopened opened) server ids who h
+    (others_serve a b d t t (serves_still d s t a h.serving slot same.registers same.message behind.1.in_order) behind.1.in_order itself served
+    (λ disk. table_again disk a b (view_in d t 0) (view_in d t 0) objects seen)).serving
+    (subst (λ (x : Server). HasLent x t) (sym served.server) (lent_still a.server h.lent)) served.server ids who fits h
   where
     slot : SlotStays s t 0
     slot = record { lives = (first_serves behind.1).lives; env_type = same.env_type; directory = same.space; words = same.words; spaces = spaces }
-
-    unopened : NothingOpened a (view_in d t 0)
-    unopened = unopened_still d s t a h.serving slot same.registers same.message behind.1.in_order h.unopened
 
     itself : LeavesPages a.server t t 0
     itself = record {
@@ -201,30 +200,60 @@ turned_server d s t a b same spaces homes before behind server files opened name
       counts = λ number e below there. refl;
     }
 
+    seen : TableSeen (view_in d t 0) (view_in d t 0)
+    seen = record { homes = λ number. refl; pages = λ number. refl; holders = λ number there. refl }
+
     there_as : has_request t 0 ≡ has_request s 0
     there_as i = is_some ((spaces i).entries (homes 0 i) request_page)
 
-    lent_still : (x : Server) → HasLent x s → HasLent x t
-    lent_still leaving lent = λ receiving.
-        there_as ∙ lent (ap (λ (x : ServerState). x.step) (sym (serving (slot_at s 0) (slot_at t 0) same)) ∙ receiving)
-    lent_still idle none = there_as ∙ none
-    lent_still (busy client (act sync_files None) None) none = there_as ∙ none
-    lent_still (busy client (act (remove_path path) None) None) lent = record {
+    still_lent : (client : ℕ) → IsLent s client → IsLent t client
+    still_lent client lent = record {
       own = lent.own;
       kept = (λ i. rows_of (spaces i) (homes client i) (page_number UTEMP)) ∙ lent.kept;
       entry = lent.entry;
       stands = (λ i. rows_of (spaces i) (homes 0 i) (page_number REQUEST)) ∙ lent.stands;
       same = lent.same;
     }
-    lent_still _ lent = tt
+
+    page_still : (client : ℕ) (c : Bool) → IsLentBy c s client → IsLentBy c t client
+    page_still client true lent = still_lent client lent
+    page_still client false none = there_as ∙ none
+
+    lent_still : (x : Server) → HasLent x s → HasLent x t
+    lent_still leaving lent = λ receiving.
+        there_as ∙ lent (ap (λ (x : ServerState). x.step) (sym (serving (slot_at s 0) (slot_at t 0) same)) ∙ receiving)
+    lent_still idle none = there_as ∙ none
+    lent_still (looking client request number) lent = page_still client (sends_page request) lent
+    lent_still (busy client request number) lent = page_still client (sends_page request) lent
+    lent_still (acted client answer [] object) lent = tt
+    lent_still (acted client answer (byte ∷ rest) object) lent = still_lent client lent
 
 -- where a turn begins,
 pub begun_server : (d : Disk) (s : KernelState) (n : ℕ) (a : AbstractState) → Stands s a → Stands (turn_begun s n) (begun_at a n) → ServerStands d s a →
     ServerStands d (turn_begun s n) (begun_at a n)
 begun_server d s n a before behind h =
     turned_server d s (turn_begun s n) a (begun_at a n) (set_serving s n Running (((slot_at s n).runs + 1) % 2 ^ 32)) refl
-    (set_home s n Running (((slot_at s n).runs + 1) % 2 ^ 32)) before behind refl refl refl
-    (names_given d s a h.serving) (λ client is. refl) (record { asked = h.asked.asked; given = h.asked.given }) h
+    (set_home s n Running (((slot_at s n).runs + 1) % 2 ^ 32)) behind
+    (record {
+      server = refl;
+      files = refl;
+      opened = refl;
+      objects = refl;
+      held = λ name f is. refl;
+      holds = λ client name f is served has. has;
+      file_open = refl;
+    })
+    (record { opened = refl; objects = refl; held = λ name. refl; names = refl })
+    (λ client is. refl)
+    (record {
+      asked = h.asked.asked;
+      given = h.asked.given;
+      opens = record {
+        pages = h.asked.opens.pages;
+        held = h.asked.opens.held;
+        opened = λ name is. let was = h.asked.opens.opened name is in record { old = was.old; page = was.page; held = was.held };
+      };
+    }) h.fits h
 
 -- and where one ends
 pub ended_server : (d : Disk) (s : KernelState) (n : ℕ) (a : AbstractState) → Stands s a → Stands (turn_ended s n) a → ServerStands d s a →
@@ -234,15 +263,24 @@ ended_server d s n a before behind h = by_test (is_running (slot_at s n).status)
     by_test : (c : Bool) → Stands (if c then with_status s n Runnable else s) a → ServerStands d (if c then with_status s n Runnable else s) a
     by_test true behind =
         turned_server d s (with_status s n Runnable) a a (set_serving s n Runnable (slot_at s n).runs) refl (set_home s n Runnable (slot_at s n).runs)
-        before behind refl refl refl (names_given d s a h.serving) (λ client is. refl) h.asked h
+        behind
+        (record {
+          server = refl;
+          files = refl;
+          opened = refl;
+          objects = refl;
+          held = λ name f is. refl;
+          holds = λ client name f is served has. has;
+          file_open = refl;
+        })
+        (same_state a) (λ client is. refl) h.asked h.fits h
     by_test false behind = h
 
 -- ---- the steps of others
 
 -- the server is asked for sync
-sync_asked : (a c : AbstractState) (n : ℕ) (b : Born) (regs : Regs) → a.server ≡ idle → a.slots n ≡ born b → b.blocked ≡ false → b.program ≡ guest regs →
-    b.phase ≡ in_service service.Sync entered → abs_step a n ≡ Some c →
-    (c.server ≡ busy n (act sync_files None) None) × (slot_id (c.slots n) ≡ b.id)
+sync_asked : (a c : AbstractState) (n : ℕ) (b : Born) (regs : Regs) → a.server ≡ idle → a.slots n ≡ born b → b.blocked ≡ false →
+    b.program ≡ guest regs → b.phase ≡ in_service service.Sync entered → abs_step a n ≡ Some c → c ≡ asked_state a n b service.Sync (act sync_files None)
 unfolding abs_step library_step
 sync_asked a c n b regs server at awake program phase step =
     let asks : Option AbstractState = request_taken a n b service.Sync (act sync_files None) idle in
@@ -250,41 +288,25 @@ sync_asked a c n b regs server at awake program phase step =
     ap (λ (slot : AbstractSlot). slot_step a n slot) at
     ∙ (λ i. if awake i then None else program_step a n b (program i) (phase i))
     ∙ ap (λ (x : Server). request_taken a n b service.Sync (act sync_files None) x) server in
-    let same : c ≡ at_stage (record a { server = request_begun n (act sync_files None) }) n b service.Sync asked =
-    sym (same_Some (at_stage (record a { server = request_begun n (act sync_files None) }) n b service.Sync asked) c (sym is ∙ step)) in (
-      ap (λ (x : AbstractState). x.server) same,
-      ap (λ (x : AbstractState). slot_id (x.slots n)) same
-          ∙ ap (λ (slot : AbstractSlot). slot_id slot) (upd-at a.slots n (born (record b { phase = in_service service.Sync asked }))),
-    )
-
--- or that a file is removed
-path_asked : (a c : AbstractState) (n : ℕ) (b : Born) (k : Slot) (path : ℕ) (bytes : List ℕ) → a.server ≡ idle → a.slots n ≡ born b →
-    IsIn k b (service.Remove path) (gathering bytes) → position_or_len is_nul bytes < length bytes → abs_step a n ≡ Some c →
-    (c.server ≡ busy n (act (remove_path (before_first is_nul bytes)) None) None) × (slot_id (c.slots n) ≡ b.id)
-path_asked a c n b k path bytes server at is_in ended step =
-    let begun : AbstractState = record a { server = busy n (act (remove_path (before_first is_nul bytes)) None) None } in
-    let end : AbstractState = at_stage begun n b (service.Remove path) asked in
-    let same : c ≡ end = sym (same_Some end c (sym (path_asking_step a n b k path bytes at is_in ended server) ∙ step)) in (
-      ap (λ (x : AbstractState). x.server) same,
-      ap (λ (x : AbstractState). slot_id (x.slots n)) same
-          ∙ ap (λ (slot : AbstractSlot). slot_id slot) (upd-at a.slots n (born (record b { phase = in_service (service.Remove path) asked }))),
-    )
+    sym (same_Some (asked_state a n b service.Sync (act sync_files None)) c (sym is ∙ step))
 
 -- one that has asked goes on to wait for the reply, and then has no step
-awaits_step : (s : Service) → is_requests s ≡ true → (a : AbstractState) (n : ℕ) (b : Born) (regs : Regs) → a.slots n ≡ born b → b.blocked ≡ false →
-    b.program ≡ guest regs → b.phase ≡ in_service s asked → abs_step a n ≡ Some (await_reply a n b s)
-unfolding abs_step library_step
-awaits_step service.Sync is a n b regs at awake program phase =
-    ap (λ (slot : AbstractSlot). slot_step a n slot) at ∙ (λ i. if awake i then None else program_step a n b (program i) (phase i))
-awaits_step (service.Remove path) is a n b regs at awake program phase =
-    ap (λ (slot : AbstractSlot). slot_step a n slot) at ∙ (λ i. if awake i then None else program_step a n b (program i) (phase i))
-awaits_step _ is a n b regs at awake program phase = absurd (false≢true is)
+asks_so : (s : Service) → is_requests s ≡ true → asks_server s ≡ true
+asks_so service.Sync is = refl
+asks_so (service.OpenFile path mode) is = refl
+asks_so (service.Remove path) is = refl
+asks_so (service.Seek fd offset) is = refl
+asks_so (service.SetSize fd size) is = refl
+asks_so (service.Write fd va len) is = refl
+asks_so (service.Read fd va len) is = refl
+asks_so (service.Stat fd va) is = refl
+asks_so _ is = absurd (false≢true is)
 
 awaits_own : (s : Service) → is_requests s ≡ true → (a c : AbstractState) (n : ℕ) (b : Born) (regs : Regs) → a.slots n ≡ born b → b.blocked ≡ false →
     b.program ≡ guest regs → b.phase ≡ in_service s asked → abs_step a n ≡ Some c → slot_id (c.slots n) ≡ b.id
 awaits_own s of a c n b regs at awake program phase step =
     ap (λ (x : AbstractState). slot_id (x.slots n))
-    (sym (same_Some (await_reply a n b s) c (sym (awaits_step s of a n b regs at awake program phase) ∙ step)))
+    (sym (same_Some (await_reply a n b s) c (sym (asker_waits a n b regs s at program phase awake (asks_so s of)) ∙ step)))
     ∙ ap (λ (slot : AbstractSlot). slot_id slot) (upd-at a.slots n (born (record b { phase = in_service s awaiting; blocked = true })))
 
 no_step : (a : AbstractState) (n : ℕ) (b : Born) → a.slots n ≡ born b → b.blocked ≡ true → abs_step a n ≡ None
@@ -293,20 +315,77 @@ no_step a n b at blocked =
     ap (λ (slot : AbstractSlot). slot_step a n slot) at ∙ ap (λ (t : Bool). if t then None else program_step a n b b.program b.phase) blocked
 
 -- its id stands in its place
-abbrev request_id : Place → ℕ
+abbrev pub request_id : Place → ℕ
 request_id (place.InService s (step_at.Awaiting id)) = id
 request_id (place.InService s (step_at.ReadingReply id)) = id
 request_id (place.InService s (step_at.Clearing id)) = id
+request_id (place.InService s (step_at.CountingReply id)) = id
+request_id (place.InService s (step_at.OpenAwaiting id fd)) = id
+request_id (place.InService s (step_at.OpenClearing id fd)) = id
 request_id _ = 0
 
-waiting_id : (s : Service) → is_requests s ≡ true → (id : ℕ) → request_id (place.InService s (awaiting_step s id)) ≡ id
-waiting_id service.Sync is id = refl
-waiting_id (service.Remove path) is id = refl
-waiting_id _ is id = absurd (false≢true is)
+asked_id : (s : Service) → is_requests s ≡ true → (id fd : ℕ) → request_id (place.InService s (asked_step s id fd)) ≡ id
+asked_id service.Sync is id fd = refl
+asked_id (service.OpenFile path mode) is id fd = refl
+asked_id (service.Remove path) is id fd = refl
+asked_id (service.Seek given offset) is id fd = refl
+asked_id (service.SetSize given size) is id fd = refl
+asked_id (service.Write given va len) is id fd = refl
+asked_id (service.Read given va len) is id fd = refl
+asked_id (service.Stat given va) is id fd = refl
+asked_id _ is id fd = absurd (false≢true is)
 
-id_told : {p : Place} {k : Slot} {b : Born} → IsRequesting p k b → request_id p ≡ k.id
-id_told (asks_it s is id at self so) = ap request_id at ∙ self
-id_told (expects s is id at self so) = ap request_id at ∙ waiting_id s is id ∙ self
+waiting_id : (s : Service) → is_requests s ≡ true → (id fd : ℕ) → request_id (place.InService s (awaiting_step s id fd)) ≡ id
+waiting_id service.Sync is id fd = refl
+waiting_id (service.OpenFile path mode) is id fd = refl
+waiting_id (service.Remove path) is id fd = refl
+waiting_id (service.Seek given offset) is id fd = refl
+waiting_id (service.SetSize given size) is id fd = refl
+waiting_id (service.Write given va len) is id fd = refl
+waiting_id (service.Read given va len) is id fd = refl
+waiting_id (service.Stat given va) is id fd = refl
+waiting_id _ is id fd = absurd (false≢true is)
+
+id_told : {p : Place} {v : View} {k : Slot} {b : Born} → IsRequesting p v k b → request_id p ≡ k.id
+id_told (asks_it s is id fd at self so) = ap request_id at ∙ asked_id s is id fd ∙ self
+id_told (expects s is id fd at self so) = ap request_id at ∙ waiting_id s is id fd ∙ self
+
+-- it has its own space where it asks by a page
+page_asks : (s : Service) → brings_page s ≡ true → (id fd : ℕ) → asks_by_page (place.InService s (asking_step s id fd)) ≡ true
+page_asks (service.OpenFile path mode) is id fd = refl
+page_asks (service.Remove path) is id fd = refl
+page_asks (service.Seek given offset) is id fd = refl
+page_asks (service.SetSize given size) is id fd = refl
+page_asks (service.Write given va len) is id fd = refl
+page_asks (service.Read given va len) is id fd = refl
+page_asks (service.Stat given va) is id fd = refl
+page_asks _ is id fd = absurd (false≢true is)
+
+-- the page of a request that has come is lent
+lent_begun : (s : KernelState) (n : ℕ) (request : Request) → IsLentBy (sends_page request) s n → HasLent (request_begun n request) s
+lent_begun s n (act (open_path path mode) object) lent = lent
+lent_begun s n (act (remove_path path) object) lent = lent
+lent_begun s n (act (read_file way at count) object) lent = lent
+lent_begun s n (act (write_file way at bytes) object) lent = lent
+lent_begun s n (act (set_file_size way size) object) lent = lent
+lent_begun s n (act (stat_file way) object) lent = lent
+lent_begun s n (act sync_files object) lent = lent
+lent_begun s n (seek name offset) lent = lent
+
+-- what has been left is as it was
+leaves_itself : (a : AbstractState) → LeavesServed a a
+leaves_itself a = record {
+  server = refl;
+  leaves = record {
+    files = refl;
+    opened = refl;
+    names = omega arith;
+    objects = λ name below. refl;
+    held = λ name is. inl is;
+    pages = λ name old none. none;
+  };
+  holds = λ client name f is served has. has;
+}
 
 -- A step of another leaves the file server where it stands, or asks it while it waits.
 module _ (d : Disk) (n : ℕ) (s after : KernelState) (other : n ≢ 0) (live : is_live (slot_at s n) ≡ true)
@@ -342,25 +421,34 @@ module _ (d : Disk) (n : ℕ) (s after : KernelState) (other : n ≢ 0) (live : 
 
       by_service : (x : Service) → BringsRequest x n s after → ⊥
       by_service service.Sync brings = runs (slot_at s n).id FSREQ_SYNC 0 brings.0
+      by_service (service.OpenFile path mode) brings = runs (slot_at s n).id FSREQ_OPEN request_perm brings.0
       by_service (service.Remove path) brings = runs (slot_at s n).id FSREQ_REMOVE request_perm brings.0
+      by_service (service.Seek fd offset) brings = runs (slot_at s n).id FSREQ_SEEK request_perm brings.0
+      by_service (service.SetSize fd size) brings = runs (slot_at s n).id FSREQ_SET_SIZE request_perm brings.0
+      by_service (service.Write fd va len) brings = runs (slot_at s n).id FSREQ_WRITE request_perm brings.0
+      by_service (service.Read fd va len) brings = runs (slot_at s n).id FSREQ_READ request_perm brings.0
+      by_service (service.Stat fd va) brings = runs (slot_at s n).id FSREQ_STAT request_perm brings.0
       by_service _ brings = brings
 
   -- ---- it is left alone
 
-  left_whole : LeavesServer n s after → (c : AbstractState) → Stands after c → c.server ≡ a.server → c.files ≡ a.files → c.opened ≡ a.opened →
-      NamesAreGiven c → SameClient a.server a c → ServesWhoAsked c → ServerStands d after c
-  left_whole it c stands same files opened names ids who =
+  -- how often the pages of its table's places are mapped tells who holds their files
+  counts_tell : (c : AbstractState) → Stands after c → LeavesFiles a c → CountsTell after 0 c
+  counts_tell c stands files = standing_counts_tell stands.0 after c stands.1 (files_are_apart a c d s k.serving files)
+
+  left_whole : LeavesServer n s after → (c : AbstractState) → Stands after c → LeavesServed a c → SameClient a.server a c → ServesWhoAsked c →
+      ServesAsAsked c → ServerStands d after c
+  left_whole it c stands served ids who fits =
       let left = pages_left d n s after other live awake it working calm a h k in
       stands_kept (same_serving it.slot)
-      (serves_left k.serving stands.1.in_order left k.unopened h.1.consoles stands.1.consoles same files opened names)
-      (lent_left d n s after other live awake it working calm a h k c stands same who)
-      (others_unopened a c a.server d d s after 0 k.unopened left opened) same ids who k
+      (clients_serve a c d s after k.serving stands.1.in_order left served (counts_tell c stands served.leaves)).serving
+      (lent_left d n s after other live awake it working calm a h k c stands served.server who) served.server ids who fits k
 
   pub whole_stays : (written : List ℕ) → Stays after a written → WholeStays (beside after (Some d)) a written
   whole_stays written stays = (stays.0, (stays.1, by_way (way a stays.1)))
     where
       by_way : LeavesOrAsks n s after → ServerStands d after a
-      by_way (left_alone it) = left_whole it a stays.1 refl refl refl (names_given d s a k.serving) (λ client is. refl) k.asked
+      by_way (left_alone it) = left_whole it a stays.1 (leaves_itself a) (λ client is. refl) k.asked k.fits
       by_way (asked_it it) =
           let status = subst (λ (x : Server). IsServerStatus x (slot_at after 0)) (waits_idle it.waited) stays.1.1.server.status in
           absurd (asked_wakes it status.status)
@@ -409,12 +497,13 @@ module _ (d : Disk) (n : ℕ) (s after : KernelState) (other : n ≢ 0) (live : 
       then_own : StandsForBorn stands.0 after.spaces (slot_at after client) then_it.b
       then_own = born_at stands.1 client then_it.b then_it.is
 
-      stood : IsRequesting (place_of (slot_at s client)) (slot_at s client) it.b
+      stood : IsRequesting (place_of (slot_at s client)) (view_of s.spaces (slot_at s client).directory) (slot_at s client) it.b
       stood =
           requesting (place_of (slot_at s client)) (view_of s.spaces (slot_at s client).directory) (slot_at s client) it.b own.at
           (requests it.b.phase it.has_asked)
 
-      stands_so : IsRequesting (place_of (slot_at after client)) (slot_at after client) then_it.b
+      stands_so : IsRequesting (place_of (slot_at after client)) (view_of after.spaces (slot_at after client).directory) (slot_at after client)
+          then_it.b
       stands_so =
           requesting (place_of (slot_at after client)) (view_of after.spaces (slot_at after client).directory) (slot_at after client) then_it.b then_own.at
           (requests then_it.b.phase then_it.has_asked)
@@ -422,13 +511,15 @@ module _ (d : Disk) (n : ℕ) (s after : KernelState) (other : n ≢ 0) (live : 
       by_id : then_it.b.id ≡ it.b.id → slot_id (c.slots client) ≡ slot_id (a.slots client)
       by_id same = ap (λ (slot : AbstractSlot). slot_id slot) then_it.is ∙ same ∙ sym (ap (λ (slot : AbstractSlot). slot_id slot) it.is)
 
-      itself : IsRequesting (place_of (slot_at s client)) (slot_at s client) it.b → client ≡ n → slot_id (c.slots client) ≡ slot_id (a.slots client)
-      itself (asks_it of is id place_is self so) same =
+      itself : IsRequesting (place_of (slot_at s client)) (view_of s.spaces (slot_at s client).directory) (slot_at s client) it.b → client ≡ n →
+          slot_id (c.slots client) ≡ slot_id (a.slots client)
+      itself (asks_it of is id fd place_is self so) same =
           ap (λ (m : ℕ). slot_id (c.slots m)) same
           ∙ awaits_own of is a c n it.b (slot_at s client).registers (ap (λ (m : ℕ). a.slots m) (sym same) ∙ it.is) so.awake so.program so.phase step
           ∙ sym (ap (λ (slot : AbstractSlot). slot_id slot) it.is)
-      itself (expects of is id place_is self so) same =
-          absurd (none-some c (sym (no_step a n it.b (ap (λ (m : ℕ). a.slots m) (sym same) ∙ it.is) so.blocked) ∙ step))
+      itself (expects of is id fd place_is self so) same =
+          let blocked = (expects_so (view_of s.spaces (slot_at s client).directory) (slot_at s client) it.b of fd so).blocked in
+          absurd (none-some c (sym (no_step a n it.b (ap (λ (m : ℕ). a.slots m) (sym same) ∙ it.is) blocked) ∙ step))
 
       by_slot : (t : Bool) → (client == n) ≡ t → slot_id (c.slots client) ≡ slot_id (a.slots client)
       by_slot true test = itself stood (grind (arith, nat_tests))
@@ -443,49 +534,57 @@ module _ (d : Disk) (n : ℕ) (s after : KernelState) (other : n ≢ 0) (live : 
     own : StandsForBorn h.0 s.spaces (slot_at s n) b
     own = born_at h.1 n b at
 
+    idle_so : a.server ≡ idle
+    idle_so = waits_idle it.waited
+
     left : LeavesFiles a c
     left = (left_of c step).0
 
     nobody : has_request s 0 ≡ false
-    nobody = subst (λ (x : Server). HasLent x s) (waits_idle it.waited) k.lent
+    nobody = subst (λ (x : Server). HasLent x s) idle_so k.lent
 
-    -- by what it is asked for, the message that has come, and the page that has come with it
-    asked_for : (request : Request) (of : RequestKind) → c.server ≡ request_begun n request → client_served (request_begun n request) ≡ Some n →
-        IsBuiltRequest (request_begun n request) → IsAsked s after 0 →
-        HasRequested (request_begun n request) after 0 → AsksFor c (request_bytes after 0) of request → HasLent (request_begun n request) after →
+    -- its table stands, over the disk
+    table : TableStands (memory_in d s 0).disk a (view_in d s 0)
+    table = (subst (λ (x : Server). ServesBy x d s 0 a) idle_so k.serving.serves).table
+
+    -- By what it is asked for, the message that has come, and the page that has come with it, it stands.
+    asked_for : (call : Service) (request : Request) (of : RequestKind) → c ≡ asked_state a n b call request → AsksBy call request →
+        client_served (request_begun n request) ≡ Some n → IsAsked s after 0 → HasRequested (request_begun n request) after 0 →
+        AsksFor (asked_state a n b call request) (request_bytes after 0) of request → HasLent (request_begun n request) after →
         (value perm : ℕ) → slot_at after 0 ≡ with_message_in (slot_at s 0) (slot_at s n).id value perm → value ≡ requests_of.request_word of →
-        slot_id (c.slots n) ≡ b.id → ServerStands d after c
-    asked_for request of server serves built asked_so requested tells lent value perm slot value_is id = record {
+        ServerStands d after c
+    asked_for call request of same by serves asked_so requested tells lent value perm slot value_is = record {
       serving = served.serving;
       twelve = ap (λ (x : Slot). length x.extra) slot ∙ k.twelve;
       brings = subst (λ (words : List ℕ). BringsOwn d (state_in words).place) (sym (ap (λ (x : Slot). x.extra) slot)) k.brings;
-      job = subst (λ (x : ServerStep). HasJob x (job_in after 0)) (sym served.at_step) tt;
       client = λ m of.
-          let same : n ≡ m = same_Some n m (sym (ap (λ (x : Server). client_served x) server ∙ serves) ∙ of) in
+          let same : n ≡ m = same_Some n m (sym (ap (λ (x : Server). client_served x) server_is ∙ serves) ∙ of) in
           subst (λ (x : ℕ). IsClient c x (client_id (step_of (slot_at after 0)) (slot_at after 0))) same client;
       asked = served_clients_stay a c n below k.asked step;
-      built = subst (λ (x : Server). IsBuiltRequest x) (sym server) built;
-      lent = subst (λ (x : Server). HasLent x after) (sym server) lent;
-      unopened = unopened;
+      fits = asked_fits c n (record b { phase = in_service call asked }) call request server_is own_slot refl by;
+      lent = subst (λ (x : Server). HasLent x after) (sym server_is) lent;
     }
       where
-        unopened : NothingOpened c (view_in d after 0)
-        unopened = asked_unopened a c d d s after 0 k.unopened asked_so left.opened
+        server_is : c.server ≡ request_begun n request
+        server_is = ap (λ (x : AbstractState). x.server) same
+
+        own_slot : c.slots n ≡ born (record b { phase = in_service call asked })
+        own_slot = ap (λ (x : AbstractState). x.slots n) same ∙ upd-at a.slots n (born (record b { phase = in_service call asked }))
 
         sender_is : (slot_at after 0).rendezvous.sender ≡ (slot_at s n).id
         sender_is = ap (λ (x : Slot). x.rendezvous.sender) slot
 
         served : ServesOn d s after c server_at.ReadingKind
         served =
-            asked_serves a c d s after n request of (waits_idle it.waited) k.serving stands.1.in_order asked_so left.files server requested tells
+            asked_serves a c d s after n request of idle_so k.serving stands.1.in_order asked_so left.files server_is requested
+            (subst (λ (x : AbstractState). AsksFor x (request_bytes after 0) of request) (sym same) tells)
             (ap (λ (x : Slot). x.rendezvous.value) slot ∙ value_is) (ap (λ (x : ℕ). x % NENV) sender_is ∙ h.1.tabled.ids n live)
-            (unopened_tables (memory_in d s 0).disk c (view_in d after 0) unopened stands.1.consoles
-            (names_kept left (names_given d s a k.serving)))
+            (tables_are_left (memory_in d s 0).disk a c d d s after 0 table (asked_table s after 0 asked_so) left (counts_tell c stands left))
 
         client : IsClient c n (client_id (step_of (slot_at after 0)) (slot_at after 0))
         client = subst (λ (x : ServerStep). IsClient c n (client_id x (slot_at after 0))) (sym served.at_step) (record {
           slot = sym (h.1.tabled.ids n live) ∙ ap (λ (x : ℕ). x % NENV) (sym sender_is);
-          same = id ∙ sym own.id ∙ sym sender_is;
+          same = ap (λ (x : AbstractSlot). slot_id x) own_slot ∙ sym own.id ∙ sym sender_is;
         })
 
     -- for sync
@@ -494,57 +593,51 @@ module _ (d : Disk) (n : ℕ) (s after : KernelState) (other : n ≢ 0) (live : 
     asked_sync place_is brings =
         let asking : IsIn (slot_at s n) b service.Sync entered =
         (subst (λ (p : Place). StandsAt p (view_of s.spaces (slot_at s n).directory) (slot_at s n) b) place_is own.at).1 in
-        let is = sync_asked a c n b (slot_at s n).registers (waits_idle it.waited) at asking.awake asking.program asking.phase step in
-        asked_for (act sync_files None) kind.Sync is.0 refl tt
+        asked_for service.Sync (act sync_files None) kind.Sync
+        (sync_asked a c n b (slot_at s n).registers idle_so at asking.awake asking.program asking.phase step) tt refl
         (asked_by_word d s after 0 (slot_at s n).id FSREQ_SYNC k.serving.stands brings.0 brings.1) (λ sends. absurd (false≢true sends)) syncs
-        (word_request s after 0 (slot_at s n).id FSREQ_SYNC brings.0 brings.1 ∙ nobody) FSREQ_SYNC 0 brings.0 refl is.1
+        (word_request s after 0 (slot_at s n).id FSREQ_SYNC brings.0 brings.1 ∙ nobody) FSREQ_SYNC 0 brings.0 refl
 
-    -- and that a file is removed
-    asked_remove : (path : ℕ) → place_of (slot_at s n) ≡ place.InService (service.Remove path) (step_at.Asking it.id) →
-        BringsRequest (service.Remove path) n s after → ServerStands d after c
+    -- and by a page
+    asked_page : (call : Service) → brings_page call ≡ true → place_of (slot_at s n) ≡ place.InService call (asking_step call it.id it.fd) →
+        BringsWithPage (word_asked call) n s after → ServerStands d after c
     unfolding rows_of
-    asked_remove path place_is brings =
-        asked_for (act (remove_path (before_first is_nul whole.bytes)) None) kind.Remove is.0 refl tt come.asked
-        (requested_where after 0 (ap (λ (o : Option Entry). is_some o) come.entry)
-        (request_begun n (act (remove_path (before_first is_nul whole.bytes)) None)))
-        (removes (before_first is_nul whole.bytes) (told_path (request_bytes after 0) whole.bytes whole.few whole.ended tells)) lent
-        FSREQ_REMOVE request_perm brings.0 refl is.1
+    asked_page call is place_is brings =
+        asked_for call made.request (kind_asked call) (sym (same_Some (asked_state a n b call made.request) c (sym made.asks ∙ step)))
+        made.by made.served come.asked
+        (requested_where after 0 (ap (λ (o : Option Entry). is_some o) come.entry) (request_begun n made.request)) made.tells
+        (lent_begun after n made.request (subst (λ (t : Bool). IsLentBy t after n) (sym made.sends) lent)) (word_asked call) request_perm brings.0
+        (word_of_kind call is)
       where
         gives : GivesPage n s after
         gives = brings.1
 
-        there : (it.id ≡ (slot_at s n).id) × HasWholePath (view_of s.spaces (slot_at s n).directory) (slot_at s n) b path
-        there = subst (λ (p : Place). StandsAt p (view_of s.spaces (slot_at s n).directory) (slot_at s n) b) place_is own.at
-
-        whole : HasWholePath (view_of s.spaces (slot_at s n).directory) (slot_at s n) b path
-        whole = there.1
-
-        is : (c.server ≡ busy n (act (remove_path (before_first is_nul whole.bytes)) None) None) × (slot_id (c.slots n) ≡ b.id)
-        is = path_asked a c n b (slot_at s n) path whole.bytes (waits_idle it.waited) at whole.is_in whole.ended step
+        there : (it.id ≡ (slot_at s n).id) × IsBeside (rows_of s.spaces (slot_at s n).directory) call it.fd
+            × TellsRequest (view_of s.spaces (slot_at s n).directory) (slot_at s n) b call
+        there =
+            told_asking (view_of s.spaces (slot_at s n).directory) (slot_at s n) b call is it.id it.fd
+            (subst (λ (p : Place). StandsAt p (view_of s.spaces (slot_at s n).directory) (slot_at s n) b) place_is own.at)
 
         come : IsAskedBy s after 0 gives.entry.frame
         come =
-            asked_by_page d s after 0 (slot_at s n).id FSREQ_REMOVE request_perm (slot_at s n).directory (page_number UTEMP) gives.entry
+            asked_by_page d s after 0 (slot_at s n).id (word_asked call) request_perm (slot_at s n).directory (page_number UTEMP) gives.entry
             k.serving.stands stands.1.in_order brings.0 gives.stands gives.spaces lone
           where
             lone : (q : ℕ) (y : Entry) → is_server_page q ≡ true → entry_of s 0 q ≡ Some y → y.frame ≡ gives.entry.frame → q ≡ request_page
             lone q y servers y_is same = elim (cases_eq q request_page) [
               | inl here ↦ here
-              | inr ne ↦ absurd (others_lack h.1 d k.unopened n other live q ne y y_is (page_number UTEMP) gives.entry gives.stands (sym same))
+              | inr ne ↦
+                  let beside : is_descriptor (page_number UTEMP) ≡ false = refl in
+                  absurd (others_lack h.1 n other live q ne y y_is (page_number UTEMP) gives.entry beside gives.stands (sym same))
             ]
 
-        kept : whole.kept.entry ≡ lasting gives.entry
-        kept = same_Some whole.kept.entry (lasting gives.entry) (sym whole.kept.stands ∙ ap (option_map lasting) gives.stands)
-
-        tells : (i : ℕ) → i < position_or_len is_nul whole.bytes + 1 → request_bytes after 0 i ≡ slice_index whole.bytes i
-        tells i below =
-            let few = whole.few in
-            let ended = whole.ended in
-            let within : i < PGSIZE = omega (arith, below, few, ended) in
-            come.bytes i within ∙ ap (λ (x : Entry). slice_index (s.spaces.pages x.frame) i) (sym kept) ∙ whole.kept.same i below
+        made : Asks a n b call (request_bytes after 0)
+        made =
+            request_made h.1 n below b at (ap borne_in place_is ∙ brings_unborne call is (asking_step call it.id it.fd)) idle_so (lasting gives.entry)
+            (ap (option_map lasting) gives.stands) (request_bytes after 0) come.bytes call it.fd there.1 there.2
 
         home : (slot_at after n).directory ≡ (slot_at s n).directory
-        home = calm.asks a h (ap asks_by_page place_is)
+        home = calm.asks a h (ap asks_by_page place_is ∙ page_asks call is it.id it.fd)
 
         apart : (slot_at s n).directory ≢ (slot_at s 0).directory
         apart same = other (h.1.in_order.spaces.apart n 0 live (first_serves h.1).lives same)
@@ -568,22 +661,28 @@ module _ (d : Disk) (n : ℕ) (s after : KernelState) (other : n ≢ 0) (live : 
           same = refl;
         }
 
+    -- by each service
+    asked_whole : (x : Service) → place_of (slot_at s n) ≡ place.InService x (asking_step x it.id it.fd) → BringsRequest x n s after →
+        ServerStands d after c
+    asked_whole service.Sync place_is brings = asked_sync place_is brings
+    asked_whole (service.OpenFile path mode) place_is brings = asked_page (service.OpenFile path mode) refl place_is brings
+    asked_whole (service.Remove path) place_is brings = asked_page (service.Remove path) refl place_is brings
+    asked_whole (service.Seek fd offset) place_is brings = asked_page (service.Seek fd offset) refl place_is brings
+    asked_whole (service.SetSize fd size) place_is brings = asked_page (service.SetSize fd size) refl place_is brings
+    asked_whole (service.Write fd va len) place_is brings = asked_page (service.Write fd va len) refl place_is brings
+    asked_whole (service.Read fd va len) place_is brings = asked_page (service.Read fd va len) refl place_is brings
+    asked_whole (service.Stat fd va) place_is brings = asked_page (service.Stat fd va) refl place_is brings
+    asked_whole _ place_is brings = absurd brings
+
   pub whole_goes_on : (written : List ℕ) → GoesOn n after a written → WholeGoesOn n (beside after (Some d)) a written
   whole_goes_on written goes = (goes.0, goes.1, goes.2, (goes.3, by_way (way goes.0 goes.3)))
     where
       by_way : LeavesOrAsks n s after → ServerStands d after goes.0
       by_way (left_alone it) =
           let same = same_abstract it goes.0 goes.1 goes.3 in
-          let left = (left_of goes.0 goes.1).0 in
-          left_whole it goes.0 goes.3 same left.files left.opened (names_kept left (names_given d s a k.serving)) (ids_kept goes.0 goes.1 goes.3 same)
-          (served_clients_stay a goes.0 n below k.asked goes.1)
-      by_way (asked_it it) = by_service it.by_service it.at it.brings
-        where
-          by_service : (x : Service) → place_of (slot_at s n) ≡ place.InService x (step_at.Asking it.id) → BringsRequest x n s after →
-              ServerStands d after goes.0
-          by_service service.Sync place_is brings = asked_sync it goes.0 goes.1 goes.3 place_is brings
-          by_service (service.Remove path) place_is brings = asked_remove it goes.0 goes.1 goes.3 path place_is brings
-          by_service _ place_is brings = absurd brings
+          left_whole it goes.0 goes.3 (clients_leave_served a goes.0 n b below at k.asked goes.1 same) (ids_kept goes.0 goes.1 goes.3 same)
+          (served_clients_stay a goes.0 n below k.asked goes.1) (client_fits a goes.0 n b at k.asked k.fits goes.1 same)
+      by_way (asked_it it) = asked_whole it goes.0 goes.1 goes.3 it.by_service it.at it.brings
 
 -- So it keeps the whole.
 pub whole_kept : (disk : Option Disk) (n : ℕ) (s after : KernelState) (done : Progress) (written : List ℕ) → is_servers s n ≡ false →

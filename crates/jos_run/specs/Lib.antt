@@ -6,7 +6,6 @@ pub mod GuestSteps
 pub mod Guest
 pub mod MemoryProofs
 pub mod Worlds
-pub mod RemovalJobs
 pub mod ServerStands
 pub mod Steps
 pub mod StepsAtOnce

@@ -1,6 +1,5 @@
 -- What is known of the file server beside what its environment has where the kernel's state stands for an abstract one: at which of its steps
--- it stands over the disk, for whom, and by whose page it serves. (As far as services are built all that it is asked for is sync, and that a file is
--- removed; and nothing is ever opened.)
+-- it stands over the disk, for whom, and by whose page it serves.
 use Rattle.std.specs.Prelude.{◌≡◌, ◌==◌, ◌<◌, ℕ, ◌%◌, ◌++◌, Bool, true, false, List, [], Option, Some, None, Result, Ok, Err, length}
 use Rattle.jos_host.specs.declared.host.Failed.{Failed}
 use Rattle.jos_base.specs.declared.numbers.TheConstants.{NENV, UTEMP}
@@ -8,13 +7,13 @@ use Rattle.jos_base.specs.Environments.{Slot, is_runnable, is_running}
 use Rattle.jos_base.specs.KernelState.{KernelState, slot_at}
 use Rattle.jos_base.specs.Reach.{Entry}
 use Rattle.jos_base.specs.Words.{page_number}
-use Rattle.fs_layout.specs.FileTree.{remove_path, sync_files}
 use Rattle.lib_os.specs.declared.numbers.TheConstants.{REQUEST, SHORT_QUANTUM}
 use Rattle.lib_os.specs.declared.progress.Progress.{Progress}
 use Rattle.lib_os.specs.declared.progress.Progress.TheVariants as progress
 use Rattle.lib_os.specs.AbstractLaws.{ServesWhoAsked, client_served}
 use Rattle.lib_os.specs.AbstractRun.{abs_step, may_wait}
-use Rattle.lib_os.specs.AbstractState.{AbstractState, Server, leaving, idle, busy, acted, act, slot_id}
+use Rattle.lib_os.specs.AbstractState.{AbstractState, Server, leaving, idle, looking, busy, acted, slot_id}
+use Rattle.lib_os.specs.AskedFor.{ServesAsAsked}
 use Rattle.lib_os.specs.Disk.{Disk}
 use Rattle.lib_os.specs.LibrarySteps.{KeepsNumbers, KeepsPlaces, KeepsUses, LeavesRest, NothingRefused, Stands, TakesAtMost}
 use Rattle.lib_os.specs.Rows.{rows_of}
@@ -27,10 +26,8 @@ use Rattle.fs_requests.specs.declared.state.ServerState.{ServerState}
 use Rattle.fs_requests.specs.declared.state.ServerStep.{ServerStep}
 use Rattle.fs_requests.specs.declared.state.ServerStep.TheVariants as step
 use Rattle.fs_requests.specs.ServerWords.{server_in}
-use Rattle.fs_seen.specs.ServerMemory.{has_request, view_in}
-use Rattle.fs_seen.specs.ServerWhole.{IsServing, NothingOpened}
-use Rattle.fs_tree.specs.TreeSteps.{job_in}
-use Rattle.jos_run.specs.RemovalJobs.{HasJob}
+use Rattle.fs_seen.specs.ServerMemory.{has_request, sends_page}
+use Rattle.fs_seen.specs.ServerWhole.{IsServing}
 use Rattle.jos_run.specs.Worlds.{World}
 
 -- ---- its step
@@ -53,15 +50,6 @@ client_id step.ReadingKind k = k.rendezvous.sender
 client_id step.ReadingClient k = k.rendezvous.sender
 client_id _ k = (serving_at k).client
 
--- As far as services are built, what is asked for is sync, or that a file is removed.
-abbrev pub IsBuiltRequest : Server → Type 0
-IsBuiltRequest leaving = Unit {0}
-IsBuiltRequest idle = Unit {0}
-IsBuiltRequest (busy client (act sync_files None) None) = Unit {0}
-IsBuiltRequest (busy client (act (remove_path path) None) None) = Unit {0}
-IsBuiltRequest (acted client answer [] None) = Unit {0}
-IsBuiltRequest _ = ⊥
-
 -- ---- its pages
 
 -- The page of its request is the one in which its client has told it.
@@ -72,13 +60,19 @@ pub record IsLent (s : KernelState) (client : ℕ) : Type 0 where
   pub stands : rows_of s.spaces (slot_at s 0).directory (page_number REQUEST) ≡ Some entry
   pub same : own.frame ≡ entry.frame
 
--- It is so until the act is made, where the request has a page. There is none where a sync is asked for, nor while it waits for a request.
+abbrev pub IsLentBy : Bool → KernelState → ℕ → Type 0
+IsLentBy true s client = IsLent s client
+IsLentBy false s client = has_request s 0 ≡ false
+
+-- It is so until the act is made, where the request has a page, and until the reply where bytes are handed back. There is none where a sync is asked
+-- for, nor while it waits for a request.
 abbrev pub HasLent : Server → KernelState → Type 0
 HasLent leaving s = step_of (slot_at s 0) ≡ step.Receiving → has_request s 0 ≡ false
 HasLent idle s = has_request s 0 ≡ false
-HasLent (busy client (act sync_files None) None) s = has_request s 0 ≡ false
-HasLent (busy client (act (remove_path path) None) None) s = IsLent s client
-HasLent _ s = Unit {0}
+HasLent (looking client request place) s = IsLentBy (sends_page request) s client
+HasLent (busy client request place) s = IsLentBy (sends_page request) s client
+HasLent (acted client answer [] object) s = Unit {0}
+HasLent (acted client answer bytes object) s = IsLent s client
 
 -- ---- over the disk
 
@@ -92,18 +86,16 @@ BringsOwn d (at.FlushWriting block) = Unit {0}
 BringsOwn d (at.FlushSettling block) = Unit {0}
 BringsOwn d place = block_at place < d.count
 
--- It stands at its step over the disk, its words are twelve, its cache brings blocks of the disk, its job is a removal's, it serves who has asked,
--- by the page that this one has lent; and no file was ever open.
+-- It stands at its step over the disk, its words are twelve, its cache brings blocks of the disk, and it serves who has asked, what this one has
+-- asked for, by the page that this one has lent.
 pub record ServerStands (d : Disk) (s : KernelState) (a : AbstractState) : Type 0 where
   pub serving : IsServing d s 0 a
   pub twelve : length (slot_at s 0).extra ≡ 12
   pub brings : BringsOwn d (cache_state s 0).place
-  pub job : HasJob (step_of (slot_at s 0)) (job_in s 0)
   pub client : (client : ℕ) → client_served a.server ≡ Some client → IsClient a client (client_id (step_of (slot_at s 0)) (slot_at s 0))
   pub asked : ServesWhoAsked a
-  pub built : IsBuiltRequest a.server
+  pub fits : ServesAsAsked a
   pub lent : HasLent a.server s
-  pub unopened : NothingOpened a (view_in d s 0)
 
 -- Where the host does not tell its files nothing is known of the server.
 abbrev pub ServesOver : Option Disk → KernelState → AbstractState → Type 0

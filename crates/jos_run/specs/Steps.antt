@@ -58,14 +58,23 @@ next_byte service done = (buffer_of service + done) % 2 ^ 32
 abbrev pub entry_at : KernelState → ℕ → ℕ → Option Entry
 entry_at s n va = rows_of s.spaces (slot_at s n).directory (page_number va)
 
--- the trap that a step of a service raises: where the page into which it puts bytes waits to be copied, and where it can't move a byte
-abbrev pub raised_by : KernelState → ℕ → Service → Step → Option TrapLine
-raised_by s n service (step.Delivering done word) =
+-- the page fault where the page into which a service puts its next byte waits to be copied, and that where it can't move that byte
+abbrev pub copied_line : KernelState → ℕ → Service → ℕ → Option TrapLine
+copied_line s n service done =
     let va = next_byte service done in
     if is_to_copy (entry_at s n va) then Some (fault_line s n (access_error true true) va) else None
-raised_by s n service (step.Faulting done word) =
+
+abbrev pub refused_line : KernelState → ℕ → Service → ℕ → TrapLine
+refused_line s n service done =
     let va = next_byte service done in
-    Some (fault_line s n (access_error (is_some (entry_at s n va)) (writes_buffer service)) va)
+    fault_line s n (access_error (is_some (entry_at s n va)) (writes_buffer service)) va
+
+-- the trap that a step of a service raises, which moves bytes of the console or of a file
+abbrev pub raised_by : KernelState → ℕ → Service → Step → Option TrapLine
+raised_by s n service (step.Delivering done word) = copied_line s n service done
+raised_by s n service (step.PuttingBytes done count word) = copied_line s n service done
+raised_by s n service (step.Faulting done word) = Some (refused_line s n service done)
+raised_by s n service (step.FileFaulting done count) = Some (refused_line s n service done)
 raised_by s n service _ = None
 
 -- A step of a program is its instruction, with the trap that this raises, if it raises one; so may an access of a service.

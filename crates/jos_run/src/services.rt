@@ -5,13 +5,13 @@ ghost use Rattle.jos_run.specs.Plans.{plan_at, plan_of};
 
 use jos_base::Called;
 use lib_fd::{Close, Dup, Exit};
-use lib_file::{FileOnly, FileOnlyService};
 use lib_fork::Fork;
 use lib_mem::MemoryService;
 use lib_msg::{Receive, Send};
+use lib_offset::{Offset, OffsetService};
 use lib_os::{Service, Step};
 use lib_read::{Read, Stat};
-use lib_request::{Remove, Sync};
+use lib_request::{Open, Remove, Sync};
 use lib_spawn::Wait;
 use lib_stage::{Ask, Next, Nowhere, Planned};
 use lib_write::Write;
@@ -29,10 +29,11 @@ pub(crate) enum ServiceStage {
     Dup(Dup),
     Read(Read),
     Write(Write),
-    FileOnly(FileOnly),
+    Offset(Offset),
     Stat(Stat),
     Sync(Sync),
     Remove(Remove),
+    Open(Open),
     /// The service has not this step.
     Nowhere(Nowhere),
 }
@@ -78,16 +79,24 @@ pub(crate) fn stage_of(service: Service, step: Step) -> ServiceStage
             Some(write) => ServiceStage::Write(write),
             None => ServiceStage::Nowhere(Nowhere),
         },
-        Service::Seek { fd, .. } => match FileOnly::at_step(FileOnlyService::Seek, fd, step) {
-            Some(seek) => ServiceStage::FileOnly(seek),
+        Service::Seek { fd, offset } => match Offset::at_step(
+            OffsetService::Seek { offset },
+            fd,
+            step,
+        ) {
+            Some(seek) => ServiceStage::Offset(seek),
             None => ServiceStage::Nowhere(Nowhere),
         },
         Service::Stat { fd, va } => match Stat::at_step(fd, va, step) {
             Some(stat) => ServiceStage::Stat(stat),
             None => ServiceStage::Nowhere(Nowhere),
         },
-        Service::SetSize { fd, .. } => match FileOnly::at_step(FileOnlyService::SetSize, fd, step) {
-            Some(set_size) => ServiceStage::FileOnly(set_size),
+        Service::SetSize { fd, size } => match Offset::at_step(
+            OffsetService::SetSize { size },
+            fd,
+            step,
+        ) {
+            Some(set_size) => ServiceStage::Offset(set_size),
             None => ServiceStage::Nowhere(Nowhere),
         },
         Service::Sync => match Sync::at_step(step) {
@@ -96,6 +105,10 @@ pub(crate) fn stage_of(service: Service, step: Step) -> ServiceStage
         },
         Service::Remove { path } => match Remove::at_step(path, step) {
             Some(remove) => ServiceStage::Remove(remove),
+            None => ServiceStage::Nowhere(Nowhere),
+        },
+        Service::OpenFile { path, mode } => match Open::at_step(path, mode, step) {
+            Some(open) => ServiceStage::Open(open),
             None => ServiceStage::Nowhere(Nowhere),
         },
         _ => match MemoryService::of(service) {
@@ -122,10 +135,11 @@ impl Planned for ServiceStage {
             ServiceStage::Dup(dup) => dup.number(),
             ServiceStage::Read(read) => read.number(),
             ServiceStage::Write(write) => write.number(),
-            ServiceStage::FileOnly(service) => service.number(),
+            ServiceStage::Offset(service) => service.number(),
             ServiceStage::Stat(stat) => stat.number(),
             ServiceStage::Sync(sync) => sync.number(),
             ServiceStage::Remove(remove) => remove.number(),
+            ServiceStage::Open(open) => open.number(),
             ServiceStage::Nowhere(nowhere) => nowhere.number(),
         }
     }
@@ -142,10 +156,11 @@ impl Planned for ServiceStage {
             ServiceStage::Dup(dup) => dup.ask(),
             ServiceStage::Read(read) => read.ask(),
             ServiceStage::Write(write) => write.ask(),
-            ServiceStage::FileOnly(service) => service.ask(),
+            ServiceStage::Offset(service) => service.ask(),
             ServiceStage::Stat(stat) => stat.ask(),
             ServiceStage::Sync(sync) => sync.ask(),
             ServiceStage::Remove(remove) => remove.ask(),
+            ServiceStage::Open(open) => open.ask(),
             ServiceStage::Nowhere(nowhere) => nowhere.ask(),
         }
     }
@@ -162,10 +177,11 @@ impl Planned for ServiceStage {
             ServiceStage::Dup(dup) => dup.next(called),
             ServiceStage::Read(read) => read.next(called),
             ServiceStage::Write(write) => write.next(called),
-            ServiceStage::FileOnly(service) => service.next(called),
+            ServiceStage::Offset(service) => service.next(called),
             ServiceStage::Stat(stat) => stat.next(called),
             ServiceStage::Sync(sync) => sync.next(called),
             ServiceStage::Remove(remove) => remove.next(called),
+            ServiceStage::Open(open) => open.next(called),
             ServiceStage::Nowhere(nowhere) => nowhere.next(called),
         }
     }

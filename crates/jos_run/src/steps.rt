@@ -90,7 +90,7 @@ fn buffer_of(service: Service) -> u32
 {
     match service {
         Service::Read { va, .. } | Service::Write { va, .. } | Service::Stat { va, .. } => va,
-        Service::Remove { path } => path,
+        Service::OpenFile { path, .. } | Service::Remove { path } => path,
         _ => 0,
     }
 }
@@ -99,7 +99,10 @@ fn buffer_of(service: Service) -> u32
 fn writes_buffer(service: Service) -> bool
     ensures { result ≡ writes_buffer service }
 {
-    !matches!(service, Service::Write { .. } | Service::Remove { .. })
+    !matches!(
+        service,
+        Service::OpenFile { .. } | Service::Write { .. } | Service::Remove { .. }
+    )
 }
 
 impl Served {
@@ -218,7 +221,7 @@ impl Served {
         ensures { result ≡ raised_by (kernel_state self.now) self.now.slot service step }
     {
         match step {
-            Step::Delivering { done, .. } => {
+            Step::Delivering { done, .. } | Step::PuttingBytes { done, .. } => {
                 let va = buffer_of(service).wrapping_add(done);
                 if self.waits_to_be_copied(va) {
                     Some(self.fault_line(FEC_U + FEC_PR + FEC_WR, va))
@@ -226,7 +229,7 @@ impl Served {
                     None
                 }
             }
-            Step::Faulting { done, .. } => {
+            Step::Faulting { done, .. } | Step::FileFaulting { done, .. } => {
                 let va = buffer_of(service).wrapping_add(done);
                 let present = if self.is_there(va) { FEC_PR } else { 0 };
                 let write = if writes_buffer(service) { FEC_WR } else { 0 };

@@ -21,7 +21,7 @@ use Rattle.lib_os.specs.GuestStep.{ends_with}
 use Rattle.lib_os.specs.InOrder.{IsInOrder}
 use Rattle.lib_os.specs.LibrarySteps.{GoesOn}
 use Rattle.lib_os.specs.Places.{place_of}
-use Rattle.lib_os.specs.Rows.{Names, rows_of}
+use Rattle.lib_os.specs.Rows.{Names, is_descriptor, rows_of}
 use Rattle.lib_os.specs.StandsFor.{StandsFor, view_of, upcall_at, borne_in}
 use Rattle.lib_os.specs.StandsInHandler.{CopiesOrEnds, copies, ends, Ends, is_write}
 use Rattle.lib_os.specs.UserCalls.{CallStep, Got, gone, to_handler, giving, load_byte, store_byte, user_byte, with_user_byte}
@@ -29,7 +29,7 @@ use Rattle.lib_os.proofs.BytesRead.{users_inside}
 use Rattle.lib_os.proofs.FaultEnds.{IsRefused, access_of, access_refused, ended_by, ended_set, refused_ends, same_line, fault_ended}
 use Rattle.lib_os.proofs.Fences.{inside_number}
 use Rattle.lib_os.proofs.Handled.{IsHandled, handled_part}
-use Rattle.lib_os.proofs.Logical.{inside_programs, is_plain}
+use Rattle.lib_os.proofs.Logical.{inside_programs, is_plain, programs_no_descriptor}
 use Rattle.lib_os.proofs.Slots.{slot_put}
 use Rattle.lib_os.proofs.StopsEnd.{stopped_step}
 use Rattle.lib_os.proofs.UpcallSet.{upcall_unset_is, unset_stands}
@@ -131,6 +131,12 @@ module _ (s : KernelState) (n va error ip : ℕ) (live : is_live (slot_at s n) �
           subst (λ (code : ℕ). IsRefused s.spaces (slot_at s n).directory va (access_of (is_write code))) (sym way.at.1)
           (subst (λ (at : ℕ). IsRefused s.spaces (slot_at s n).directory at (access_of (is_write v.at.fault.error))) (sym way.at.0) it)
 
+      -- in no page of a descriptor's
+      pub touching_apart : is_descriptor (page_number va) ≡ false
+      touching_apart =
+          ap (λ (at : ℕ). is_descriptor (page_number at)) way.at.0
+          ∙ programs_no_descriptor (page_number v.at.fault.va) (inside_programs v.at.fault.va way.inside)
+
       no_handler : (slot_at s n).upcall ≡ 0
       no_handler = v.own.upcall ∙ ap upcall_at stands
 
@@ -144,7 +150,7 @@ module _ (s : KernelState) (n va error ip : ℕ) (live : is_live (slot_at s n) �
 
       ends_by : abs_step a n ≡ Some ended
       ends_by =
-          stopped_step h n v.b v.is (ap is_plain stands) (is_write v.at.fault.error) v.at.fault.va v.at.regs way.program way.awake way.inside way.refused
+          stopped_step h n v.b v.is (ap is_plain stands) (is_write v.at.fault.error) v.at.fault.va v.at.regs way.eax way.program way.awake way.inside way.refused
           way.stopped
 
       -- with the line that the kernel writes

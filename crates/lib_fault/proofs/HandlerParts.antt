@@ -1,6 +1,7 @@
 -- The parts of the law of the handler that are the same at all its steps: who goes on is there, what each step leaves, that less is left
 -- behind each hidden one, that none gives up its turn, and how many frames each takes.
-use Rattle.std.proofs.Common.{◌≡◌, ◌∙◌, ◌<◌, ◌≤◌, ℕ, Bool, true, false, List, Option, Some, None, Result, Ok, Err, refl, sym, ap, subst, arith, ◌∷◌, []}
+use Rattle.std.proofs.Common.{◌≡◌, ◌∙◌, ◌+◌, ◌*◌, ◌%◌, ◌<◌, ◌≤◌, ℕ, Bool, true, false, List, Option, Some, None, Result, Ok, Err, refl, sym, ap, subst, arith, ◌∷◌, []}
+use Rattle.std.proofs.lemmas.Bool.Decides.{nat_tests}
 use Rattle.jos_base.specs.declared.called.Called.{Called}
 use Rattle.jos_base.specs.declared.memory.PageFault.{PageFault}
 use Rattle.jos_base.specs.declared.numbers.TheConstants.{SYS_ENV_SET_PGFAULT_UPCALL, SYS_PAGE_ALLOC, SYS_PAGE_MAP, SYS_PAGE_UNMAP}
@@ -11,7 +12,7 @@ use Rattle.jos_base.specs.Reach.{Entry}
 use Rattle.jos_base.specs.SystemCalls.{handled, user_bytes, with_bytes_reached}
 use Rattle.jos_base.specs.TrapFrames.{frame_size, from_frame, words_of_bytes}
 use Rattle.jos_base.specs.Words.{page_number}
-use Rattle.lib_os.specs.declared.numbers.TheConstants.{PFTEMP}
+use Rattle.lib_os.specs.declared.numbers.TheConstants.{PAGE_WORDS, PFTEMP}
 use Rattle.lib_os.specs.declared.place.HandlerStep.{HandlerStep}
 use Rattle.lib_os.specs.declared.place.HandlerStep.TheVariants as handler
 use Rattle.lib_os.specs.declared.place.Place.TheVariants as place
@@ -19,21 +20,23 @@ use Rattle.lib_os.specs.AbstractState.{AbstractState}
 use Rattle.lib_os.specs.LibrarySteps.{Stands, Leaves, Lowers, GivesUp, TakesAtMost, TakesByPlace, copies_left, frames_at, is_pausing}
 use Rattle.lib_os.specs.Places.{place_of}
 use Rattle.lib_os.specs.Rows.{rows_of}
+use Rattle.lib_os.specs.StandsInHandler.{is_write}
 use Rattle.lib_os.specs.UserCalls.{CallStep, Got, got, to_handler, gone, faulting, restored, restore_frame, answer_of}
 use Rattle.lib_os.proofs.GoingOn.{gives_nothing_up}
 use Rattle.lib_os.proofs.Slots.{slot_put}
 use Rattle.lib_os.proofs.Remapping.{puts_over}
+use Rattle.lib_stage.specs.declared.ask.Ask.TheVariants as ask
 use Rattle.lib_stage.specs.Asks.{frames_of, performed}
 use Rattle.lib_stage.specs.Nexts.{is_gone}
 use Rattle.lib_stage.specs.ServiceSteps.{upshot_by}
 use Rattle.lib_stage.proofs.FramesTaken.{asks_few, takes_at}
-use Rattle.lib_stage.proofs.Laws.{NeverFaults, is_plain, plain_leaves, system_never}
-use Rattle.lib_fault.specs.HandlerStages.{ask_of, next_of, handling, copy_perm, page_start}
+use Rattle.lib_stage.proofs.Laws.{IsAsideAsk, IsPlain, NeverFaults, is_word_beside, known_leaves, plainly, system_never, touch_aside}
+use Rattle.lib_fault.specs.HandlerStages.{ask_of, next_of, handling, copy_perm, page_start, word_of_page}
 use Rattle.lib_fault.proofs.CallsLeave.{keeps_registers, call_left, told_gives}
 use Rattle.lib_os.proofs.CopiesLeft.{inserted_entries, put_copies_less}
 use Rattle.lib_os.proofs.StepsThere.{step_is_there}
 use Rattle.lib_fault.proofs.Copying.{storing_never}
-use Rattle.lib_fault.proofs.Ending.{touching_never}
+use Rattle.lib_fault.proofs.Ending.{touching_apart, touching_never}
 use Rattle.lib_fault.proofs.Falling.{handler_falls}
 use Rattle.lib_fault.proofs.FrameReads.{entered_never, reading_error_never, reading_ip_never}
 use Rattle.lib_fault.proofs.PageReads.{loading_never, looking_never}
@@ -85,23 +88,39 @@ module _ (s : KernelState) (n : ℕ) (live : is_live (slot_at s n) ≡ true) whe
 
 -- ---- what is left
 
-asks_plainly : (at : HandlerStep) → is_plain (ask_of at) ≡ true
-asks_plainly handler.Entered = refl
-asks_plainly (handler.ReadingError va) = refl
-asks_plainly (handler.Looking va) = refl
-asks_plainly (handler.Taking va) = refl
-asks_plainly (handler.Loading va index) = refl
-asks_plainly (handler.Storing va index word) = refl
-asks_plainly (handler.MappingOver va) = refl
-asks_plainly (handler.Unmapping va) = refl
-asks_plainly handler.Restoring = refl
-asks_plainly (handler.ReadingIp va error) = refl
-asks_plainly (handler.Unsetting va error ip) = refl
-asks_plainly (handler.Touching va error ip) = refl
+-- the page into which it copies is no descriptor's
+storing_apart : (index : ℕ) → is_word_beside (word_of_page PFTEMP index) ≡ true
+storing_apart index =
+    let small : index % PAGE_WORDS < 1024 = omega arith in
+    by_place (index % PAGE_WORDS) small
+  where
+    by_place : (i : ℕ) → i < 1024 → is_word_beside (PFTEMP + 4 * i) ≡ true
+    by_place i small = grind (arith, nat_tests)
 
-pub handler_leaves : (s : KernelState) (n : ℕ) (at : HandlerStep) →
+-- Nor is the one of the fault that it raises again.
+asks_plainly : (s : KernelState) (n : ℕ) (at : HandlerStep) → is_live (slot_at s n) ≡ true → place_of (slot_at s n) ≡ place.InHandler at →
+    IsPlain s n (ask_of at)
+asks_plainly s n handler.Entered live stands = plainly refl
+asks_plainly s n (handler.ReadingError va) live stands = plainly refl
+asks_plainly s n (handler.Looking va) live stands = plainly refl
+asks_plainly s n (handler.Taking va) live stands = plainly refl
+asks_plainly s n (handler.Loading va index) live stands = plainly refl
+asks_plainly s n (handler.Storing va index word) live stands = plainly (storing_apart index)
+asks_plainly s n (handler.MappingOver va) live stands = plainly refl
+asks_plainly s n (handler.Unmapping va) live stands = plainly refl
+asks_plainly s n handler.Restoring live stands = plainly refl
+asks_plainly s n (handler.ReadingIp va error) live stands = plainly refl
+asks_plainly s n (handler.Unsetting va error ip) live stands = plainly refl
+asks_plainly s n (handler.Touching va error ip) live stands =
+    touch_aside s n ip va (is_write error) (by_access (is_write error))
+  where
+    by_access : (write : Bool) → IsAsideAsk s (ask.Touch ip va write)
+    by_access true = λ a h. touching_apart s n va error ip live stands h.1
+    by_access false = tt
+
+pub handler_leaves : (s : KernelState) (n : ℕ) (at : HandlerStep) → is_live (slot_at s n) ≡ true → place_of (slot_at s n) ≡ place.InHandler at →
     let did = upshot_by (handling at) n (performed s n (ask_of at)) (performed s n (ask_of at)).gives in Leaves (Ok did.progress) n s did.state
-handler_leaves s n at = plain_leaves s n (handling at) (asks_plainly at)
+handler_leaves s n at live stands = known_leaves s n (handling at) (asks_plainly s n at live stands)
 
 module _ (s : KernelState) (n : ℕ) (at : HandlerStep) (stands : place_of (slot_at s n) ≡ place.InHandler at) where
   pub handler_gives_up :

@@ -1,5 +1,5 @@
 -- The law of dup: its answers are seen, and that the new descriptor is dropped where it is open; all between is hidden.
-use Rattle.std.proofs.Common.{◌≡◌, ℕ, true, refl}
+use Rattle.std.proofs.Common.{◌≡◌, ℕ, false, true, refl}
 use Rattle.jos_base.specs.Environments.{is_live}
 use Rattle.jos_base.specs.KernelState.{KernelState, slot_at}
 use Rattle.lib_os.specs.declared.place.Place.TheVariants as place
@@ -54,3 +54,27 @@ module _ (s : KernelState) (n old new : ℕ) (live : is_live (slot_at s n) ≡ t
   dup_holds (step.ReadingReply own) stands = law_of_nowhere s n (service.Dup old new) (step.ReadingReply own) stands refl (λ view k b h. h)
   dup_holds step.Identifying stands = law_of_nowhere s n (service.Dup old new) step.Identifying stands refl (λ view k b h. h)
   dup_holds (step.Clearing own) stands = law_of_nowhere s n (service.Dup old new) (step.Clearing own) stands refl (λ view k b h. h)
+  dup_holds step.ReadingMode stands = law_of_nowhere s n (service.Dup old new) step.ReadingMode stands refl (λ view k b h. h)
+  dup_holds step.ReadingNumber stands = law_of_nowhere s n (service.Dup old new) step.ReadingNumber stands refl (λ view k b h. h)
+  dup_holds (step.StoringNumber own) stands = law_of_nowhere s n (service.Dup old new) (step.StoringNumber own) stands refl (λ view k b h. h)
+  dup_holds step.StoringCount stands = law_of_nowhere s n (service.Dup old new) step.StoringCount stands refl (λ view k b h. h)
+  dup_holds step.TakingRequest stands = law_of_nowhere s n (service.Dup old new) step.TakingRequest stands refl (λ view k b h. h)
+  dup_holds (step.GatheringBytes done start) stands = law_of_nowhere s n (service.Dup old new) (step.GatheringBytes done start) stands refl (λ view k b h. h)
+  dup_holds (step.KeepingBytes done word left start) stands = law_of_nowhere s n (service.Dup old new) (step.KeepingBytes done word left start) stands refl (λ view k b h. h)
+  dup_holds step.FreeRegion stands = law_of_nowhere s n (service.Dup old new) step.FreeRegion stands refl (λ view k b h. h)
+  dup_holds (step.FreeEntry kept) stands = law_of_nowhere s n (service.Dup old new) (step.FreeEntry kept) stands refl (λ view k b h. h)
+  dup_holds (step.StoringMode kept) stands = law_of_nowhere s n (service.Dup old new) (step.StoringMode kept) stands refl (λ view k b h. h)
+  dup_holds (step.OpenIdentifying kept) stands = law_of_nowhere s n (service.Dup old new) (step.OpenIdentifying kept) stands refl (λ view k b h. h)
+  dup_holds (step.OpenAsking own kept) stands = law_of_nowhere s n (service.Dup old new) (step.OpenAsking own kept) stands refl (λ view k b h. h)
+  dup_holds (step.OpenPausing own kept) stands = law_of_nowhere s n (service.Dup old new) (step.OpenPausing own kept) stands refl (λ view k b h. h)
+  dup_holds (step.OpenAwaiting own kept) stands = law_of_nowhere s n (service.Dup old new) (step.OpenAwaiting own kept) stands refl (λ view k b h. h)
+  dup_holds (step.OpenClearing own kept) stands = law_of_nowhere s n (service.Dup old new) (step.OpenClearing own kept) stands refl (λ view k b h. h)
+  dup_holds (step.ReadingOpened own kept) stands = law_of_nowhere s n (service.Dup old new) (step.ReadingOpened own kept) stands refl (λ view k b h. h)
+  dup_holds (step.CountingReply own) stands = law_of_nowhere s n (service.Dup old new) (step.CountingReply own) stands refl (λ view k b h. let contradiction : false ≡ true = h.hands in cc)
+  dup_holds (step.FileRegion done count) stands = law_of_nowhere s n (service.Dup old new) (step.FileRegion done count) stands refl (λ view k b h. let contradiction : false ≡ true = h.hands in cc)
+  dup_holds (step.FileEntry done count) stands = law_of_nowhere s n (service.Dup old new) (step.FileEntry done count) stands refl (λ view k b h. let contradiction : false ≡ true = h.0.hands in cc)
+  dup_holds (step.LoadingBytes done count) stands = law_of_nowhere s n (service.Dup old new) (step.LoadingBytes done count) stands refl (λ view k b h. let contradiction : false ≡ true = h.has.hands in cc)
+  dup_holds (step.LoadingRest done count first) stands = law_of_nowhere s n (service.Dup old new) (step.LoadingRest done count first) stands refl (λ view k b h. let contradiction : false ≡ true = h.has.hands in cc)
+  dup_holds (step.PuttingBytes done count word) stands = law_of_nowhere s n (service.Dup old new) (step.PuttingBytes done count word) stands refl (λ view k b h. let contradiction : false ≡ true = h.has.hands in cc)
+  dup_holds (step.FileFaulting done count) stands = law_of_nowhere s n (service.Dup old new) (step.FileFaulting done count) stands refl (λ view k b h. let contradiction : false ≡ true = h.0.hands in cc)
+  dup_holds (step.Returning answer) stands = law_of_nowhere s n (service.Dup old new) (step.Returning answer) stands refl (λ view k b h. let contradiction : false ≡ true = h.hands in cc)

@@ -36,6 +36,7 @@ entry_next service done kept allowed = if not allowed then next.GoOn (step.Fault
 moving_falls : (service : Service) (done word kept : ℕ) → Falls service (step.BufferEntry done word) (next.GoOn (moving_step service done kept))
 moving_falls (service.Write fd va len) done word kept = omega arith
 moving_falls (service.Remove path) done word kept = omega arith
+moving_falls (service.OpenFile path mode) done word kept = omega arith
 moving_falls _ done word kept = omega arith
 
 -- neither gives up a turn
@@ -46,6 +47,12 @@ looks_steady (service.Wait id) done word = (refl, refl)
 looks_steady (service.Send id value va) done word = (refl, refl)
 looks_steady service.Sync done word = (refl, refl)
 looks_steady (service.Remove path) done word = (refl, refl)
+looks_steady (service.OpenFile path mode) done word = (refl, refl)
+looks_steady (service.Seek fd offset) done word = (refl, refl)
+looks_steady (service.SetSize fd size) done word = (refl, refl)
+looks_steady (service.Write fd va len) done word = (refl, refl)
+looks_steady (service.Read fd va len) done word = (refl, refl)
+looks_steady (service.Stat fd va) done word = (refl, refl)
 looks_steady _ done word = (refl, refl)
 
 module _ (s : KernelState) (n : ℕ) (service : Service) (live : is_live (slot_at s n) ≡ true) (done word kept : ℕ)

@@ -1,6 +1,6 @@
 -- The law of the stages in which a service finds what its descriptor names, for each service that has them: each is a part of its one step
 -- in the abstract system, by the word that is read.
-use Rattle.std.proofs.Common.{◌≡◌, ◌∙◌, ◌⊎◌, inl, inr, ◌||◌, ◌<◌, ◌≤◌, ℕ, Bool, true, false, not, [], Some}
+use Rattle.std.proofs.Common.{◌≡◌, ◌⊎◌, inl, inr, ◌||◌, ◌<◌, ◌≤◌, ℕ, Bool, true, false, not, [], Some}
 use Rattle.std.proofs.Common.{refl, sym, ap, subst, arith, if◌then◌else◌}
 use Rattle.std.specs.Prelude.{nat_lt}
 use Rattle.std.proofs.lemmas.Bool.Decides.{nat_tests}
@@ -26,7 +26,7 @@ use Rattle.lib_os.specs.StandsFor.{StandsFor, descriptor_given}
 use Rattle.lib_os.specs.UserCalls.{CallStep, answer_of, giving, load}
 use Rattle.lib_os.proofs.Calls.{getenvid_is}
 use Rattle.lib_os.proofs.DescriptorLooks.{entry_va, page_word, table_gives, table_va, table_word}
-use Rattle.lib_os.proofs.DeviceLooks.{console_word, device_either, device_gives, device_va, device_word}
+use Rattle.lib_os.proofs.DeviceLooks.{device_either, device_gives, device_va, device_word}
 use Rattle.lib_os.proofs.DeviceLooks.{entry_found, entry_gives, entry_missing, past_keeps, table_found, table_missing}
 use Rattle.lib_os.proofs.Loading.{loaded}
 use Rattle.lib_os.proofs.Numbered.{number_of}
@@ -53,13 +53,45 @@ Follows s n service a x = AbstractFollows (seen_as x) n (settled (number_of serv
 
 -- ---- a stage that loads a word
 
--- None of them gives up its turn.
-pub is_steady : (s : Service) (fd : ℕ) → descriptor_given s ≡ Some fd → (from : Step) → is_pausing (place.InService s from) ≡ false
-is_steady (service.Wait id) fd given from = absurd (none-some fd given)
-is_steady (service.Send id value va) fd given from = absurd (none-some fd given)
-is_steady service.Sync fd given from = absurd (none-some fd given)
-is_steady (service.Remove path) fd given from = absurd (none-some fd given)
-is_steady _ fd given from = refl
+-- the step of a service that pauses
+abbrev pub pauses : Step → Bool
+pauses (step.Pausing perm) = true
+pauses _ = false
+
+seek_steady : (fd offset : ℕ) (from : Step) → pauses from ≡ false → is_pausing (place.InService (service.Seek fd offset) from) ≡ false
+seek_steady fd offset (step.Pausing id) none = absurd (let contradiction : true ≡ false = none in cc)
+seek_steady fd offset _ none = refl
+
+set_size_steady : (fd size : ℕ) (from : Step) → pauses from ≡ false → is_pausing (place.InService (service.SetSize fd size) from) ≡ false
+set_size_steady fd size (step.Pausing id) none = absurd (let contradiction : true ≡ false = none in cc)
+set_size_steady fd size _ none = refl
+
+write_steady : (fd va len : ℕ) (from : Step) → pauses from ≡ false → is_pausing (place.InService (service.Write fd va len) from) ≡ false
+write_steady fd va len (step.Pausing id) none = absurd (let contradiction : true ≡ false = none in cc)
+write_steady fd va len _ none = refl
+
+read_steady : (fd va len : ℕ) (from : Step) → pauses from ≡ false → is_pausing (place.InService (service.Read fd va len) from) ≡ false
+read_steady fd va len (step.Pausing id) none = absurd (let contradiction : true ≡ false = none in cc)
+read_steady fd va len _ none = refl
+
+stat_steady : (fd va : ℕ) (from : Step) → pauses from ≡ false → is_pausing (place.InService (service.Stat fd va) from) ≡ false
+stat_steady fd va (step.Pausing id) none = absurd (let contradiction : true ≡ false = none in cc)
+stat_steady fd va _ none = refl
+
+-- At no other step one that is given a descriptor gives up its turn.
+pub is_steady : (s : Service) (fd : ℕ) → descriptor_given s ≡ Some fd → (from : Step) → pauses from ≡ false →
+    is_pausing (place.InService s from) ≡ false
+is_steady (service.Wait id) fd given from none = absurd (none-some fd given)
+is_steady (service.Send id value va) fd given from none = absurd (none-some fd given)
+is_steady service.Sync fd given from none = absurd (none-some fd given)
+is_steady (service.Remove path) fd given from none = absurd (none-some fd given)
+is_steady (service.OpenFile path mode) fd given from none = absurd (none-some fd given)
+is_steady (service.Seek other offset) fd given from none = seek_steady other offset from none
+is_steady (service.SetSize other size) fd given from none = set_size_steady other size from none
+is_steady (service.Write other va len) fd given from none = write_steady other va len from none
+is_steady (service.Read other va len) fd given from none = read_steady other va len from none
+is_steady (service.Stat other va) fd given from none = stat_steady other va from none
+is_steady _ fd given from none = refl
 
 module _ (s : KernelState) (n : ℕ) (service : Service) (from : Step) (live : is_live (slot_at s n) ≡ true)
     (steady : is_pausing (place.InService service from) ≡ false) (stands : place_of (slot_at s n) ≡ place.InService service from) where
@@ -126,7 +158,7 @@ module _ (s : KernelState) (n : ℕ) (service : Service) (fd : ℕ) (given : des
     region_by : (t : Bool) → nat_lt fd DESCRIPTORS ≡ t → ServiceHolds s n region_plan
     region_by true is =
         subst (λ (x : Ask). ServiceHolds s n (staged service x (next_of_region fd))) (sym asks)
-        (load_holds s n service step.Entered live (is_steady service fd given step.Entered) stands table_va (table_word s n) (next_of_region fd)
+        (load_holds s n service step.Entered live (is_steady service fd given step.Entered refl) stands table_va (table_word s n) (next_of_region fd)
         (next_region_falls service fd) (λ names a h. table_gives h n) (region_follows (grind (arith, nat_tests))))
       where
         asks : region_asked_for fd ≡ region_asked
@@ -134,7 +166,7 @@ module _ (s : KernelState) (n : ℕ) (service : Service) (fd : ℕ) (given : des
     region_by false is =
         subst (λ (x : Ask). ServiceHolds s n (staged service x (next_of_region fd))) (sym asks)
         (law_of_call s n asking service step.Entered
-        (staged_at s n service step.Entered live (is_steady service fd given step.Entered) stands (ask.System SYS_GETENVID no_args)
+        (staged_at s n service step.Entered live (is_steady service fd given step.Entered refl) stands (ask.System SYS_GETENVID no_args)
         (next_of_region fd) refl (omega arith) (next_region_falls service fd)) SYS_GETENVID no_args refl refl
         (subst (λ (z : CallStep Called). LivesOn z n (slot_at s n).registers) (sym (getenvid_is s n live no_args))
         (record { live = live; registers = refl; written = refl }))
@@ -166,18 +198,22 @@ module _ (s : KernelState) (n : ℕ) (service : Service) (fd : ℕ) (given : des
 
     pub entry_holds : ServiceHolds s n (staged service (entry_asked fd) next_of_entry)
     entry_holds =
-        load_holds s n service (step.DescriptorEntry at) live (is_steady service fd given (step.DescriptorEntry at)) stands (entry_va fd)
+        load_holds s n service (step.DescriptorEntry at) live (is_steady service fd given (step.DescriptorEntry at) refl) stands (entry_va fd)
         (page_word s n fd) next_of_entry (next_entry_falls service at) (λ names a h. entry_gives s n service fd given at stands h) entry_follows
 
-  -- ---- what it names: the console, of which it is told what the service does then
+  -- ---- what it names: the console or a file, of which it is told what the service does then
 
   module _ (stands : place_of (slot_at s n) ≡ place.InService service step.ReadingDevice) where
-    pub device_holds : (next : ℕ → Next) → ((word : ℕ) → Falls service step.ReadingDevice (next word)) →
-        ((names : Names) (a : AbstractState) → StandsFor names s a → IsInOrder (loaded s n (device_va fd)) → device_word s n fd ≡ DEVICE_CONSOLE →
-        Follows (loaded s n (device_va fd)) n service a (next DEVICE_CONSOLE)) →
-        ServiceHolds s n (staged service (device_asked fd) next)
-    device_holds next falls follows =
-        load_holds s n service step.ReadingDevice live (is_steady service fd given step.ReadingDevice) stands (device_va fd) (device_word s n fd)
+    -- it does what the abstract system does of an object with this word
+    abbrev pub FollowsObject : (ℕ → Next) → ℕ → Type 0
+    FollowsObject next device =
+        (names : Names) (a : AbstractState) → StandsFor names s a → IsInOrder (loaded s n (device_va fd)) → device_word s n fd ≡ device →
+        Follows (loaded s n (device_va fd)) n service a (next device)
+
+    pub device_holds_each : (next : ℕ → Next) → ((word : ℕ) → Falls service step.ReadingDevice (next word)) →
+        FollowsObject next DEVICE_CONSOLE → FollowsObject next DEVICE_FILE → ServiceHolds s n (staged service (device_asked fd) next)
+    device_holds_each next falls of_console of_file =
+        load_holds s n service step.ReadingDevice live (is_steady service fd given step.ReadingDevice refl) stands (device_va fd) (device_word s n fd)
         next falls (λ names a h. device_gives s n service fd given stands h)
         (λ names a h order. by_word names a h order (device_either s n service fd given stands h))
       where
@@ -185,6 +221,6 @@ module _ (s : KernelState) (n : ℕ) (service : Service) (fd : ℕ) (given : des
             (device_word s n fd ≡ DEVICE_CONSOLE) ⊎ (device_word s n fd ≡ DEVICE_FILE) →
             Follows (loaded s n (device_va fd)) n service a (next (device_word s n fd))
         by_word names a h order (inl word) =
-            subst (λ (w : ℕ). Follows (loaded s n (device_va fd)) n service a (next w)) (sym word) (follows names a h order word)
+            subst (λ (w : ℕ). Follows (loaded s n (device_va fd)) n service a (next w)) (sym word) (of_console names a h order word)
         by_word names a h order (inr word) =
-            absurd (let same = sym (console_word s n service fd given stands h) ∙ word in omega (arith, same))
+            subst (λ (w : ℕ). Follows (loaded s n (device_va fd)) n service a (next w)) (sym word) (of_file names a h order word)

@@ -1,4 +1,4 @@
 pub mod Finds
 pub mod BufferLaw
-pub mod FileOnlyLaw
 pub mod FaultingLaw
+pub mod Moves

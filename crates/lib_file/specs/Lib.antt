@@ -1,3 +1,3 @@
 pub mod Buffers
-pub mod FileOnlyStages
 pub mod Finding
+pub mod Keeping

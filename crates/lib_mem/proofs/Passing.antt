@@ -1,6 +1,6 @@
 -- A service of this crate, at its only step, and its answer. Where the kernel's state stands for an abstract one, so it does
 -- behind the answer.
-use Rattle.std.proofs.Common.{◌∙◌, ◌≡◌, ℕ, false, List, Some, refl, subst, ap, None}
+use Rattle.std.proofs.Common.{◌∙◌, ◌≡◌, ℕ, false, true, List, Some, refl, subst, ap, None}
 use Rattle.std.specs.Prelude.{◌++◌}
 use Rattle.jos_base.specs.declared.called.Called.{Called}
 use Rattle.jos_base.specs.declared.called.Called.TheVariants.{Answered, Ended}
@@ -20,6 +20,7 @@ use Rattle.lib_os.specs.LibrarySteps.{Stands, NothingRefused, service_answered}
 use Rattle.lib_os.specs.LibraryPages.{View}
 use Rattle.lib_os.specs.Places.{place_of, is_handlers}
 use Rattle.lib_os.specs.Rows.{Names}
+use Rattle.lib_os.specs.StandsInHandler.{hands_back}
 use Rattle.lib_os.specs.StandsFor.{StandsFor, StandsForBorn, StandsAtStep, IsIn, view_of, borne_in}
 use Rattle.lib_os.specs.UserCalls.{got, CallStep}
 use Rattle.jos_base.proofs.Maps.{upd-at, upd-twice}
@@ -39,6 +40,15 @@ service_in (memory.PageNew va flags) = service.PageNew va flags
 service_in (memory.PageDrop va) = service.PageDrop va
 service_in memory.Unknown = service.Unknown
 
+-- bytes are handed back to none of these services
+hands_nothing : (m : MemoryService) → hands_back (service_in m) ≡ true → ⊥
+hands_nothing (memory.Cputs va len) hands = let contradiction : false ≡ true = hands in cc
+hands_nothing memory.GetId hands = let contradiction : false ≡ true = hands in cc
+hands_nothing memory.Yield hands = let contradiction : false ≡ true = hands in cc
+hands_nothing (memory.PageNew va flags) hands = let contradiction : false ≡ true = hands in cc
+hands_nothing (memory.PageDrop va) hands = let contradiction : false ≡ true = hands in cc
+hands_nothing memory.Unknown hands = let contradiction : false ≡ true = hands in cc
+
 -- each of these services is one step
 own_in : (v : View) (k : Slot) (b : Born) (m : MemoryService) (t : Step) → StandsAtStep v k b (service_in m) t → IsIn k b (service_in m) entered
 own_in v k b (memory.Cputs va len) step.Entered h = h
@@ -47,6 +57,14 @@ own_in v k b memory.Yield step.Entered h = h
 own_in v k b (memory.PageNew va flags) step.Entered h = h
 own_in v k b (memory.PageDrop va) step.Entered h = h
 own_in v k b memory.Unknown step.Entered h = h
+own_in v k b m (step.CountingReply id) h = absurd (hands_nothing m h.hands)
+own_in v k b m (step.FileRegion done count) h = absurd (hands_nothing m h.hands)
+own_in v k b m (step.FileEntry done count) h = absurd (hands_nothing m h.0.hands)
+own_in v k b m (step.LoadingBytes done count) h = absurd (hands_nothing m h.has.hands)
+own_in v k b m (step.LoadingRest done count first) h = absurd (hands_nothing m h.has.hands)
+own_in v k b m (step.PuttingBytes done count word) h = absurd (hands_nothing m h.has.hands)
+own_in v k b m (step.FileFaulting done count) h = absurd (hands_nothing m h.0.hands)
+own_in v k b m (step.Returning answer) h = absurd (hands_nothing m h.hands)
 own_in v k b (memory.Cputs va len) _ h = absurd h
 own_in v k b memory.GetId _ h = absurd h
 own_in v k b memory.Yield _ h = absurd h

@@ -287,7 +287,6 @@ module _ {names : Names} {s : KernelState} {a : AbstractState} {sp : SpacesState
           free_slots = h.free_slots;
           first = h.first;
           server = server_same server_after (server_alike server_seen h.server);
-          consoles = h.consoles;
           input = h.input;
           last = h.last;
           turns = h.turns;

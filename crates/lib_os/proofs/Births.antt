@@ -382,7 +382,6 @@ module _ {names : Names} {s : KernelState} {a : AbstractState} (h : StandsFor na
     free_slots = h.free_slots;
     first = abstract_same 0 (born_not_first h n v.b v.is) not_first ∙ h.first;
     server = server_same first_same h.server;
-    consoles = h.consoles;
     input = h.input;
     last = h.last;
     turns = h.turns;

@@ -30,7 +30,7 @@ use Rattle.lib_os.specs.LibraryPages.{View, region_index}
 use Rattle.lib_os.specs.Places.{place_of, words_at}
 use Rattle.lib_os.specs.Rows.{EntryRow, IsUsers, Names, is_cow, is_shared, page_by, rows_of, seen_where}
 use Rattle.lib_os.specs.StandsFor.{IsTaking, IsTakingPath, StandsAtStep, StandsBefore, StandsFor, borne_in, refuses_next, view_of, writes_buffer}
-use Rattle.lib_os.specs.StandsInHandler.{IsDelivering, buffer_of, is_refused_by, next_page, wanted_of}
+use Rattle.lib_os.specs.StandsInHandler.{IsDelivering, buffer_of, is_refused_by, next_page, wanted_from}
 use Rattle.lib_os.specs.UserCalls.{load}
 use Rattle.lib_os.proofs.BytesRead.{users_inside}
 use Rattle.lib_os.proofs.DescriptorLooks.{read_goes_on}
@@ -186,23 +186,27 @@ next_inside so v k b (service.Stat fd va) done word h =
 next_inside so v k b (service.Write fd va len) done word h =
     let fewer = h.0.wants.fewer in
     let many = h.0.many in
-    buffer_each va (wanted_of len) (va + done) h.0.wants.given.buffer (omega arith) (omega (arith, fewer, many))
-next_inside so v k b (service.Remove path) done word h = follows_inside path done (taking_follows v k b path done h.0)
+    buffer_each va (wanted_from word len) (va + done) h.0.wants.given.buffer (omega arith) (omega (arith, fewer, many))
+next_inside so v k b (service.Remove path) done word h = follows_inside path done (taking_follows v k b (service.Remove path) done h.0)
+next_inside so v k b (service.OpenFile path mode) done word h =
+    follows_inside path done (taking_follows v k b (service.OpenFile path mode) done h.0)
 next_inside so v k b _ done word h = absurd h
 
 -- its address is as its sum says
 pub next_small : (va : ℕ) → is_inside va ≡ true → va % 2 ^ 32 ≡ va
 next_small va inside = let below = inside_below va inside in omega (arith, below)
 
--- The word that a step keeps: read's is the byte that it has, and the others' says nothing.
+-- The word that a step keeps: read's is the byte that it has, write's where its bytes begin in its page, and the others' says nothing.
 abbrev pub KeepsWord : Service → ℕ → ℕ → Type 0
 KeepsWord (service.Read fd va len) word to = to ≡ word
+KeepsWord (service.Write fd va len) word to = to ≡ word
 KeepsWord _ word to = Unit {0}
 
 -- as it moves bytes it goes on to its access
 abbrev pub moving_step : Service → ℕ → ℕ → Step
-moving_step (service.Write fd va len) done word = step.Gathering done
+moving_step (service.Write fd va len) done word = step.GatheringBytes done word
 moving_step (service.Remove path) done word = step.Gathering done
+moving_step (service.OpenFile path mode) done word = step.Gathering done
 moving_step _ done word = step.Delivering done word
 
 module _ (v : View) (k : Slot) (b : Born) (words : List ℕ) where
@@ -218,8 +222,8 @@ module _ (v : View) (k : Slot) (b : Born) (words : List ℕ) where
     small = h.small;
   }
 
-  taking_with : (fd va len done : ℕ) → IsTaking v k b fd va len done → IsTaking v (record k { extra = words }) b fd va len done
-  taking_with fd va len done h = record {
+  taking_too : (fd va len start done : ℕ) → IsTaking v k b fd va len start done → IsTaking v (record k { extra = words }) b fd va len start done
+  taking_too fd va len start done h = record {
     bytes = h.bytes;
     program = h.program;
     wants = h.wants;
@@ -229,8 +233,13 @@ module _ (v : View) (k : Slot) (b : Born) (words : List ℕ) where
     awake = h.awake;
   }
 
-  taking_path_with : (path done : ℕ) → IsTakingPath v k b path done → IsTakingPath v (record k { extra = words }) b path done
-  taking_path_with path done h = record {
+  taking_with : (fd va len start to done : ℕ) → to ≡ start → IsTaking v k b fd va len start done →
+      IsTaking v (record k { extra = words }) b fd va len to done
+  taking_with fd va len start to done same it = subst (λ (q : ℕ). IsTaking v (record k { extra = words }) b fd va len q done) (sym same)
+      (taking_too fd va len start done it)
+
+  taking_path_with : (s : Service) (done : ℕ) → IsTakingPath v k b s done → IsTakingPath v (record k { extra = words }) b s done
+  taking_path_with s done h = record {
     bytes = h.bytes;
     program = h.program;
     wants = h.wants;
@@ -249,8 +258,9 @@ module _ (v : View) (k : Slot) (b : Born) (words : List ℕ) where
     known,
   )
   before_with so so_after (service.Stat fd va) done word to same known h = (delivering_with (service.Stat fd va) _ _ _ h.0, known)
-  before_with so so_after (service.Write fd va len) done word to same known h = (taking_with fd va len done h.0, known)
-  before_with so so_after (service.Remove path) done word to same known h = (taking_path_with path done h.0, known)
+  before_with so so_after (service.Write fd va len) done word to same known h = (taking_with fd va len word to done same h.0, known)
+  before_with so so_after (service.Remove path) done word to same known h = (taking_path_with (service.Remove path) done h.0, known)
+  before_with so so_after (service.OpenFile path mode) done word to same known h = (taking_path_with (service.OpenFile path mode) done h.0, known)
   before_with so so_after _ done word to same known h = absurd h
 
   -- and goes on to its access where the page does not refuse it
@@ -262,9 +272,11 @@ module _ (v : View) (k : Slot) (b : Born) (words : List ℕ) where
     free,
   )
   moving_with so (service.Stat fd va) done word to same free h = (delivering_with (service.Stat fd va) _ _ _ h.0, free)
-  moving_with so (service.Write fd va len) done word to same free h = (taking_with fd va len done h.0, free)
+  moving_with so (service.Write fd va len) done word to same free h = (taking_with fd va len word to done same h.0, free)
   moving_with so (service.Remove path) done word to same free h =
-      gathers_path v (record k { extra = words }) b path done (taking_path_with path done h.0) free
+      gathers_path v (record k { extra = words }) b (service.Remove path) done (taking_path_with (service.Remove path) done h.0) free
+  moving_with so (service.OpenFile path mode) done word to same free h =
+      gathers_path v (record k { extra = words }) b (service.OpenFile path mode) done (taking_path_with (service.OpenFile path mode) done h.0) free
   moving_with so _ done word to same free h = absurd h
 
 module _ (so : Type 0) (v : View) (k : Slot) (b : Born) (done word : ℕ) where
@@ -274,6 +286,7 @@ module _ (so : Type 0) (v : View) (k : Slot) (b : Born) (done word : ℕ) where
   known_before (service.Stat fd va) h = h.1
   known_before (service.Write fd va len) h = h.1
   known_before (service.Remove path) h = h.1
+  known_before (service.OpenFile path mode) h = h.1
   known_before _ h = absurd h
 
   -- it bears no child, and keeps its page, if it has one, as it goes on
@@ -282,6 +295,7 @@ module _ (so : Type 0) (v : View) (k : Slot) (b : Born) (done word : ℕ) where
   unborne_before (service.Stat fd va) h at = refl
   unborne_before (service.Write fd va len) h at = refl
   unborne_before (service.Remove path) h at = refl
+  unborne_before (service.OpenFile path mode) h at = refl
   unborne_before _ h at = absurd h
 
   held_moving : (service : Service) → StandsBefore so v k b service done word → (to : ℕ) →
@@ -290,6 +304,7 @@ module _ (so : Type 0) (v : View) (k : Slot) (b : Born) (done word : ℕ) where
   held_moving (service.Stat fd va) h to = refl
   held_moving (service.Write fd va len) h to = refl
   held_moving (service.Remove path) h to = refl
+  held_moving (service.OpenFile path mode) h to = refl
   held_moving _ h to = absurd h
 
   held_entry : (service : Service) → StandsBefore so v k b service done word → (to : ℕ) →
@@ -298,6 +313,7 @@ module _ (so : Type 0) (v : View) (k : Slot) (b : Born) (done word : ℕ) where
   held_entry (service.Stat fd va) h to = refl
   held_entry (service.Write fd va len) h to = refl
   held_entry (service.Remove path) h to = refl
+  held_entry (service.OpenFile path mode) h to = refl
   held_entry _ h to = absurd h
 
   held_faulting : (service : Service) → StandsBefore so v k b service done word → (to : ℕ) →
@@ -307,6 +323,7 @@ module _ (so : Type 0) (v : View) (k : Slot) (b : Born) (done word : ℕ) where
   held_faulting (service.Stat fd va) h to = (refl, refl)
   held_faulting (service.Write fd va len) h to = (refl, refl)
   held_faulting (service.Remove path) h to = (refl, refl)
+  held_faulting (service.OpenFile path mode) h to = (refl, refl)
   held_faulting _ h to = absurd h
 
 -- ---- the two looks

@@ -1,7 +1,6 @@
 -- A program that asks for a service gets one that is built, or none.
 use Rattle.std.proofs.Common.{◌≡◌, ◌≢◌, ◌∙◌, ℕ, ◌==◌, ◌-◌, Bool, true, false, List, refl, sym, ap, arith, if◌then◌else◌}
 use Rattle.std.specs.Prelude.{get_or}
-use Rattle.std.proofs.lemmas.Bool.{false≢true}
 use Rattle.std.proofs.lemmas.Bool.Decides.{nat_tests}
 use Rattle.jos_base.specs.declared.registers.Regs.{Regs}
 use Rattle.lib_os.specs.declared.place.Place.{Place}
@@ -25,14 +24,11 @@ unfolding named_service
 built_of r built =
     by_built r.eax 0 _ _ (λ is. refl) (λ n0. by_built r.eax 1 _ _ (λ is. refl) (λ n1. by_built r.eax 2 _ _ (λ is. refl) (λ n2. by_built r.eax 3 _ _ (λ is. refl) (λ n3.
     by_built r.eax 4 _ _ (λ is. refl) (λ n4. by_built r.eax 5 _ _ (λ is. refl) (λ n5. by_built r.eax 6 _ _ (λ is. refl) (λ n6. by_built r.eax 7 _ _ (λ is. refl) (λ n7.
-    by_built r.eax 8 _ _ (λ is. refl) (λ n8. by_built r.eax 9 _ _ (λ is. refl) (λ n9. by_built r.eax 10 _ _ (λ is. absurd (unbuilt 10 refl is)) (λ n10.
+    by_built r.eax 8 _ _ (λ is. refl) (λ n8. by_built r.eax 9 _ _ (λ is. refl) (λ n9. by_built r.eax 10 _ _ (λ is. refl) (λ n10.
     by_built r.eax 11 _ _ (λ is. refl) (λ n11. by_built r.eax 12 _ _ (λ is. refl) (λ n12. by_built r.eax 13 _ _ (λ is. refl) (λ n13.
     by_built r.eax 14 _ _ (λ is. refl) (λ n14. by_built r.eax 15 _ _ (λ is. refl) (λ n15. by_built r.eax 16 _ _ (λ is. refl) (λ n16.
     by_built r.eax 17 _ _ (λ is. refl) (λ n17. by_built r.eax 18 _ _ (λ is. refl) (λ n18. by_built r.eax 19 _ _ (λ is. refl) (λ n19.
     let no_number : ⊥ = grind (arith, nat_tests) in absurd no_number))))))))))))))))))))
-  where
-    unbuilt : (k : ℕ) → is_built k ≡ false → r.eax ≢ k
-    unbuilt k none same = false≢true (sym none ∙ sym (ap is_built same) ∙ built)
 
 built_service : (r : Regs) → is_built_service (service_of r) ≡ true
 unfolding service_of

@@ -119,7 +119,7 @@ lets_next s d p va byte count lets =
           ap page_number next ∙ lets.page (suc i) (omega (arith, lt));
     }
 
-put_stands : {names : Names} (bytes : List ℕ) (s : KernelState) (a : AbstractState) → StandsFor names s a → (n : ℕ) (b : Born) → a.slots n ≡ born b →
+pub put_stands : {names : Names} (bytes : List ℕ) (s : KernelState) (a : AbstractState) → StandsFor names s a → (n : ℕ) (b : Born) → a.slots n ≡ born b →
     is_in_handler (place_of (slot_at s n)) ≡ false → borne_in (place_of (slot_at s n)) ≡ None → (p va : ℕ) → AreBytes bytes →
     LetsWrite s.spaces (slot_at s n).directory p va (length bytes) →
     IsPut names s (spaces_put s.spaces (slot_at s n).directory va bytes) a (all_stored a n va bytes) n b
@@ -153,11 +153,11 @@ put_stands {names} (byte ∷ rest) s a h n b at outside unborne p va small lets 
 
 -- ---- what the list has
 
-take_first : (l : List ℕ) → 1 ≤ length l → take 1 l ≡ slice_index l 0 ∷ []
+pub take_first : (l : List ℕ) → 1 ≤ length l → take 1 l ≡ slice_index l 0 ∷ []
 take_first [] some = absurd (omega (arith, some))
 take_first (first ∷ rest) some = refl
 
-take_four : (l : List ℕ) → 4 ≤ length l → take 4 l ≡ slice_index l 0 ∷ slice_index l 1 ∷ slice_index l 2 ∷ slice_index l 3 ∷ []
+pub take_four : (l : List ℕ) → 4 ≤ length l → take 4 l ≡ slice_index l 0 ∷ slice_index l 1 ∷ slice_index l 2 ∷ slice_index l 3 ∷ []
 take_four [] four = absurd (omega (arith, four))
 take_four (a ∷ []) four = absurd (omega (arith, four))
 take_four (a ∷ b ∷ []) four = absurd (omega (arith, four))
@@ -165,7 +165,7 @@ take_four (a ∷ b ∷ c ∷ []) four = absurd (omega (arith, four))
 take_four (a ∷ b ∷ c ∷ d ∷ rest) four = refl
 
 -- a part of a buffer behind some of its bytes
-buffer_behind : (va n c : ℕ) → is_buffer va n ≡ true → c ≤ n → is_buffer (va + c) (n - c) ≡ true
+pub buffer_behind : (va n c : ℕ) → is_buffer va n ≡ true → c ≤ n → is_buffer (va + c) (n - c) ≡ true
 unfolding in_fence
 buffer_behind va n c buffer few = grind (arith, nat_tests)
 

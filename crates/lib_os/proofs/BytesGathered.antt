@@ -22,21 +22,20 @@ use Rattle.lib_os.specs.declared.place.Step.TheVariants as step
 use Rattle.lib_os.specs.declared.service.Service.TheVariants as service
 use Rattle.lib_os.specs.AbstractMemory.{byte_at, page_allows, page_at}
 use Rattle.lib_os.specs.AbstractRun.{abs_step}
-use Rattle.lib_os.specs.AbstractState.{AbstractState, Born, gathering, in_service, terminal}
+use Rattle.lib_os.specs.AbstractState.{AbstractState, Born, gathering, in_service}
 use Rattle.lib_os.specs.Answers.{at_stage, bytes_from, moved_at_once}
-use Rattle.lib_os.specs.Descriptors.{object_of}
 use Rattle.lib_os.specs.Fence.{is_buffer, is_inside}
 use Rattle.lib_os.specs.LibraryCall.{library_step}
 use Rattle.lib_os.specs.LibraryPages.{View}
 use Rattle.lib_os.specs.Places.{place_of, words_at}
 use Rattle.lib_os.specs.Rows.{AreBytes, Names, rows_of}
 use Rattle.lib_os.specs.StandsFor.{IsKeeping, IsTaking, StandsAtStep, StandsFor, borne_in, refuses_next, view_of}
-use Rattle.lib_os.specs.StandsInHandler.{is_refused_by, stage_with, wanted_of}
+use Rattle.lib_os.specs.StandsInHandler.{is_refused_by, stage_with, wanted_from}
 use Rattle.lib_os.specs.UserCalls.{accessing, giving, load, load_byte, user_byte, user_word}
 use Rattle.lib_os.proofs.BufferAccesses.{IsMoved, byte_small, entry_lets, frame_whole, moved_is, reached_order, stage_stands}
 use Rattle.lib_os.proofs.BytesRead.{user_byte_is, user_entry_read}
 use Rattle.lib_os.proofs.DescriptorLooks.{loaded_view}
-use Rattle.lib_os.proofs.DeviceLooks.{names_console}
+use Rattle.lib_os.proofs.DeviceLooks.{IsWritten, begins_written}
 use Rattle.lib_os.proofs.Fences.{buffer_below, buffer_each, inside_number}
 use Rattle.lib_os.proofs.Loading.{loaded}
 use Rattle.lib_os.proofs.Logical.{is_plain}
@@ -82,28 +81,30 @@ one_from a b va = refl
 -- ---- the step of the abstract system
 
 -- the next bytes are taken
-write_more : (a : AbstractState) (n : ℕ) (b : Born) (regs : Regs) (fd va len : ℕ) → object_of a b fd ≡ Some terminal →
-    is_buffer va (wanted_of len) ≡ true → (bytes : List ℕ) → nat_lt (length bytes) (wanted_of len) ≡ true →
+write_more : (a : AbstractState) (n : ℕ) (b : Born) (regs : Regs) (fd va len start : ℕ) → (it : IsWritten a b fd len start) →
+    is_buffer va (wanted_from start len) ≡ true → (bytes : List ℕ) → nat_lt (length bytes) (wanted_from start len) ≡ true →
     page_allows (page_at b ((va + length bytes) % 2 ^ 32)) Read ≡ true →
     library_step a n b regs (service.Write fd va len) (stage_with bytes)
     ≡ Some (at_stage a n b (service.Write fd va len) (gathering (bytes ++ bytes_from a b ((va + length bytes) % 2 ^ 32)
-    (moved_at_once ((va + length bytes) % 2 ^ 32) (wanted_of len - length bytes)))))
+    (moved_at_once ((va + length bytes) % 2 ^ 32) (wanted_from start len - length bytes)))))
 unfolding library_step
-write_more a n b regs fd va len object buffer [] fewer may = rw (object, buffer, fewer, may) refl
-write_more a n b regs fd va len object buffer (byte ∷ rest) fewer may = rw (object, fewer, may) refl
+write_more a n b regs fd va len start it buffer [] fewer may =
+    let is = it.is in let reading = it.not_reading in let long = it.long in rw (is, reading, long, buffer, fewer, may) refl
+write_more a n b regs fd va len start it buffer (byte ∷ rest) fewer may =
+    let is = it.is in let long = it.long in rw (is, long, fewer, may) refl
 
 -- ---- the load
 
 -- write is about to load the next bytes
-module _ {names : Names} {s : KernelState} {a : AbstractState} (h : StandsFor names s a) (n fd va len done : ℕ)
-    (v : IsServed names s a n (service.Write fd va len) (step.Gathering done)) where
+module _ {names : Names} {s : KernelState} {a : AbstractState} (h : StandsFor names s a) (n fd va len start done : ℕ)
+    (v : IsServed names s a n (service.Write fd va len) (step.GatheringBytes done start)) where
   abbrev k : Slot
   k = slot_at s n
 
   abbrev d : ℕ
   d = k.directory
 
-  abbrev it : IsTaking (view_of s.spaces d) k v.b fd va len done
+  abbrev it : IsTaking (view_of s.spaces d) k v.b fd va len start done
   it = v.at.0
 
   -- those that it has taken
@@ -115,23 +116,23 @@ module _ {names : Names} {s : KernelState} {a : AbstractState} (h : StandsFor na
   next = (va + done) % 2 ^ 32
 
   abbrev pub moved : ℕ
-  moved = moved_at_once next (wanted_of len - done)
+  moved = moved_at_once next (wanted_from start len - done)
 
   -- and which
   abbrev pub taken : List ℕ
   taken = bytes_from a v.b next moved
 
-  fewer : done < wanted_of len
-  fewer = subst (λ (m : ℕ). m < wanted_of len) it.many it.wants.fewer
+  fewer : done < wanted_from start len
+  fewer = subst (λ (m : ℕ). m < wanted_from start len) it.many it.wants.fewer
 
-  lies : IsMoved next (wanted_of len - done) moved
-  lies = let more = fewer in moved_is next (wanted_of len - done) (omega (arith, more))
+  lies : IsMoved next (wanted_from start len - done) moved
+  lies = let more = fewer in moved_is next (wanted_from start len - done) (omega (arith, more))
 
   -- nothing wraps
-  next_is : (next ≡ va + done) × (va + wanted_of len < 2 ^ 32)
+  next_is : (next ≡ va + done) × (va + wanted_from start len < 2 ^ 32)
   next_is =
       let more = fewer in
-      let end = buffer_below va (wanted_of len) it.wants.given.buffer (omega (arith, more)) in
+      let end = buffer_below va (wanted_from start len) it.wants.given.buffer (omega (arith, more)) in
       (omega (arith, more, end), omega (arith, end))
 
   each_inside : (i : ℕ) → i < moved → is_inside (next + i) ≡ true
@@ -139,7 +140,7 @@ module _ {names : Names} {s : KernelState} {a : AbstractState} (h : StandsFor na
       let place = next_is.0 in
       let within = lies.within in
       let more = fewer in
-      buffer_each va (wanted_of len) (next + i) it.wants.given.buffer (omega (arith, place)) (omega (arith, place, within, lt, more))
+      buffer_each va (wanted_from start len) (next + i) it.wants.given.buffer (omega (arith, place)) (omega (arith, place, within, lt, more))
 
   first_inside : is_inside next ≡ true
   first_inside =
@@ -180,7 +181,7 @@ module _ {names : Names} {s : KernelState} {a : AbstractState} (h : StandsFor na
   gathered_word test =
       let four = lies.word test in
       let place = next_is in
-      let enough : done + 4 ≤ wanted_of len = (let within = lies.within in omega (arith, four, within)) in
+      let enough : done + 4 ≤ wanted_from start len = (let within = lies.within in omega (arith, four, within)) in
       let end = place.1 in
       let first : next + 0 ≡ next = omega arith in
       let zeroth : user_byte (loaded s n next) n next ≡ byte_at a v.b next =
@@ -212,18 +213,18 @@ module _ {names : Names} {s : KernelState} {a : AbstractState} (h : StandsFor na
   plain : is_plain (place_of k) ≡ true
   plain = ap is_plain v.place
 
-  console : object_of a v.b fd ≡ Some terminal
-  console = names_console h n v.b v.is (ap borne_in v.place) fd it.wants.given.below it.wants.given.console
+  written : IsWritten a v.b fd len start
+  written = begins_written h n v.b v.is (ap borne_in v.place) fd len start it.wants.given.below it.wants.given.begins
 
   pub gathered_step : abs_step a n ≡ Some gathered
   gathered_step =
       let more = fewer in
-      let fewer_too : nat_lt (length it.bytes) (wanted_of len) ≡ true = (let many = it.many in grind (arith, nat_tests)) in
+      let fewer_too : nat_lt (length it.bytes) (wanted_from start len) ≡ true = (let many = it.many in grind (arith, nat_tests)) in
       service_step a n v.b k.registers (service.Write fd va len) (stage_with it.bytes) v.is it.program it.wants.phase it.awake
-      ∙ write_more a n v.b k.registers fd va len console it.wants.given.buffer it.bytes fewer_too
+      ∙ write_more a n v.b k.registers fd va len start written it.wants.given.buffer it.bytes fewer_too
       (ap (λ (m : ℕ). page_allows (page_at v.b ((va + m) % 2 ^ 32)) Read) it.many ∙ page_read)
       ∙ ap (λ (m : ℕ). Some (at_stage a n v.b (service.Write fd va len) (gathering (it.bytes ++ bytes_from a v.b ((va + m) % 2 ^ 32)
-      (moved_at_once ((va + m) % 2 ^ 32) (wanted_of len - m)))))) it.many
+      (moved_at_once ((va + m) % 2 ^ 32) (wanted_from start len - m)))))) it.many
 
   -- each of those that it had is a byte
   before_small : AreBytes it.bytes
@@ -234,7 +235,7 @@ module _ {names : Names} {s : KernelState} {a : AbstractState} (h : StandsFor na
           let many = it.many in
           let low : i < done = grind (arith, nat_tests) in
           let page = frame_whole h n v.b v.is (page_number UTEMP) it.kept.entry it.kept.stands in
-          subst (λ (byte : ℕ). byte < 256) (it.kept.same i low) (page.small i)
+          subst (λ (byte : ℕ). byte < 256) (it.kept.same i low) (page.small (start + i))
       by_place false test =
           let none : slice_index it.bytes i ≡ 0 = get_or_past it.bytes i 0 (grind (arith, nat_tests)) in
           omega (arith, none)
@@ -258,11 +259,11 @@ module _ {names : Names} {s : KernelState} {a : AbstractState} (h : StandsFor na
       ∙ ap (λ (q : ℕ). is_refused_by false (rows_of s.spaces d (page_number q))) next_is.0 ∙ v.at.1
 
   abbrev told : ℕ → Slot
-  told word = record k { extra = words_at SERVICE_WRITE (step.Keeping done word moved) }
+  told word = record k { extra = words_at SERVICE_WRITE (step.KeepingBytes done word moved start) }
 
   keeping : (word : ℕ) → take moved (to_le_bytes w32 word) ≡ taken →
       IsKeeping (view_of s.spaces d) (told word)
-      (record v.b { phase = in_service (service.Write fd va len) (gathering (it.bytes ++ taken)) }) fd va len done word moved
+      (record v.b { phase = in_service (service.Write fd va len) (gathering (it.bytes ++ taken)) }) fd va len start done word moved
   keeping word is =
       let all = length-append it.bytes taken in
       let those = from_length a v.b next moved in
@@ -289,15 +290,15 @@ module _ {names : Names} {s : KernelState} {a : AbstractState} (h : StandsFor na
       }
 
   gathered_stands : (word : ℕ) → take moved (to_le_bytes w32 word) ≡ taken →
-      StandsFor names (with_extra (loaded s n next) n (words_at SERVICE_WRITE (step.Keeping done word moved))) gathered
+      StandsFor names (with_extra (loaded s n next) n (words_at SERVICE_WRITE (step.KeepingBytes done word moved start))) gathered
   gathered_stands word is =
-      stage_stands loaded_stands n SERVICE_WRITE v.b v.is v.outside (ap borne_in v.place) (service.Write fd va len) (step.Keeping done word moved)
-      (gathering (it.bytes ++ taken)) (ap holds_page v.place) refl (named_at k (service.Write fd va len) (step.Gathering done) v.place)
+      stage_stands loaded_stands n SERVICE_WRITE v.b v.is v.outside (ap borne_in v.place) (service.Write fd va len) (step.KeepingBytes done word moved start)
+      (gathering (it.bytes ++ taken)) (ap holds_page v.place) refl (named_at k (service.Write fd va len) (step.GatheringBytes done start) v.place)
       (subst (λ (w : View). StandsAtStep w (told word) (record v.b { phase = in_service (service.Write fd va len) (gathering (it.bytes ++ taken)) })
-      (service.Write fd va len) (step.Keeping done word moved)) (sym (loaded_view s n next d)) (keeping word is))
+      (service.Write fd va len) (step.KeepingBytes done word moved start)) (sym (loaded_view s n next d)) (keeping word is))
 
   pub gathered_word_stands : (moved == 4) ≡ true →
-      StandsFor names (with_extra (loaded s n next) n (words_at SERVICE_WRITE (step.Keeping done (from_le_bytes w32 taken) moved))) gathered
+      StandsFor names (with_extra (loaded s n next) n (words_at SERVICE_WRITE (step.KeepingBytes done (from_le_bytes w32 taken) moved start))) gathered
   gathered_word_stands test =
       let four = lies.word test in
       gathered_stands (from_le_bytes w32 taken)
@@ -305,7 +306,7 @@ module _ {names : Names} {s : KernelState} {a : AbstractState} (h : StandsFor na
       ∙ le_bytes_4 taken (from_le_bytes w32 taken) (from_length a v.b next moved ∙ four) taken_small refl)
 
   pub gathered_byte_stands : (moved == 4) ≡ false →
-      StandsFor names (with_extra (loaded s n next) n (words_at SERVICE_WRITE (step.Keeping done (byte_at a v.b next) moved))) gathered
+      StandsFor names (with_extra (loaded s n next) n (words_at SERVICE_WRITE (step.KeepingBytes done (byte_at a v.b next) moved start))) gathered
   gathered_byte_stands test =
       let one = lies.byte test in
       let first : next + 0 ≡ next = omega arith in

@@ -20,7 +20,7 @@ use Rattle.jos_base.specs.SpacesState.{SpacesState}
 use Rattle.jos_base.specs.SystemCalls.{handled, has_write, is_page_perm}
 use Rattle.jos_base.specs.UserMemory.{reach_in, touched}
 use Rattle.jos_base.specs.Words.{page_number, upd}
-use Rattle.lib_os.specs.declared.numbers.TheConstants.{SERVICE_WRITE, TRANSFER_MAX}
+use Rattle.lib_os.specs.declared.numbers.TheConstants.{REQUEST_BYTES, SERVICE_WRITE}
 use Rattle.lib_os.specs.declared.place.Place.{Place}
 use Rattle.lib_os.specs.declared.place.Place.TheVariants as place
 use Rattle.lib_os.specs.declared.place.Step.{Step}
@@ -29,16 +29,18 @@ use Rattle.lib_os.specs.declared.service.Service.{Service}
 use Rattle.lib_os.specs.declared.service.Service.TheVariants as service
 use Rattle.lib_os.specs.AbstractState.{AbstractSlot, AbstractState, Born, born, free, gathering, in_service, serving, unborn}
 use Rattle.lib_os.specs.AbstractState.{is_live as is_live_abstract}
-use Rattle.lib_os.specs.DescriptorPages.{device_of, place_page}
-use Rattle.lib_os.specs.Fence.{in_fence}
+use Rattle.lib_os.specs.DescriptorPages.{lasting_words, place_page}
+use Rattle.lib_os.specs.Fence.{in_fence, is_buffer}
 use Rattle.lib_os.specs.InOrder.{IsInOrder}
-use Rattle.lib_os.specs.LibraryPages.{LibraryPages, IsOwnWritable, keeps_page}
+use Rattle.lib_os.specs.LibraryPages.{LibraryPages, IsOwnWritable, View, keeps_page, HasTaken}
 use Rattle.lib_os.specs.Places.{place_of, words_at}
 use Rattle.lib_os.specs.Rows.{EntryRow, Names, Rows, AreBytes, IsPage, rows_of, logical, page_seen, seen_where, shown_at}
 use Rattle.lib_os.specs.Rows.{is_clients, is_descriptor, is_programs, is_shared}
 use Rattle.lib_os.specs.StandsFor.{HasChildren, HasServer, StandsForSlot, things_in}
-use Rattle.lib_os.specs.StandsFor.{StandsFor, StandsForBorn, StandsAt, StandsAtStep, view_of, HasTaken, IsKeeping, IsTaking, borne_in, refuses_next}
-use Rattle.lib_os.specs.StandsInHandler.{IsGiven, is_refused_by, stage_with, wanted_of}
+use Rattle.lib_os.specs.StandsFor.{StandsFor, StandsForBorn, StandsAt, StandsAtStep, view_of, HasTakenFrom, IsKeeping, IsTaking, borne_in}
+use Rattle.lib_os.specs.StandsFor.{refuses_next}
+use Rattle.lib_os.specs.StandsInHandler.{BeginsAt, IsConsoleOpen, IsGivenBytes, IsWritableFile, in_file, is_refused_by, on_console, stage_with}
+use Rattle.lib_os.specs.StandsInHandler.{wanted_from}
 use Rattle.lib_os.specs.UserCalls.{CallStep, got, to_handler, gone, giving, accessing, by_access, faulting, load_byte, store, store_byte, user_byte}
 use Rattle.lib_os.specs.UserCalls.{with_bytes_put}
 use Rattle.lib_os.proofs.BytesPut.{bytes_put, put_whole, put_before, put_there, spaces_put, put_is, page_put, reached_to_write}
@@ -55,7 +57,7 @@ use Rattle.lib_os.proofs.Logical.{is_plain, logical_alike, logical_plain}
 use Rattle.lib_os.proofs.Numbered.{named_at}
 use Rattle.lib_os.proofs.PageBytes.{bytes_more, bytes_none, word_bytes}
 use Rattle.lib_os.proofs.Serving.{IsServed, holds_page, served}
-use Rattle.lib_os.proofs.SlotsStand.{SameDevices, SeenAlike, born_at, descriptors_off, given_kept, library_alike, live_stands, slot_stands}
+use Rattle.lib_os.proofs.SlotsStand.{SameDevices, SeenAlike, born_at, descriptors_off, given_bytes_kept, library_alike, live_stands, slot_stands}
 use Rattle.lib_os.proofs.StatesStand.{clients_live, directories_apart}
 use Rattle.lib_os.proofs.Touching.{touched_quiet}
 use Rattle.jos_base.proofs.Maps.{upd-at, upd-other}
@@ -105,7 +107,7 @@ module _ {names : Names} {s : KernelState} {a : AbstractState} {sp : SpacesState
 
   pub rewritten_devices : SameDevices (view_of s.spaces d) (view_of sp d)
   rewritten_devices q x descriptor hx =
-      ap device_of
+      ap lasting_words
       (own_beside q x (λ same. let contradiction : true ≡ false = sym descriptor ∙ ap is_descriptor same ∙ other in cc) hx)
 
   -- nothing that is seen of other clients' spaces differs; the file server may have the frame
@@ -114,7 +116,7 @@ module _ {names : Names} {s : KernelState} {a : AbstractState} {sp : SpacesState
     rows = ap (λ (rows : Rows). rows q) rewritten.rows;
     bytes = λ r x hx own_too. elsewhere r x hx;
     named_so = λ r x hx shared_page. refl;
-    devices = λ r x descriptor hx shared_page. ap device_of (elsewhere r x hx);
+    devices = λ r x descriptor hx shared_page. ap lasting_words (elsewhere r x hx);
     regions = rewritten.regions q;
   }
     where
@@ -244,7 +246,6 @@ module _ {names : Names} {s : KernelState} {a : AbstractState} {sp : SpacesState
     free_slots = h.free_slots;
     first = h.first;
     server = server_so;
-    consoles = h.consoles;
     input = h.input;
     last = h.last;
     turns = h.turns;
@@ -459,6 +460,34 @@ more_there page bytes put done fits first next i lt = by_place (nat_lt i done) r
         subst (λ (j : ℕ). slice_index (bytes_put page done put) j ≡ slice_index bytes j) (sym place)
         (put_there page done put (i - done) lower fits ∙ next (i - done) lower)
 
+-- The same from another place in the page on.
+more_from : (page bytes put : List ℕ) (start done : ℕ) → start + done + length put ≤ length page →
+    ((i : ℕ) → i < done → slice_index page (start + i) ≡ slice_index bytes i) →
+    ((i : ℕ) → i < length put → slice_index put i ≡ slice_index bytes (done + i)) →
+    (i : ℕ) → i < done + length put → slice_index (bytes_put page (start + done) put) (start + i) ≡ slice_index bytes i
+more_from page bytes put start done fits first next i lt = by_place (nat_lt i done) refl
+  where
+    by_place : (c : Bool) → nat_lt i done ≡ c → slice_index (bytes_put page (start + done) put) (start + i) ≡ slice_index bytes i
+    by_place true test =
+        let before : i < done = grind (arith, nat_tests) in
+        put_before page (start + done) put (start + i) (omega (arith, before)) ∙ first i before
+    by_place false test =
+        let later : done ≤ i = grind (arith, nat_tests) in
+        let place : start + i ≡ start + done + (i - done) = omega (arith, later) in
+        let same : i ≡ done + (i - done) = omega (arith, later) in
+        let lower : i - done < length put = omega (arith, lt, later) in
+        ap (slice_index (bytes_put page (start + done) put)) place
+        ∙ put_there page (start + done) put (i - done) lower fits ∙ next (i - done) lower ∙ sym (ap (slice_index bytes) same)
+
+-- They begin at its beginning.
+from_start : (w : View) (bytes : List ℕ) (n : ℕ) → HasTakenFrom w 0 bytes n → HasTaken w bytes n
+from_start w bytes n h = record {
+  entry = h.entry;
+  stands = h.stands;
+  own_page = h.own_page;
+  same = λ i lt. let same : i ≡ 0 + i = omega arith in ap (slice_index (w.bytes h.entry.frame)) same ∙ h.same i lt;
+}
+
 -- ---- what write keeps, and where it goes on
 
 -- how many of the bytes that are left of a word are put into the page at once
@@ -482,25 +511,33 @@ keeping_slots s n done word left x = by_kept (kept_at_once done left == 4)
     by_kept true is = store_slots s n (UTEMP + done % PGSIZE) word x is
     by_kept false is = store_byte_slots s n (UTEMP + done % PGSIZE) (word % 256) x is
 
--- its page has so many bytes; at the next page of the buffer it looks at that
-abbrev pub step_behind : ℕ → ℕ → ℕ → Step
-step_behind va len done =
-    if nat_le (wanted_of len) done then step.Printing
-    else if (va + done) % 2 ^ 32 % PGSIZE == 0 then step.BufferRegion done 0
-    else step.Gathering done
+-- its page has all bytes
+abbrev pub step_with_all : ℕ → Step
+step_with_all start = if start == 0 then step.Printing else step.ReadingNumber
 
-abbrev pub step_behind_keeping : ℕ → ℕ → ℕ → ℕ → ℕ → Step
-step_behind_keeping va len done word left =
-    let kept = kept_at_once done left in
+-- its page has so many bytes; at the next page of the buffer it looks at that
+abbrev pub step_behind : ℕ → ℕ → ℕ → ℕ → Step
+step_behind va len start done =
+    if nat_le (wanted_from start len) done then step_with_all start
+    else if (va + done) % 2 ^ 32 % PGSIZE == 0 then step.BufferRegion done start
+    else step.GatheringBytes done start
+
+-- where the next byte is put in its page
+abbrev pub place_in : ℕ → ℕ → ℕ
+place_in start done = (start + done) % 2 ^ 32
+
+abbrev pub step_behind_keeping : ℕ → ℕ → ℕ → ℕ → ℕ → ℕ → Step
+step_behind_keeping va len start done word left =
+    let kept = kept_at_once (place_in start done) left in
     let behind = (done + kept) % 2 ^ 32 in
-    if nat_le left kept then step_behind va len behind else step.Keeping behind (word / 256) (left - kept)
+    if nat_le left kept then step_behind va len start behind else step.KeepingBytes behind (word / 256) (left - kept) start
 
 -- What it comes to: the store gives nothing, and the state behind it stands for the same abstract one at the next step.
-pub record IsKept (names : Names) (s : KernelState) (a : AbstractState) (n va len done word left : ℕ) : Type 0 where
+pub record IsKept (names : Names) (s : KernelState) (a : AbstractState) (n va len start done word left : ℕ) : Type 0 where
   pub spaces : SpacesState
-  pub step_is : keeping s n done word left ≡ giving (with_spaces s spaces) tt
+  pub step_is : keeping s n (place_in start done) word left ≡ giving (with_spaces s spaces) tt
   pub stands : IsInOrder (with_spaces s spaces) →
-      StandsFor names (with_extra (with_spaces s spaces) n (words_at SERVICE_WRITE (step_behind_keeping va len done word left))) a
+      StandsFor names (with_extra (with_spaces s spaces) n (words_at SERVICE_WRITE (step_behind_keeping va len start done word left))) a
 
 -- ---- the page of write
 
@@ -519,8 +556,8 @@ pub working_below : working_page < page_limit
 unfolding page_limit
 working_below = omega arith
 
-module _ {names : Names} {s : KernelState} {a : AbstractState} (h : StandsFor names s a) (n fd va len done word left : ℕ)
-    (stands : place_of (slot_at s n) ≡ place.InService (service.Write fd va len) (step.Keeping done word left)) where
+module _ {names : Names} {s : KernelState} {a : AbstractState} (h : StandsFor names s a) (n fd va len start done word left : ℕ)
+    (stands : place_of (slot_at s n) ≡ place.InService (service.Write fd va len) (step.KeepingBytes done word left start)) where
   abbrev home : ℕ
   home = (slot_at s n).directory
 
@@ -530,15 +567,15 @@ module _ {names : Names} {s : KernelState} {a : AbstractState} (h : StandsFor na
   abbrev row : EntryRow
   row = rows_of s.spaces home
 
-  abbrev v : IsServed names s a n (service.Write fd va len) (step.Keeping done word left)
-  v = served h n (service.Write fd va len) (step.Keeping done word left) stands
+  abbrev v : IsServed names s a n (service.Write fd va len) (step.KeepingBytes done word left start)
+  v = served h n (service.Write fd va len) (step.KeepingBytes done word left start) stands
 
-  it : IsKeeping (view_of s.spaces home) (slot_at s n) v.b fd va len done word left
+  it : IsKeeping (view_of s.spaces home) (slot_at s n) v.b fd va len start done word left
   it = v.at
 
   page : IsOwnWritable (rows_of s.spaces home) working_page
   page =
-      let library : LibraryPages (place.InService writing (step.Keeping done word left)) (slot_at s n).extra row =
+      let library : LibraryPages (place.InService writing (step.KeepingBytes done word left start)) (slot_at s n).extra row =
       subst (λ (q : Place). LibraryPages q (slot_at s n).extra row) stands v.own.library in
       library.working refl
 
@@ -548,53 +585,73 @@ module _ {names : Names} {s : KernelState} {a : AbstractState} (h : StandsFor na
   page_whole : IsPage (s.spaces.pages page.entry.frame)
   page_whole = h.whole n working_page page.entry page_counts
 
-  few : done + left ≤ 4096
-  few = let most = min-le_right len TRANSFER_MAX in let less = it.few in let many = it.many in omega (arith, most, less, many)
+  -- its bytes begin in the page, and end there
+  begins : start ≤ 4096
+  begins = by_start it.given.begins
+    where
+      by_start : BeginsAt (view_of s.spaces home) fd start → start ≤ 4096
+      by_start (on_console is console) = omega (arith, is)
+      by_start (in_file is file) = omega (arith, is)
+
+  few : start + done + left ≤ 4096
+  few =
+      let from = begins in
+      let most = min-le_right len (PGSIZE - start) in
+      let less = it.few in
+      let many = it.many in
+      omega (arith, from, most, less, many)
+
+  -- where the next byte is put
+  abbrev at_place : ℕ
+  at_place = place_in start done
+
+  at_is : place_in start done ≡ start + done
+  at_is = let all = few in omega (arith, all)
 
   -- so many bytes are put there, which are the next of those that were taken
   module _ (kept : ℕ) (put : List ℕ) (some : 0 < kept) (most : kept ≤ left) (long : length put ≡ kept) (small : AreBytes put)
       (next : (i : ℕ) → i < length put → slice_index put i ≡ slice_index it.bytes (done + i))
       (rest : kept < left → take (left - kept) (to_le_bytes w32 (word / 256)) ≡ drop (done + kept) it.bytes)
-      (call : CallStep (Unit {0})) (puts : PutsBytes s n page.entry done put call) (order : IsInOrder (with_spaces s puts.spaces)) where
+      (call : CallStep (Unit {0})) (puts : PutsBytes s n page.entry (start + done) put call) (order : IsInOrder (with_spaces s puts.spaces)) where
     abbrev sp : SpacesState
     sp = puts.spaces
 
     abbrev now : List ℕ
-    now = bytes_put (s.spaces.pages page.entry.frame) done put
+    now = bytes_put (s.spaces.pages page.entry.frame) (start + done) put
 
     row_same : rows_of sp home ≡ row
     row_same = ap (λ (rows : Rows). rows home) puts.rewritten.rows
 
     now_whole : IsPage now
-    now_whole = put_whole (s.spaces.pages page.entry.frame) done put small page_whole
+    now_whole = put_whole (s.spaces.pages page.entry.frame) (start + done) put small page_whole
 
     now_is : sp.pages page.entry.frame ≡ now
     now_is =
         ap (λ (pages : ℕ → List ℕ). pages page.entry.frame) puts.rewritten.pages ∙ upd-at s.spaces.pages page.entry.frame now
 
-    before_there : (i : ℕ) → i < done → slice_index (s.spaces.pages page.entry.frame) i ≡ slice_index it.bytes i
+    before_there : (i : ℕ) → i < done → slice_index (s.spaces.pages page.entry.frame) (start + i) ≡ slice_index it.bytes i
     before_there i lt =
         let same : it.kept.entry ≡ page.entry = same_Some it.kept.entry page.entry (sym it.kept.stands ∙ page.stands) in
-        (λ j. slice_index (s.spaces.pages (sym same j).frame) i) ∙ it.kept.same i lt
+        (λ j. slice_index (s.spaces.pages (sym same j).frame) (start + i)) ∙ it.kept.same i lt
 
-    all_there : (i : ℕ) → i < done + kept → slice_index now i ≡ slice_index it.bytes i
+    all_there : (i : ℕ) → i < done + kept → slice_index now (start + i) ≡ slice_index it.bytes i
     all_there i lt =
-        more_there (s.spaces.pages page.entry.frame) it.bytes put done
+        more_from (s.spaces.pages page.entry.frame) it.bytes put start done
         (let whole = page_whole.long in let all = few in omega (arith, whole, all, long, most)) before_there next i (omega (arith, lt, long))
 
-    taken : (m : ℕ) → m ≤ done + kept → HasTaken (view_of sp home) it.bytes m
+    taken : (m : ℕ) → m ≤ done + kept → HasTakenFrom (view_of sp home) start it.bytes m
     taken m most = record {
       entry = page.entry;
       stands = ap (λ (r : EntryRow). r working_page) row_same ∙ page.stands;
       own_page = page.own_page;
-      same = λ i lt. ap (λ (l : List ℕ). slice_index l i) now_is ∙ all_there i (omega (arith, lt, most));
+      same = λ i lt. ap (λ (l : List ℕ). slice_index l (start + i)) now_is ∙ all_there i (omega (arith, lt, most));
     }
 
-    given : IsGiven (view_of sp home) fd va len
+    given : IsGivenBytes (view_of sp home) fd va len start
     given =
-        given_kept (view_of s.spaces home) (view_of sp home) row_same
+        given_bytes_kept (view_of s.spaces home) (view_of sp home) row_same
         (rewritten_devices h n v.b v.is (ap is_plain stands) working_page working_outside working_no_descriptor page.entry page.stands page.own_page
-        page.writes now now_whole puts.rewritten order) fd va len it.given
+        page.writes now now_whole puts.rewritten order) fd va len start it.given
 
     -- behind the store the same is so, with more bytes in the page
     still : StandsFor names (with_spaces s sp) a
@@ -620,7 +677,7 @@ module _ {names : Names} {s : KernelState} {a : AbstractState} (h : StandsFor na
         StandsFor names (with_extra (with_spaces s sp) n (words_at SERVICE_WRITE to)) a
     goes_on to keeps so =
         words_stand still n SERVICE_WRITE v.b v.is (born_at still n v.b v.is) v.outside (ap borne_in stands) writing to
-        (ap holds_page stands ∙ sym keeps) refl (named_at (slot_at s n) writing (step.Keeping done word left) stands) so
+        (ap holds_page stands ∙ sym keeps) refl (named_at (slot_at s n) writing (step.KeepingBytes done word left start) stands) so
 
     -- ---- all bytes of the word are kept
 
@@ -628,8 +685,15 @@ module _ {names : Names} {s : KernelState} {a : AbstractState} (h : StandsFor na
       whole : length it.bytes ≡ done + kept
       whole = let many = it.many in omega (arith, many, all, most)
 
-      taking : (words : List ℕ) → length it.bytes < wanted_of len →
-          IsTaking (view_of sp home) (record (slot_at s n) { extra = words }) v.b fd va len (length it.bytes)
+      gathered : 0 < length it.bytes
+      gathered = omega (arith, whole, some)
+
+      staged : (bytes : List ℕ) → 0 < length bytes → stage_with bytes ≡ gathering bytes
+      staged [] none = absurd (omega (arith, none))
+      staged (byte ∷ rest) more = refl
+
+      taking : (words : List ℕ) → length it.bytes < wanted_from start len →
+          IsTaking (view_of sp home) (record (slot_at s n) { extra = words }) v.b fd va len start (length it.bytes)
       taking words fewer = record {
         bytes = it.bytes;
         program = it.is_in.program;
@@ -643,19 +707,12 @@ module _ {names : Names} {s : KernelState} {a : AbstractState} (h : StandsFor na
         silent = it.is_in.silent;
         awake = it.is_in.awake;
       }
-        where
-          gathered : 0 < length it.bytes
-          gathered = omega (arith, whole, some)
-
-          staged : (bytes : List ℕ) → 0 < length bytes → stage_with bytes ≡ gathering bytes
-          staged [] none = absurd (omega (arith, none))
-          staged (byte ∷ rest) more = refl
 
       -- the next byte lies in the page of the last, but where it begins another
-      next_allowed : length it.bytes < wanted_of len → ((va + length it.bytes) % 2 ^ 32 % PGSIZE == 0) ≡ false →
+      next_allowed : length it.bytes < wanted_from start len → ((va + length it.bytes) % 2 ^ 32 % PGSIZE == 0) ≡ false →
           refuses_next (rows_of sp home) writing (length it.bytes) ≡ false
       next_allowed fewer test =
-          let inside = buffer_below va (wanted_of len) it.given.buffer (omega (arith, fewer)) in
+          let inside = buffer_below va (wanted_from start len) it.given.buffer (omega (arith, fewer)) in
           let many = it.many in
           let later : (va + length it.bytes) % 2 ^ 32 % 4096 ≢ 0 = grind (arith, nat_tests) in
           let same : page_number (va + length it.bytes) ≡ page_number (va + (done + left - 1)) =
@@ -663,41 +720,87 @@ module _ {names : Names} {s : KernelState} {a : AbstractState} (h : StandsFor na
           ap (λ (r : EntryRow). is_refused_by false (r (page_number (va + length it.bytes)))) row_same
           ∙ ap (λ (p : ℕ). is_refused_by false (row p)) same ∙ it.allowed
 
-      goes_behind : StandsFor names (with_extra (with_spaces s sp) n (words_at SERVICE_WRITE (step_behind va len (length it.bytes)))) a
-      goes_behind = by_wanted (nat_le (wanted_of len) (length it.bytes)) refl
+      -- it has all that it takes: it prints them, or asks the file server
+      with_all : length it.bytes ≡ wanted_from start len →
+          StandsFor names (with_extra (with_spaces s sp) n (words_at SERVICE_WRITE (step_with_all start))) a
+      with_all all_bytes = by_start given.begins
         where
-          by_page : length it.bytes < wanted_of len → (c : Bool) → ((va + length it.bytes) % 2 ^ 32 % PGSIZE == 0) ≡ c →
-              StandsFor names (with_extra (with_spaces s sp) n
-              (words_at SERVICE_WRITE (if c then step.BufferRegion (length it.bytes) 0 else step.Gathering (length it.bytes)))) a
-          by_page fewer true test =
-              goes_on (step.BufferRegion (length it.bytes) 0) refl
-              (taking (words_at SERVICE_WRITE (step.BufferRegion (length it.bytes) 0)) fewer, tt)
-          by_page fewer false test =
-              goes_on (step.Gathering (length it.bytes)) refl
-              (taking (words_at SERVICE_WRITE (step.Gathering (length it.bytes))) fewer, next_allowed fewer test)
-
-          by_wanted : (c : Bool) → nat_le (wanted_of len) (length it.bytes) ≡ c →
-              StandsFor names (with_extra (with_spaces s sp) n (words_at SERVICE_WRITE (if c then step.Printing
-              else if (va + length it.bytes) % 2 ^ 32 % PGSIZE == 0 then step.BufferRegion (length it.bytes) 0
-              else step.Gathering (length it.bytes)))) a
-          by_wanted true test =
-              let reached : wanted_of len ≤ length it.bytes = grind (arith, nat_tests) in
-              let at_most = it.few in
+          prints : start ≡ 0 → IsConsoleOpen (view_of sp home) fd →
+              StandsFor names (with_extra (with_spaces s sp) n (words_at SERVICE_WRITE step.Printing)) a
+          prints from console =
               goes_on step.Printing refl (record {
                 bytes = it.bytes;
                 is_in = record { program = it.is_in.program; phase = it.is_in.phase; silent = it.is_in.silent; awake = it.is_in.awake };
-                given = given;
-                many = omega (arith, reached, at_most);
-                kept = taken (length it.bytes) (omega (arith, whole));
+                given = record {
+                  below = given.below;
+                  console = console;
+                  buffer = subst (λ (q : ℕ). is_buffer va (wanted_from q len) ≡ true) from given.buffer;
+                };
+                many = all_bytes ∙ ap (λ (q : ℕ). wanted_from q len) from;
+                kept = from_start (view_of sp home) it.bytes (length it.bytes)
+                    (subst (λ (q : ℕ). HasTakenFrom (view_of sp home) q it.bytes (length it.bytes)) from
+                    (taken (length it.bytes) (omega (arith, whole))));
               })
+
+          asks_file : start ≡ REQUEST_BYTES → IsWritableFile (view_of sp home) fd →
+              StandsFor names (with_extra (with_spaces s sp) n (words_at SERVICE_WRITE step.ReadingNumber)) a
+          asks_file from it_is =
+              goes_on step.ReadingNumber refl (record {
+                stage = gathering it.bytes;
+                of_file = record {
+                  is_in = record { program = it.is_in.program; phase = it.is_in.phase; silent = it.is_in.silent; awake = it.is_in.awake };
+                  below = given.below;
+                  file = it_is.file;
+                };
+                allowed = it_is.writable;
+                has = record {
+                  bytes = it.bytes;
+                  stage_is = sym (staged it.bytes gathered);
+                  buffer = subst (λ (q : ℕ). is_buffer va (wanted_from q len) ≡ true) from given.buffer;
+                  many = all_bytes ∙ ap (λ (q : ℕ). wanted_from q len) from;
+                  kept = subst (λ (q : ℕ). HasTakenFrom (view_of sp home) q it.bytes (length it.bytes)) from
+                      (taken (length it.bytes) (omega (arith, whole)));
+                };
+              })
+
+          by_start : BeginsAt (view_of sp home) fd start →
+              StandsFor names (with_extra (with_spaces s sp) n (words_at SERVICE_WRITE (step_with_all start))) a
+          by_start (on_console from console) =
+              subst (λ (q : ℕ). StandsFor names (with_extra (with_spaces s sp) n (words_at SERVICE_WRITE (step_with_all q))) a) (sym from)
+              (prints from console)
+          by_start (in_file from it_is) =
+              subst (λ (q : ℕ). StandsFor names (with_extra (with_spaces s sp) n (words_at SERVICE_WRITE (step_with_all q))) a) (sym from)
+              (asks_file from it_is)
+
+      goes_behind : StandsFor names (with_extra (with_spaces s sp) n (words_at SERVICE_WRITE (step_behind va len start (length it.bytes)))) a
+      goes_behind = by_wanted (nat_le (wanted_from start len) (length it.bytes)) refl
+        where
+          by_page : length it.bytes < wanted_from start len → (c : Bool) → ((va + length it.bytes) % 2 ^ 32 % PGSIZE == 0) ≡ c →
+              StandsFor names (with_extra (with_spaces s sp) n
+              (words_at SERVICE_WRITE (if c then step.BufferRegion (length it.bytes) start else step.GatheringBytes (length it.bytes) start))) a
+          by_page fewer true test =
+              goes_on (step.BufferRegion (length it.bytes) start) refl
+              (taking (words_at SERVICE_WRITE (step.BufferRegion (length it.bytes) start)) fewer, tt)
+          by_page fewer false test =
+              goes_on (step.GatheringBytes (length it.bytes) start) refl
+              (taking (words_at SERVICE_WRITE (step.GatheringBytes (length it.bytes) start)) fewer, next_allowed fewer test)
+
+          by_wanted : (c : Bool) → nat_le (wanted_from start len) (length it.bytes) ≡ c →
+              StandsFor names (with_extra (with_spaces s sp) n (words_at SERVICE_WRITE (if c then step_with_all start
+              else if (va + length it.bytes) % 2 ^ 32 % PGSIZE == 0 then step.BufferRegion (length it.bytes) start
+              else step.GatheringBytes (length it.bytes) start))) a
+          by_wanted true test =
+              let reached : wanted_from start len ≤ length it.bytes = grind (arith, nat_tests) in
+              let at_most = it.few in
+              with_all (omega (arith, reached, at_most))
           by_wanted false test = by_page (grind (arith, nat_tests)) ((va + length it.bytes) % 2 ^ 32 % PGSIZE == 0) refl
 
     -- ---- some are left
 
     goes_keeping : kept < left →
-        StandsFor names (with_extra (with_spaces s sp) n (words_at SERVICE_WRITE (step.Keeping (done + kept) (word / 256) (left - kept)))) a
+        StandsFor names (with_extra (with_spaces s sp) n (words_at SERVICE_WRITE (step.KeepingBytes (done + kept) (word / 256) (left - kept) start))) a
     goes_keeping more =
-        goes_on (step.Keeping (done + kept) (word / 256) (left - kept)) refl (record {
+        goes_on (step.KeepingBytes (done + kept) (word / 256) (left - kept) start) refl (record {
           bytes = it.bytes;
           is_in = record { program = it.is_in.program; phase = it.is_in.phase; silent = it.is_in.silent; awake = it.is_in.awake };
           given = given;
@@ -714,64 +817,64 @@ module _ {names : Names} {s : KernelState} {a : AbstractState} (h : StandsFor na
         })
 
     kept_goes : StandsFor names (with_extra (with_spaces s sp) n (words_at SERVICE_WRITE
-        (if nat_le left kept then step_behind va len ((done + kept) % 2 ^ 32)
-        else step.Keeping ((done + kept) % 2 ^ 32) (word / 256) (left - kept)))) a
+        (if nat_le left kept then step_behind va len start ((done + kept) % 2 ^ 32)
+        else step.KeepingBytes ((done + kept) % 2 ^ 32) (word / 256) (left - kept) start))) a
     kept_goes = by_left (nat_le left kept) refl
       where
         unwrapped : (done + kept) % 2 ^ 32 ≡ done + kept
         unwrapped = let all = few in omega (arith, all, most)
 
         by_left : (c : Bool) → nat_le left kept ≡ c → StandsFor names (with_extra (with_spaces s sp) n (words_at SERVICE_WRITE
-            (if c then step_behind va len ((done + kept) % 2 ^ 32) else step.Keeping ((done + kept) % 2 ^ 32) (word / 256) (left - kept)))) a
+            (if c then step_behind va len start ((done + kept) % 2 ^ 32) else step.KeepingBytes ((done + kept) % 2 ^ 32) (word / 256) (left - kept) start))) a
         by_left true test =
             let all : left ≤ kept = grind (arith, nat_tests) in
-            subst (λ (m : ℕ). StandsFor names (with_extra (with_spaces s sp) n (words_at SERVICE_WRITE (step_behind va len m))) a)
+            subst (λ (m : ℕ). StandsFor names (with_extra (with_spaces s sp) n (words_at SERVICE_WRITE (step_behind va len start m))) a)
             (whole all ∙ sym unwrapped) (goes_behind all)
         by_left false test =
             let more : kept < left = grind (arith, nat_tests) in
             subst
-            (λ (m : ℕ). StandsFor names (with_extra (with_spaces s sp) n (words_at SERVICE_WRITE (step.Keeping m (word / 256) (left - kept)))) a)
+            (λ (m : ℕ). StandsFor names (with_extra (with_spaces s sp) n (words_at SERVICE_WRITE (step.KeepingBytes m (word / 256) (left - kept) start))) a)
             (sym unwrapped) (goes_keeping more)
 
   -- ---- by how many are put at once
 
-  in_page : done < PGSIZE
+  in_page : start + done < PGSIZE
   in_page = let all = few in let more = it.some in omega (arith, all, more)
 
   user : is_page_perm page.entry.perm ≡ true
   user = (h.users n working_page page.entry page_counts).page
 
-  place_is : working_page * PGSIZE + done ≡ UTEMP + done % PGSIZE
-  place_is = let lt = in_page in omega (arith, lt)
+  place_is : working_page * PGSIZE + (start + done) ≡ UTEMP + at_place % PGSIZE
+  place_is = let lt = in_page in let same = at_is in omega (arith, lt, same)
 
-  pub keeps_bytes : IsKept names s a n va len done word left
-  keeps_bytes = by_word ((done % 4 == 0) && (left == 4)) refl
+  pub keeps_bytes : IsKept names s a n va len start done word left
+  keeps_bytes = by_word ((at_place % 4 == 0) && (left == 4)) refl
     where
-      by_word : (c : Bool) → ((done % 4 == 0) && (left == 4)) ≡ c → IsKept names s a n va len done word left
+      by_word : (c : Bool) → ((at_place % 4 == 0) && (left == 4)) ≡ c → IsKept names s a n va len start done word left
       by_word true test =
           let four : left ≡ 4 = grind (arith, nat_tests) in
           let all = few in
-          let puts : PutsBytes s n page.entry done (to_le_bytes w32 word) (store s n (UTEMP + done % PGSIZE) word) =
-          subst (λ (at : ℕ). PutsBytes s n page.entry done (to_le_bytes w32 word) (store s n at word)) place_is
-          (store_puts s n working_page working_below page.entry page.stands user page.writes done in_page word (omega (arith, all, four))) in
+          let puts : PutsBytes s n page.entry (start + done) (to_le_bytes w32 word) (store s n (UTEMP + at_place % PGSIZE) word) =
+          subst (λ (at : ℕ). PutsBytes s n page.entry (start + done) (to_le_bytes w32 word) (store s n at word)) place_is
+          (store_puts s n working_page working_below page.entry page.stands user page.writes (start + done) in_page word (omega (arith, all, four))) in
           record {
             spaces = puts.spaces;
             step_is = rw test puts.step_is;
             stands = λ order. rw test
                 (kept_goes 4 (to_le_bytes w32 word) (omega arith) (omega (arith, four)) refl (word_bytes word)
                 (λ i lt. word_byte it.bytes done word left i it.word_is (omega (arith, lt, four)))
-                (λ more. absurd (omega (arith, more, four))) (store s n (UTEMP + done % PGSIZE) word) puts order);
+                (λ more. absurd (omega (arith, more, four))) (store s n (UTEMP + at_place % PGSIZE) word) puts order);
           }
       by_word false test =
-          let puts : PutsBytes s n page.entry done (word % 256 ∷ []) (store_byte s n (UTEMP + done % PGSIZE) (word % 256)) =
-          subst (λ (at : ℕ). PutsBytes s n page.entry done (word % 256 ∷ []) (store_byte s n at (word % 256))) place_is
-          (store_byte_puts s n working_page working_below page.entry page.stands user page.writes done in_page (word % 256)) in
+          let puts : PutsBytes s n page.entry (start + done) (word % 256 ∷ []) (store_byte s n (UTEMP + at_place % PGSIZE) (word % 256)) =
+          subst (λ (at : ℕ). PutsBytes s n page.entry (start + done) (word % 256 ∷ []) (store_byte s n at (word % 256))) place_is
+          (store_byte_puts s n working_page working_below page.entry page.stands user page.writes (start + done) in_page (word % 256)) in
           record {
             spaces = puts.spaces;
             step_is = rw test puts.step_is;
             stands = λ order. rw test
                 (kept_goes 1 (word % 256 ∷ []) (omega arith) it.some refl (bytes_more (word % 256) [] (omega arith) bytes_none)
-                first_byte behind_it (store_byte s n (UTEMP + done % PGSIZE) (word % 256)) puts order);
+                first_byte behind_it (store_byte s n (UTEMP + at_place % PGSIZE) (word % 256)) puts order);
           }
         where
           first_byte : (i : ℕ) → i < 1 → slice_index (word % 256 ∷ []) i ≡ slice_index it.bytes (done + i)

@@ -45,6 +45,14 @@ put_before page at (byte ∷ rest) i lt =
     ∙ get_or-set_other page at i byte 0 (λ same. absurd (omega (arith, lt, same)))
 
 -- and they stand there
+pub put_behind : (page : List ℕ) (at : ℕ) (bytes : List ℕ) (i : ℕ) → at + length bytes ≤ i →
+    slice_index (bytes_put page at bytes) i ≡ slice_index page i
+unfolding bytes_put
+put_behind page at [] i behind = refl
+put_behind page at (byte ∷ rest) i behind =
+    put_behind (slice_set page at byte) (at + 1) rest i (omega (arith, behind))
+    ∙ get_or-set_other page at i byte 0 (λ same. absurd (omega (arith, behind, same)))
+
 pub put_there : (page : List ℕ) (at : ℕ) (bytes : List ℕ) (i : ℕ) → i < length bytes → at + length bytes ≤ length page →
     slice_index (bytes_put page at bytes) (at + i) ≡ slice_index bytes i
 unfolding bytes_put

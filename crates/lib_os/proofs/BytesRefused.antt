@@ -25,7 +25,7 @@ use Rattle.lib_os.specs.LibrarySteps.{hidden_left}
 use Rattle.lib_os.specs.Places.{place_of}
 use Rattle.lib_os.specs.Rows.{Names, rows_of}
 use Rattle.lib_os.specs.StandsFor.{StandsFor, IsTaking, borne_in, view_of}
-use Rattle.lib_os.specs.StandsInHandler.{AreSmall, IsStoppedAt, StandsPutting, in_delivery, is_refused_by, is_write, reading, telling, wanted_of, writing}
+use Rattle.lib_os.specs.StandsInHandler.{AreSmall, IsStoppedAt, StandsPutting, in_delivery, is_refused_by, is_write, reading, telling, wanted_from, writing}
 use Rattle.lib_os.specs.UserCalls.{CallStep, accessing, by_access, faulting, giving, load_byte, store, store_byte, to_handler}
 use Rattle.lib_os.specs.UserCalls.{user_byte, with_user_byte, with_user_word}
 use Rattle.lib_os.proofs.BufferAccesses.{access_of, entry_forbids, entry_lets}
@@ -69,7 +69,7 @@ module _ {names : Names} {s : KernelState} {a : AbstractState} (h : StandsFor na
 
 -- ---- the page waits to be copied
 
-refused_is : (r : Result FrameOffset PageFault) (other : PageFault) → is_ok r ≡ false → r ≡ Err (fault_or other r)
+pub refused_is : (r : Result FrameOffset PageFault) (other : PageFault) → is_ok r ≡ false → r ≡ Err (fault_or other r)
 refused_is (Ok location) other off = absurd (let contradiction : true ≡ false = off in cc)
 refused_is (Err fault) other off = refl
 
@@ -116,13 +116,13 @@ module _ {names : Names} {s : KernelState} {a : AbstractState} (h : StandsFor na
 
 -- ---- the page refuses it
 
-refused_error : (write : Bool) (page : Option Page) → is_write (FEC_U + presence_bit page + write_bit (access_of write)) ≡ write
+pub refused_error : (write : Bool) (page : Option Page) → is_write (FEC_U + presence_bit page + write_bit (access_of write)) ≡ write
 refused_error true None = refl
 refused_error true (Some page) = refl
 refused_error false None = refl
 refused_error false (Some page) = refl
 
-error_small : (write : Bool) (page : Option Page) → FEC_U + presence_bit page + write_bit (access_of write) < 2 ^ 32
+pub error_small : (write : Bool) (page : Option Page) → FEC_U + presence_bit page + write_bit (access_of write) < 2 ^ 32
 error_small true None = omega arith
 error_small true (Some page) = omega arith
 error_small false None = omega arith
@@ -154,12 +154,12 @@ module _ {names : Names} {s : KernelState} {a : AbstractState} (h : StandsFor na
   pub stopped_raised : reach_in s.spaces space va (access_of write) ≡ Err stopped_fault
   stopped_raised = user_refuses names s a n b h is va inside (access_of write) forbids
 
-  pub stopped_stands : AreSmall (slot_at s n).registers → b.program ≡ guest (slot_at s n).registers →
+  pub stopped_stands : AreSmall (slot_at s n).registers → (eax : ℕ) → b.program ≡ guest (record (slot_at s n).registers { eax = eax }) →
       (slot_at s n).rendezvous.receiving ≡ false → b.blocked ≡ false →
       IsStoppedAt write (view_of s.spaces space) b va (slot_at s n).registers.eip → IsInOrder stopped_after → StandsFor names stopped_after a
-  stopped_stands small program silent awake stopped in_order =
+  stopped_stands small eax program silent awake stopped in_order =
       fault_stops h n b is before_fault stands refl plainly stopped_fault small inside (error_small write (page_at b va))
-      (user_refusal names s a n b h is va inside (access_of write) forbids) program silent awake
+      (user_refusal names s a n b h is va inside (access_of write) forbids) eax program silent awake
       (subst (λ (w : Bool). IsStoppedAt w (view_of s.spaces space) b va (slot_at s n).registers.eip) (sym (refused_error write (page_at b va)))
       stopped)
       in_order
@@ -220,7 +220,7 @@ module _ {names : Names} {s : KernelState} {a : AbstractState} (h : StandsFor na
 
     pub read_stopped_stands : AreSmall (slot_at s n).registers → IsInOrder read_stopped_after → StandsFor names read_stopped_after a
     read_stopped_stands small =
-        stopped_stands h n v.b v.is (service.Read fd va len) done word v.place refl (va + done) read_place.1 true v.at.1 small v.at.0.program
+        stopped_stands h n v.b v.is (service.Read fd va len) done word v.place refl (va + done) read_place.1 true v.at.1 small (slot_at s n).registers.eax v.at.0.program
         v.at.0.silent v.at.0.awake (reading fd va len (word ∷ []) 1 refl v.at.0.phase v.at.0.some)
 
     pub read_stopped_lowers : hidden_left read_stopped_after n < hidden_left s n
@@ -283,7 +283,7 @@ module _ {names : Names} {s : KernelState} {a : AbstractState} (h : StandsFor na
 
     pub stat_stopped_stands : AreSmall (slot_at s n).registers → IsInOrder stat_stopped_after → StandsFor names stat_stopped_after a
     stat_stopped_stands small =
-        stopped_stands h n v.b v.is (service.Stat fd va) done word v.place refl (va + done) stat_place.1 true v.at.1 small v.at.0.program
+        stopped_stands h n v.b v.is (service.Stat fd va) done word v.place refl (va + done) stat_place.1 true v.at.1 small (slot_at s n).registers.eax v.at.0.program
         v.at.0.silent v.at.0.awake (telling fd va (drop done terminal_stat) 0 refl v.at.0.phase v.at.0.some)
 
     pub stat_stopped_lowers : hidden_left stat_stopped_after n < hidden_left s n
@@ -294,14 +294,14 @@ module _ {names : Names} {s : KernelState} {a : AbstractState} (h : StandsFor na
 
 module _ {names : Names} {s : KernelState} {a : AbstractState} (h : StandsFor names s a) (n fd va len done word : ℕ)
     (v : IsServed names s a n (service.Write fd va len) (step.Faulting done word)) where
-  abbrev taking : IsTaking (view_of s.spaces (slot_at s n).directory) (slot_at s n) v.b fd va len done
+  abbrev taking : IsTaking (view_of s.spaces (slot_at s n).directory) (slot_at s n) v.b fd va len word done
   taking = v.at.0
 
   write_place : ((va + done) % 2 ^ 32 ≡ va + done) × (is_inside (va + done) ≡ true)
   write_place =
-      let fewer : done < wanted_of len = subst (λ (m : ℕ). m < wanted_of len) taking.many taking.wants.fewer in
-      let end = buffer_below va (wanted_of len) taking.wants.given.buffer (omega (arith, fewer)) in
-      (omega (arith, fewer, end), buffer_each va (wanted_of len) (va + done) taking.wants.given.buffer (omega arith) (omega (arith, fewer)))
+      let fewer : done < wanted_from word len = subst (λ (m : ℕ). m < wanted_from word len) taking.many taking.wants.fewer in
+      let end = buffer_below va (wanted_from word len) taking.wants.given.buffer (omega (arith, fewer)) in
+      (omega (arith, fewer, end), buffer_each va (wanted_from word len) (va + done) taking.wants.given.buffer (omega arith) (omega (arith, fewer)))
 
   abbrev pub write_stopped_after : KernelState
   write_stopped_after =
@@ -317,8 +317,9 @@ module _ {names : Names} {s : KernelState} {a : AbstractState} (h : StandsFor na
 
   pub write_stopped_stands : AreSmall (slot_at s n).registers → IsInOrder write_stopped_after → StandsFor names write_stopped_after a
   write_stopped_stands small =
-      stopped_stands h n v.b v.is (service.Write fd va len) done word v.place refl (va + done) write_place.1 false v.at.1 small taking.program
-      taking.silent taking.awake (writing fd va len taking.bytes refl taking.wants (ap (λ (m : ℕ). va + m) (sym taking.many)))
+      stopped_stands h n v.b v.is (service.Write fd va len) done word v.place refl (va + done) write_place.1 false v.at.1 small (slot_at s n).registers.eax
+      taking.program
+      taking.silent taking.awake (writing fd va len word taking.bytes refl taking.wants (ap (λ (m : ℕ). va + m) (sym taking.many)))
 
   pub write_stopped_lowers : hidden_left write_stopped_after n < hidden_left s n
   write_stopped_lowers =

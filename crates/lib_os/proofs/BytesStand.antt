@@ -11,7 +11,7 @@ use Rattle.jos_base.specs.SystemCalls.{has_write}
 use Rattle.jos_base.specs.Words.{page_number, page_offset, upd}
 use Rattle.lib_os.specs.AbstractState.{AbstractState, Born, Page, own, named, born, with_born}
 use Rattle.lib_os.specs.AbstractMemory.{stored, stored_in}
-use Rattle.lib_os.specs.DescriptorPages.{device_of}
+use Rattle.lib_os.specs.DescriptorPages.{lasting_words}
 use Rattle.lib_os.specs.InOrder.{IsInOrder}
 use Rattle.lib_os.specs.Places.{place_of}
 use Rattle.lib_os.specs.Rows.{Names, Rows, rows_of, logical, is_descriptor, is_programs, is_shared, may_write}
@@ -132,7 +132,7 @@ module _ {names : Names} {s : KernelState} {a : AbstractState} {sp : SpacesState
 
   -- so that those of this space tell the same
   devices_kept : SameDevices (view_of s.spaces d) (view_of sp d)
-  devices_kept q x descriptor hx = ap device_of (by_sharing (is_shared x.perm) refl)
+  devices_kept q x descriptor hx = ap lasting_words (by_sharing (is_shared x.perm) refl)
     where
       by_sharing : (c : Bool) → is_shared x.perm ≡ c → sp.pages x.frame ≡ s.spaces.pages x.frame
       by_sharing true shared_page = bytes_kept x (descriptors_apart d q x descriptor hx shared_page)
@@ -146,7 +146,7 @@ module _ {names : Names} {s : KernelState} {a : AbstractState} {sp : SpacesState
     rows = ap (λ (rows : Rows). rows q) st.rows;
     bytes = bytes;
     named_so = λ r x hx shared_page. refl;
-    devices = λ r x descriptor hx shared_page. ap device_of (bytes_kept x (descriptors_apart q r x descriptor hx shared_page));
+    devices = λ r x descriptor hx shared_page. ap lasting_words (bytes_kept x (descriptors_apart q r x descriptor hx shared_page));
     regions = st.regions q;
   }
 
@@ -262,7 +262,6 @@ module _ {names : Names} {s : KernelState} {a : AbstractState} {sp : SpacesState
       first = h.first;
       server = server_alike
           (space_alike (slot_at s 0).directory (λ r x hx own_too. bytes_kept x (own_other (slot_at s 0).directory r x hx own_too))) h.server;
-      consoles = h.consoles;
       input = h.input;
       last = h.last;
       turns = h.turns;

@@ -32,7 +32,7 @@ use Rattle.lib_os.specs.StandingLaws.{IsHandlerStep}
 use Rattle.lib_os.specs.StandsFor.{StandsFor, StandsForBorn, StandsAt, things_in, view_of, upcall_at, borne_in}
 use Rattle.lib_os.specs.StandsInHandler.{IsInHandler, Copies, CopiesAt, CopiesOrEnds, copies, ends, IsToCopy, IsCopiedTo, IsMappedTwice}
 use Rattle.lib_os.specs.StandsInHandler.{is_refused_by}
-use Rattle.lib_os.proofs.Beneath.{KeepsWritable, beneath_moved, same_writable}
+use Rattle.lib_os.proofs.Beneath.{KeepsTaken, KeepsWritable, beneath_moved, same_writable}
 use Rattle.lib_os.proofs.Effects.{Made, Given, Removed}
 use Rattle.lib_os.proofs.EntriesCount.{own_lacked}
 use Rattle.lib_os.proofs.EntriesStand.{RowsStand, PutsRow, rows_put, rows_same, rows_bytes, rows_stand, put_is, seen_own}
@@ -99,8 +99,8 @@ handler_moved {t = t} {k = k} {b = b} to had inside there upcall memory descript
 pub copying_goes : (from to : HandlerStep) (v w : View) (k : Slot) (b : Born) (at : IsInHandler from v k b) →
     Copies from v k b at.fault at.regs → w.row (page_number UXSTACK) ≡ v.row (page_number UXSTACK) →
     ((x : Entry) → v.row (page_number UXSTACK) ≡ Some x → is_shared x.perm ≡ false → w.bytes x.frame ≡ v.bytes x.frame) →
-    KeepsWritable v.row w.row → CopiesAt to w at.fault.va → IsInHandler to w (handler_slot k to) b
-copying_goes from to v w k b at way row bytes writes goes = record {
+    KeepsWritable v.row w.row → KeepsTaken v w → CopiesAt to w at.fault.va → IsInHandler to w (handler_slot k to) b
+copying_goes from to v w k b at way row bytes writes taken goes = record {
   fault = at.fault;
   regs = at.regs;
   frame = let f = at.frame in record {
@@ -114,7 +114,7 @@ copying_goes from to v w k b at way row bytes writes goes = record {
   flags = at.flags;
   stack = at.stack;
   way = copies (record {
-    beneath = beneath_moved v.row w.row (record k { registers = at.regs }) b writes way.beneath;
+    beneath = beneath_moved v w (record k { registers = at.regs }) b writes taken way.beneath;
     error = way.error;
     inside = way.inside;
     at = goes;
@@ -350,7 +350,12 @@ module _ {names : Names} {s : KernelState} {a : AbstractState} {sp : SpacesState
           (descriptors_kept taken_puts) taken_library taken_tables
           (copying_goes (handler.Taking va) to (view_of s.spaces d) (view_of sp d) (slot_at s n) v.b v.at way
           (kept_beside taken_puts (page_number UXSTACK) stack_beside)
-          (λ x hx own_page. taken_puts.bytes d (page_number UXSTACK) x (λ same. stack_beside) hx) (writable_kept taken_puts) (goes way)))
+          (λ x hx own_page. taken_puts.bytes d (page_number UXSTACK) x (λ same. stack_beside) hx) (writable_kept taken_puts)
+          (record {
+            row = kept_beside taken_puts (page_number UTEMP) working_beside;
+            bytes = λ x hx own_page. taken_puts.bytes d (page_number UTEMP) x (λ same. working_beside) hx;
+          })
+          (goes way)))
           (rows_same (put (logical s.spaces s.environments.slots) n copy_page (Some new_entry))
           (logical sp (upd s.environments.slots n (handler_slot (slot_at s n) to))) counts (rows_put (rows_stand h) taken_row)) in_order
         where
@@ -482,7 +487,12 @@ module _ {names : Names} {s : KernelState} {a : AbstractState} {sp : SpacesState
           (descriptors_kept unmapped_puts) unmapped_library unmapped_tables
           (copying_goes (handler.Unmapping va) back (view_of s.spaces space) (view_of sp space) (slot_at s n) w.b w.at way
           (kept_beside unmapped_puts (page_number UXSTACK) stack_beside)
-          (λ x hx own_page. unmapped_puts.bytes space (page_number UXSTACK) x (λ same. stack_beside) hx) (writable_kept unmapped_puts) tt))
+          (λ x hx own_page. unmapped_puts.bytes space (page_number UXSTACK) x (λ same. stack_beside) hx) (writable_kept unmapped_puts)
+          (record {
+            row = kept_beside unmapped_puts (page_number UTEMP) working_beside;
+            bytes = λ x hx own_page. unmapped_puts.bytes space (page_number UTEMP) x (λ same. working_beside) hx;
+          })
+          tt))
           (rows_bytes sp.pages (λ m p x hx. unmapped_bytes m p x (sym (unmapped_counts m p) ∙ hx))
           (rows_same (logical s.spaces s.environments.slots)
           (logical sp (upd s.environments.slots n (handler_slot (slot_at s n) back))) unmapped_counts (rows_stand h))) in_order
@@ -570,8 +580,8 @@ module _ {names : Names} {s : KernelState} {a : AbstractState} {sp : SpacesState
   page_inside : is_programs p ≡ true
   page_inside = ap (λ (q : ℕ). is_programs (page_number q)) way.at.0 ∙ inside_programs u.at.fault.va way.inside
 
-  beside : (p ≢ copy_page) × (p ≢ page_number UXSTACK)
-  beside = let off = programs_beside p page_inside in (off.0, off.1)
+  beside : (p ≢ copy_page) × (p ≢ page_number UXSTACK) × (p ≢ page_number UTEMP)
+  beside = programs_beside p page_inside
 
   old_counts : before n p ≡ Some old.entry
   old_counts = logical_beside s.spaces s.environments.slots n client_there p beside.0 (ap (λ (q : Place). is_remapped q p) stands) ∙ old.stands
@@ -786,5 +796,9 @@ module _ {names : Names} {s : KernelState} {a : AbstractState} {sp : SpacesState
       (copying_goes (handler.MappingOver va) next (view_of s.spaces home) (view_of sp home) (slot_at s n) u.b u.at way
       (over_kept (page_number UXSTACK) (λ e. beside.1 (sym e)))
       (λ x hx own_page. kept_bytes (page_number UXSTACK) x (λ e. beside.1 (sym e)) hx) over_writable
+      (record {
+        row = over_kept (page_number UTEMP) (λ e. beside.2 (sym e));
+        bytes = λ x hx own_page. kept_bytes (page_number UTEMP) x (λ e. beside.2 (sym e)) hx;
+      })
       (way.at.0, subst (λ (q : ℕ). IsMappedTwice (view_of sp home) q) way.at.0 mapped_twice)))
       (rows_same (put left n p (Some over)) after over_counts (rows_put (rows_put (rows_stand h) left_row) over_row)) in_order

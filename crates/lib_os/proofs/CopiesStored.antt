@@ -9,7 +9,7 @@ use Rattle.std.proofs.lemmas.Bool.Decides.{nat_tests}
 use Rattle.std.proofs.lemmas.Nat.{le_bytes_4}
 use Rattle.std.proofs.lemmas.Option.{same_Some}
 use Rattle.jos_base.specs.declared.memory.Access.TheVariants.{Write}
-use Rattle.jos_base.specs.declared.numbers.TheConstants.{PGSIZE}
+use Rattle.jos_base.specs.declared.numbers.TheConstants.{PGSIZE, UTEMP}
 use Rattle.jos_base.specs.Counting.{page_limit}
 use Rattle.jos_base.specs.KernelState.{KernelState, slot_at, with_spaces, with_registers}
 use Rattle.jos_base.specs.Reach.{Entry, allows}
@@ -23,7 +23,7 @@ use Rattle.lib_os.specs.declared.place.HandlerStep.TheVariants as handler
 use Rattle.lib_os.specs.declared.place.Place.{Place}
 use Rattle.lib_os.specs.declared.place.Place.TheVariants as place
 use Rattle.lib_os.specs.AbstractState.{AbstractState}
-use Rattle.lib_os.specs.DescriptorPages.{device_of}
+use Rattle.lib_os.specs.DescriptorPages.{lasting_words}
 use Rattle.lib_os.specs.InOrder.{IsInOrder}
 use Rattle.lib_os.specs.LibraryPages.{LibraryPages, IsOwnWritable, has_copy}
 use Rattle.lib_os.specs.Places.{place_of, handler_registers}
@@ -128,7 +128,7 @@ module _ {names : Names} {s : KernelState} {a : AbstractState} {sp : SpacesState
     rows = ap (λ (rows : Rows). rows q) rewritten.rows;
     bytes = λ r x hx own_page. elsewhere r x hx;
     named_so = λ r x hx shared_page. refl;
-    devices = λ r x descriptor hx shared_page. ap device_of (elsewhere r x hx);
+    devices = λ r x descriptor hx shared_page. ap lasting_words (elsewhere r x hx);
     regions = rewritten.regions q;
   }
     where
@@ -227,7 +227,9 @@ module _ {names : Names} {s : KernelState} {a : AbstractState} {sp : SpacesState
         (handler_moved to v.own v.inside there (v.own.upcall ∙ ap upcall_at stands ∙ sym upcall) memory_kept descriptors_kept library_kept tables_kept
         (copying_goes from to (view_of s.spaces d) (view_of sp d) (slot_at s n) v.b v.at way (row_kept d (page_number UXSTACK))
         (λ x hx own_page. other_bytes (page_number UXSTACK) x stack_beside hx)
-        (same_writable (rows_of s.spaces d) (rows_of sp d) (λ q inside. row_kept d q)) goes)) rows_kept in_order
+        (same_writable (rows_of s.spaces d) (rows_of sp d) (λ q inside. row_kept d q))
+        (record { row = row_kept d (page_number UTEMP); bytes = λ x hx own_page. other_bytes (page_number UTEMP) x working_beside hx }) goes)) rows_kept
+        in_order
 
 -- ---- a word
 

@@ -69,7 +69,7 @@ own_alike : (row after : EntryRow) (p : ℕ) → after p ≡ row p → IsOwnWrit
 own_alike row after p same h = record { entry = h.entry; stands = same ∙ h.stands; own_page = h.own_page; writes = h.writes }
 
 -- A page with a descriptor's bits, or none, stands at one of the descriptors' pages: the library's other pages are as before.
-library_kept : (at : Place) (words : List ℕ) (row after : EntryRow) (fd : ℕ) → fd < DESCRIPTORS → ((q : ℕ) → q ≢ descriptor_page fd → after q ≡ row q) →
+pub library_kept : (at : Place) (words : List ℕ) (row after : EntryRow) (fd : ℕ) → fd < DESCRIPTORS → ((q : ℕ) → q ≢ descriptor_page fd → after q ≡ row q) →
     ((x : Entry) → after (descriptor_page fd) ≡ Some x → x.perm ≡ descriptor_perm) → LibraryPages at words row →
     LibraryPages at words after
 library_kept at words row after fd below same bits h =
@@ -330,6 +330,11 @@ module _ {names : Names} {s : KernelState} {a : AbstractState} {sp : SpacesState
 holds_none : (s : Service) → minds_page (place.InService s step.Entered) ≡ false → (at : Step) → holds_page (place.InService s at) ≡ false
 holds_none (service.Write fd va len) calm at = absurd (let contradiction : true ≡ false = calm in cc)
 holds_none (service.Remove path) calm at = absurd (let contradiction : true ≡ false = calm in cc)
+holds_none (service.OpenFile path mode) calm at = absurd (let contradiction : true ≡ false = calm in cc)
+holds_none (service.Seek fd offset) calm at = absurd (let contradiction : true ≡ false = calm in cc)
+holds_none (service.Read fd va len) calm at = absurd (let contradiction : true ≡ false = calm in cc)
+holds_none (service.Stat fd va) calm at = absurd (let contradiction : true ≡ false = calm in cc)
+holds_none (service.SetSize fd size) calm at = absurd (let contradiction : true ≡ false = calm in cc)
 holds_none _ calm at = refl
 
 -- where it was at its beginning

@@ -1,16 +1,17 @@
 -- How a service finds what its descriptor names: whether the region of descriptors' pages has a table, whether the descriptor is open, and
 -- then the word of its page, which tells the console from a file. Where the descriptor is not open the service refuses in the abstract system too.
-use Rattle.std.proofs.Common.{◌≡◌, ◌∙◌, ◌⊎◌, inl, inr, ◌+◌, ◌<◌, ◌≤◌, ℕ, Bool, true, false, Option, Some, None}
+use Rattle.std.proofs.Common.{◌≡◌, ◌≢◌, ◌∙◌, ◌⊎◌, inl, inr, ◌+◌, ◌<◌, ◌≤◌, ◌%◌, ◌||◌, ℕ, Bool, true, false, Option, Some, None}
 use Rattle.std.proofs.Common.{List, [], refl, sym, ap, subst, arith}
-use Rattle.std.specs.Prelude.{is_some}
+use Rattle.std.specs.Prelude.{is_some, slice_index}
 use Rattle.std.specs.Option.{option_map}
+use Rattle.std.proofs.lemmas.Bool.Decides.{nat_tests}
 use Rattle.std.proofs.lemmas.Option.{same_Some, none-some}
 use Rattle.jos_base.specs.declared.numbers.TheConstants.{E_INVAL}
 use Rattle.jos_base.specs.declared.registers.Regs.{Regs}
 use Rattle.jos_base.specs.Environments.{Slot}
 use Rattle.jos_base.specs.KernelState.{KernelState, slot_at, with_extra}
 use Rattle.jos_base.specs.Reach.{Entry}
-use Rattle.jos_base.specs.Words.{negated, page_number, page_offset}
+use Rattle.jos_base.specs.Words.{negated, page_number, page_offset, word_at}
 use Rattle.jos_base.proofs.Options.{some_is}
 use Rattle.lib_os.specs.declared.numbers.TheConstants.{DESCRIPTORS, DEVICE_CONSOLE, DEVICE_FILE, FD_DEVICE}
 use Rattle.lib_os.specs.declared.place.Place.TheVariants as place
@@ -21,18 +22,19 @@ use Rattle.lib_os.specs.declared.service.Service.{Service}
 use Rattle.lib_os.specs.declared.service.Service.TheVariants as service
 use Rattle.lib_os.specs.AbstractState.{AbstractState, Born, Object, OpenFile, born, entered, file, terminal, read_end, write_end}
 use Rattle.lib_os.specs.Answers.{answered, refused}
-use Rattle.lib_os.specs.DescriptorPages.{HasObject, Things, device_of}
+use Rattle.lib_os.specs.DescriptorPages.{HasObject, IsOpenFile, Things, device_of}
 use Rattle.lib_os.specs.Descriptors.{object_name, object_of}
+use Rattle.lib_os.specs.FileServices.{is_only_for_reading, write_length}
 use Rattle.lib_os.specs.InOrder.{IsInOrder}
 use Rattle.lib_os.specs.LibraryCall.{library_step}
-use Rattle.lib_os.specs.LibraryPages.{View, keeps_page}
+use Rattle.lib_os.specs.LibraryPages.{View, keeps_page, keeps_request}
 use Rattle.lib_os.specs.LibrarySteps.{GoesOn, KeepsStanding, service_answered}
 use Rattle.lib_os.specs.Places.{place_of, words_at}
 use Rattle.lib_os.specs.Rows.{EntryRow, IsNamed, IsUsers, Names, ShowsBy, descriptor_page, is_shared, logical, rows_of}
 use Rattle.lib_os.specs.StandsFor.{IsIn, IsLookingUp, IsReadingDevice, StandsAtDevice, StandsAtStep, StandsFor}
 use Rattle.lib_os.specs.StandsFor.{borne_in, descriptor_given, things_in, view_of}
 use Rattle.lib_os.specs.StandsInHandler as stands
-use Rattle.lib_os.specs.StandsInHandler.{IsConsoleOpen}
+use Rattle.lib_os.specs.StandsInHandler.{BeginsAt, IsConsoleOpen, IsFileOpen, in_file, on_console, wanted_from}
 use Rattle.lib_os.specs.UserCalls.{load}
 use Rattle.lib_os.proofs.Answering.{back_stands}
 use Rattle.lib_os.proofs.BufferLooks.{tells_page}
@@ -87,6 +89,14 @@ is_either (file f) word is = inr (sym (same_Some DEVICE_FILE word is))
 is_either (read_end pipe) word is = absurd (none-some word is)
 is_either (write_end pipe) word is = absurd (none-some word is)
 
+-- A descriptor, whose page has this entry, names a file, of which that page tells.
+pub record NamesFile (s : KernelState) (a : AbstractState) (b : Born) (fd : ℕ) (x : Entry) : Type 0 where
+  pub name : ℕ
+  pub f : OpenFile
+  pub named : object_name b fd ≡ Some name
+  pub is : a.objects name ≡ file f
+  pub told : IsOpenFile (things_in s a) name x.frame f (s.spaces.pages x.frame)
+
 module _ {names : Names} {s : KernelState} {a : AbstractState} (h : StandsFor names s a) (n : ℕ) (b : Born) (at : a.slots n ≡ born b)
     (unborne : borne_in (place_of (slot_at s n)) ≡ None) (fd : ℕ) (below : fd < DESCRIPTORS) where
   abbrev row : EntryRow
@@ -130,7 +140,29 @@ module _ {names : Names} {s : KernelState} {a : AbstractState} (h : StandsFor na
         load_page_word s n (device_va fd) x (omega arith) (ap row number ∙ is) user.page h.in_order.frames
         ∙ ap (λ (o : ℕ). read_at s n (device_va fd) (stands.page_word (s.spaces.pages x.frame) o)) offset
 
-  -- By its word it is the console.
+  -- a word of the page of a descriptor that is open, at a place
+  pub word_there : (x : Entry) → row (descriptor_page fd) ≡ Some x → (o : ℕ) → o % 4 ≡ 0 → o < 4096 →
+      load s n (descriptor_va fd + o) ≡ read_at s n (descriptor_va fd + o) (word_at (slice_index (s.spaces.pages x.frame)) o)
+  word_there x is o aligned inside =
+      let number : page_number (descriptor_va fd + o) ≡ descriptor_page fd = omega (arith, below, inside) in
+      let offset : page_offset (descriptor_va fd + o) ≡ o = omega (arith, inside) in
+      load_page_word s n (descriptor_va fd + o) x (omega (arith, aligned)) (ap row number ∙ is) (user x is).page h.in_order.frames
+      ∙ ap (λ (at : ℕ). read_at s n (descriptor_va fd + o) (stands.page_word (s.spaces.pages x.frame) at)) offset
+
+  -- By its word it is a file,
+  pub names_file : (open_as : IsFileOpen (view_of s.spaces (slot_at s n).directory) fd) → NamesFile s a b fd open_as.entry
+  names_file open_as =
+      let x = open_as.entry in
+      let found = is_file (a.objects (names.name x.frame)) (object_told x open_as.stands ∙ ap (λ (w : ℕ). Some w) open_as.device) in
+      record {
+        name = names.name x.frame;
+        f = found.0;
+        named = object_is h n b at fd x below open_as.stands;
+        is = found.1;
+        told = subst (λ (o : Object). HasObject (things_in s a) (names.name x.frame) x.frame o (s.spaces.pages x.frame)) found.1 (shows x open_as.stands);
+      }
+
+  -- or the console.
   pub names_console : IsConsoleOpen (view_of s.spaces (slot_at s n).directory) fd → object_of a b fd ≡ Some terminal
   names_console console =
       object_seen console.entry console.stands
@@ -138,13 +170,55 @@ module _ {names : Names} {s : KernelState} {a : AbstractState} (h : StandsFor na
       (is_terminal (a.objects (names.name console.entry.frame))
       (object_told console.entry console.stands ∙ ap (λ (w : ℕ). Some w) console.device))
 
+-- ---- what write may write to
+
+-- What may be written, and how many bytes are taken of the buffer for it.
+pub record IsWritten (a : AbstractState) (b : Born) (fd len start : ℕ) : Type 0 where
+  pub object : Object
+  pub is : object_of a b fd ≡ Some object
+  pub not_reading : is_only_for_reading object ≡ false
+  pub long : write_length object len ≡ wanted_from start len
+
+-- write's descriptor names such an object
+pub begins_written : {names : Names} {s : KernelState} {a : AbstractState} → StandsFor names s a → (n : ℕ) (b : Born) → a.slots n ≡ born b →
+    borne_in (place_of (slot_at s n)) ≡ None → (fd len start : ℕ) → fd < DESCRIPTORS →
+    BeginsAt (view_of s.spaces (slot_at s n).directory) fd start → IsWritten a b fd len start
+begins_written h n b at unborne fd len start below (on_console is console) = record {
+  object = terminal;
+  is = names_console h n b at unborne fd below console;
+  not_reading = refl;
+  long = ap (λ (q : ℕ). wanted_from q len) (sym is);
+}
+begins_written {a = a} h n b at unborne fd len start below (in_file is it) =
+    let named = names_file h n b at unborne fd below it.file in
+    let mode : named.f.mode ≢ 0 = λ none. it.writable (named.told.mode ∙ none) in
+    record {
+      object = file named.f;
+      is = ap (option_map a.objects) named.named ∙ ap (λ (o : Object). Some o) named.is;
+      not_reading = grind (arith, nat_tests, mode);
+      long = ap (λ (q : ℕ). wanted_from q len) (sym is);
+    }
+
 -- ---- the services that want to know what a descriptor names
 
+neither_of : (t u : Bool) → t || u ≡ false → t ≡ false
+neither_of false u is = refl
+neither_of true u is = absurd (let contradiction : true ≡ false = is in cc)
+
+or_neither : (t u : Bool) → t || u ≡ false → u ≡ false
+or_neither false u is = is
+or_neither true u is = absurd (let contradiction : true ≡ false = is in cc)
+
 -- none of them keeps a page before it knows it
-pub holds_none : (s : Service) (fd : ℕ) → descriptor_given s ≡ Some fd → (at : Step) → keeps_page at ≡ false →
+pub holds_none : (s : Service) (fd : ℕ) → descriptor_given s ≡ Some fd → (at : Step) → keeps_page at || keeps_request at ≡ false →
     holds_page (place.InService s at) ≡ false
-holds_none (service.Write given va len) fd is at none = none
+holds_none (service.Write given va len) fd is at none = neither_of (keeps_page at) (keeps_request at) none
+holds_none (service.Seek given offset) fd is at none = or_neither (keeps_page at) (keeps_request at) none
+holds_none (service.SetSize given size) fd is at none = or_neither (keeps_page at) (keeps_request at) none
+holds_none (service.Read given va len) fd is at none = or_neither (keeps_page at) (keeps_request at) none
+holds_none (service.Stat given va) fd is at none = or_neither (keeps_page at) (keeps_request at) none
 holds_none (service.Remove path) fd is at none = absurd (none-some fd is)
+holds_none (service.OpenFile path mode) fd is at none = absurd (none-some fd is)
 holds_none _ fd is at none = refl
 
 -- none bears a child
@@ -360,6 +434,9 @@ module _ (s : KernelState) (n : ℕ) (service : Service) (fd : ℕ) (given : des
     pub device_console : device_word s n fd ≡ DEVICE_CONSOLE → IsConsoleOpen space fd
     device_console word = record { entry = open_entry.0; stands = open_entry.1; device = sym word_is ∙ word }
 
+    pub device_is_file : device_word s n fd ≡ DEVICE_FILE → IsFileOpen space fd
+    device_is_file word = record { entry = open_entry.0; stands = open_entry.1; device = sym word_is ∙ word }
+
     pub device_file : device_word s n fd ≡ DEVICE_FILE → (f : OpenFile) × (object_of a at_device.b fd ≡ Some (file f))
     device_file word =
         let found = is_file object (told ∙ ap (λ (w : ℕ). Some w) word) in (found.0, object_is_it ∙ ap (λ (o : Object). Some o) found.1)
@@ -367,10 +444,6 @@ module _ (s : KernelState) (n : ℕ) (service : Service) (fd : ℕ) (given : des
     -- and what it is has its word.
     pub word_of_object : (o : Object) → object_of a at_device.b fd ≡ Some o → device_for o ≡ Some (device_word s n fd)
     word_of_object o is = ap device_for (same_Some o object (sym is ∙ object_is_it)) ∙ told
-
-    -- and as far as services are built it is the console.
-    pub console_word : device_word s n fd ≡ DEVICE_CONSOLE
-    console_word = same_Some (device_word s n fd) DEVICE_CONSOLE (sym told ∙ ap device_for (h.consoles (names.name open_entry.0.frame)))
 
     -- Behind it the service may answer what the abstract system answers of what it names.
     pub device_answers : IsInOrder (loaded s n (device_va fd)) → (word : ℕ) →
@@ -381,7 +454,7 @@ module _ (s : KernelState) (n : ℕ) (service : Service) (fd : ℕ) (given : des
         (device_va fd) order reading_device.is_in word is
 
     -- or go on
-    pub device_goes_on : IsInOrder (loaded s n (device_va fd)) → (to : Step) → keeps_page to ≡ false →
+    pub device_goes_on : IsInOrder (loaded s n (device_va fd)) → (to : Step) → keeps_page to || keeps_request to ≡ false →
         StandsAtStep space (record (slot_at s n) { extra = words_at (number_of service) to }) at_device.b service to →
         StandsFor names (with_extra (loaded s n (device_va fd)) n (words_at (number_of service) to)) a
     device_goes_on order to plain so =

@@ -12,7 +12,7 @@ use Rattle.jos_base.specs.SpacesState.{SpacesState, destroyed}
 use Rattle.jos_base.specs.SystemCalls.{without_environment}
 use Rattle.lib_os.specs.AbstractState.{AbstractState, Born, AbstractSlot, free, unborn, born}
 use Rattle.lib_os.specs.AbstractMemory.{slot_freed}
-use Rattle.lib_os.specs.DescriptorPages.{device_of}
+use Rattle.lib_os.specs.DescriptorPages.{lasting_words}
 use Rattle.lib_os.specs.InOrder.{IsInOrder}
 use Rattle.lib_os.specs.Places.{place_of}
 use Rattle.lib_os.specs.Rows.{Names, rows_of, logical, IsPage}
@@ -42,7 +42,7 @@ gone_alike names gone q ne = record {
   rows = λ i. λ r. gone.rows q r ne i;
   bytes = λ r x hx own_page. gone.bytes q r x (gone.rows q r ne ∙ hx);
   named_so = λ r x hx shared_page. refl;
-  devices = λ r x descriptor hx shared_page. ap device_of (gone.bytes q r x (gone.rows q r ne ∙ hx));
+  devices = λ r x descriptor hx shared_page. ap lasting_words (gone.bytes q r x (gone.rows q r ne ∙ hx));
   regions = λ r. gone.regions q r ne;
 }
 
@@ -77,7 +77,6 @@ ended_stands {names = names} {s = s} {a = a} h n b at unborne gone in_order =
       first = upd-other a.slots n (free b.id) 0 (born_not_first h n b at) ∙ h.first;
       server = server_same (upd-other s.environments.slots n (free_slot (slot_at s n).id) 0 (born_not_first h n b at))
           (server_alike (servers_seen h n b at (gone_alike names gone)) h.server);
-      consoles = h.consoles;
       input = h.input;
       last = h.last;
       turns = h.turns;

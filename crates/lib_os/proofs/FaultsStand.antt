@@ -9,7 +9,7 @@ use Rattle.std.proofs.lemmas.Bool.Decides.{nat_tests}
 use Rattle.jos_base.specs.declared.memory.Access.{Access}
 use Rattle.jos_base.specs.declared.memory.Access.TheVariants.{Read, Write}
 use Rattle.jos_base.specs.declared.memory.PageFault.{PageFault}
-use Rattle.jos_base.specs.declared.numbers.TheConstants.{FEC_PR, FEC_U, FEC_WR, PGSIZE}
+use Rattle.jos_base.specs.declared.numbers.TheConstants.{FEC_PR, FEC_U, FEC_WR, PGSIZE, UTEMP}
 use Rattle.jos_base.specs.declared.registers.Regs.{Regs}
 use Rattle.jos_base.specs.Counting.{page_limit}
 use Rattle.jos_base.specs.Environments.{Slot, bit_of}
@@ -34,10 +34,11 @@ use Rattle.lib_os.specs.LibraryPages.{IsOwnWritable, HasFrame, frame_place, has_
 use Rattle.lib_os.specs.LibrarySteps.{copies_left, copy_steps, hidden_left, is_to_copy, left_at}
 use Rattle.lib_os.specs.Places.{handler_step_in, is_handlers, place_in_words, place_of}
 use Rattle.lib_os.specs.Rows.{EntryRow, IsPage, IsUsers, Names, Rows, descriptor_seen, is_programs, lasting, logical, page_seen, rows_of}
-use Rattle.lib_os.specs.Rows.{seen_where, shown_at}
+use Rattle.lib_os.specs.Rows.{is_shared, seen_where, shown_at}
 use Rattle.lib_os.specs.StandsFor.{StandsFor, StandsForBorn, StandsAt, upcall_at, view_of, borne_in}
 use Rattle.lib_os.specs.StandsInHandler.{AreSmall, CopiesOrEnds, IsAtGuest, IsToCopy, copies, ends}
-use Rattle.lib_os.specs.StandsInHandler.{IsStoppedAt, marked, StandsBeneath, at_program, is_write}
+use Rattle.lib_os.specs.StandsInHandler.{IsStoppedAt, marked, StandsBeneath, at_program, is_refused_by, is_write}
+use Rattle.lib_os.proofs.Beneath.{beneath_moved}
 use Rattle.lib_os.proofs.BytesRead.{IsRefusal, lasting_reads, lasting_writes, remapped}
 use Rattle.lib_os.proofs.EntriesCount.{own_lacked}
 use Rattle.lib_os.proofs.EntriesStand.{shown_same}
@@ -182,7 +183,6 @@ counted_stands h in_order = record {
   free_slots = h.free_slots;
   first = h.first;
   server = h.server;
-  consoles = h.consoles;
   input = h.input;
   last = h.last;
   turns = h.turns;
@@ -208,7 +208,7 @@ module _ {names : Names} {s : KernelState} {a : AbstractState} (h : StandsFor na
   pub guest_at : IsAtGuest (slot_at s n) b
   guest_at = subst (λ (p : Place). StandsAt p (view_of s.spaces (slot_at s n).directory) (slot_at s n) b) stands (born_at h n b at).at
 
-  pub guest_beneath : StandsBeneath (rows_of s.spaces (slot_at s n).directory) (slot_at s n) b
+  pub guest_beneath : StandsBeneath (view_of s.spaces (slot_at s n).directory) (slot_at s n) b
   guest_beneath = at_program guest_at
 
 -- ---- one whose handler does not run, and whose entries count as they stand: it is at its program, or in a service
@@ -314,6 +314,12 @@ module _ {names : Names} {s : KernelState} {a : AbstractState} (h : StandsFor na
         (stack_page h n b at).own_page (stack_page h n b at).writes bytes laid q x other hx own_too)
         (λ x hx shared_page. refl)
 
+    -- and so are the bytes of the page in which a service keeps what it moves
+    taken_kept : (x : Entry) → rows_of s.spaces d (page_number UTEMP) ≡ Some x → is_shared x.perm ≡ false → sp.pages x.frame ≡ s.spaces.pages x.frame
+    taken_kept x hx own_too =
+        laid_beside h n b at plain (page_number UXSTACK) (stack_page h n b at).entry (stack_page h n b at).stands (stack_page h n b at).own_page
+        (stack_page h n b at).writes bytes laid (page_number UTEMP) x (λ same. absurd (omega (arith, same))) hx own_too
+
     -- memory is seen as before, and descriptors
     seen_kept : (q : ℕ) → page_seen names sp d q ≡ page_seen names s.spaces d q
     unfolding in_fence
@@ -381,12 +387,14 @@ module _ {names : Names} {s : KernelState} {a : AbstractState} (h : StandsFor na
 
     -- the page waits to be copied
     pub fault_copies : AreSmall k.registers → is_inside fault.va ≡ true → fault.error ≡ FEC_U + FEC_PR + FEC_WR →
-        IsToCopy (rows_of s.spaces d) fault.va → StandsBeneath (rows_of s.spaces d) k b → IsInOrder after → StandsFor names after a
+        IsToCopy (rows_of s.spaces d) fault.va → StandsBeneath (view_of s.spaces d) k b → IsInOrder after → StandsFor names after a
     fault_copies small inside error waits beneath in_order =
         let below = inside_below fault.va inside in
         subst (λ (x : AbstractState). StandsFor names after x) same
         (handed_stands small (omega (arith, below)) (omega (arith, error)) b.phase (copies (record {
-          beneath = subst (λ (row : EntryRow). StandsBeneath row k b) (sym row_kept) beneath;
+          beneath = beneath_moved (view_of s.spaces d) (view_of sp d) k b
+              (λ p programs writes. ap (λ (row : EntryRow). is_refused_by true (row p)) row_kept ∙ writes)
+              (record { row = ap (λ (row : EntryRow). row (page_number UTEMP)) row_kept; bytes = taken_kept }) beneath;
           error = error;
           inside = inside;
           at = subst (λ (row : EntryRow). IsToCopy row fault.va) (sym row_kept) waits;
@@ -394,13 +402,14 @@ module _ {names : Names} {s : KernelState} {a : AbstractState} (h : StandsFor na
 
     -- or it has refused the access, before which a service stands
     pub fault_stops : AreSmall k.registers → is_inside fault.va ≡ true → fault.error < 2 ^ 32 → IsRefusal (rows_of s.spaces d) fault →
-        b.program ≡ guest k.registers → k.rendezvous.receiving ≡ false → b.blocked ≡ false →
+        (eax : ℕ) → b.program ≡ guest (record k.registers { eax = eax }) → k.rendezvous.receiving ≡ false → b.blocked ≡ false →
         IsStoppedAt (is_write fault.error) (view_of s.spaces d) b fault.va k.registers.eip → IsInOrder after → StandsFor names after a
-    fault_stops small inside error refusal program silent awake stopped in_order =
+    fault_stops small inside error refusal eax program silent awake stopped in_order =
         let below = inside_below fault.va inside in
         let refused : IsRefusal (rows_of sp d) fault = subst (λ (row : EntryRow). IsRefusal row fault) (sym row_kept) refusal in
         subst (λ (x : AbstractState). StandsFor names after x) same
         (handed_stands small (omega (arith, below)) error b.phase (ends (record {
+          eax = eax;
           program = program;
           stopped = stopped_kept (view_of s.spaces d) (view_of sp d) row_kept devices_kept b b refl (is_write fault.error) fault.va k.registers.eip
               stopped;
@@ -419,6 +428,7 @@ module _ {names : Names} {s : KernelState} {a : AbstractState} (h : StandsFor na
         let below = inside_below fault.va inside in
         let refused : IsRefusal (rows_of sp d) fault = subst (λ (row : EntryRow). IsRefusal row fault) (sym row_kept) refusal in
         handed_stands small (omega (arith, below)) error (faulted fault.va k.registers.eip) (ends (record {
+          eax = k.registers.eax;
           program = guest_is.program;
           stopped = marked refl;
           silent = guest_is.silent;
@@ -466,6 +476,22 @@ module _ {names : Names} {s : KernelState} {a : AbstractState} (h : StandsFor na
         let was : hidden_left s n ≡ 5 + copy_steps * waiting = was_left ∙ ap (λ (p : Place). left_at p waiting) served in
         let is = is_left in
         omega (arith, some, was, is)
+
+    -- which may have them of a file
+    pub handing_lowers : (call : Service) (done count word : ℕ) → there ≡ place.InService call (step.PuttingBytes done count word) →
+        is_inside fault.va ≡ true → IsToCopy (rows_of s.spaces d) fault.va → hidden_left after n < hidden_left s n
+    handing_lowers call done count word served inside waits =
+        let some = waits_left (rows_of s.spaces d) fault.va inside waits in
+        let was : hidden_left s n ≡ 5 + copy_steps * waiting = was_left ∙ ap (λ (p : Place). left_at p waiting) served in
+        let is = is_left in
+        omega (arith, some, was, is)
+
+    pub file_stop_lowers : (call : Service) (done count : ℕ) → there ≡ place.InService call (step.FileFaulting done count) →
+        hidden_left after n < hidden_left s n
+    file_stop_lowers call done count served =
+        let was : hidden_left s n ≡ 2070 + copy_steps * waiting = was_left ∙ ap (λ (p : Place). left_at p waiting) served in
+        let is = is_left in
+        omega (arith, was, is)
 
     -- and where the fault ends the environment in a service
     pub stop_lowers : (call : Service) (done word : ℕ) → there ≡ place.InService call (step.Faulting done word) → hidden_left after n < hidden_left s n

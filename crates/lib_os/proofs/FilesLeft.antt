@@ -1,19 +1,20 @@
 -- What an environment does leaves what the file server has: first its services, then an instruction. The walk is that of
 -- Others.
-use Rattle.std.proofs.Common.{◌≡◌, ◌∙◌, ◌⊎◌, inl, inr, ◌≤◌, ◌<◌, ◌==◌, ◌||◌, ℕ, zero, suc, ◌+◌, ◌%◌, ◌^◌, Bool, true}
+use Rattle.std.proofs.Common.{◌≡◌, ◌≢◌, ◌∙◌, ◌⊎◌, inl, inr, ◌≤◌, ◌<◌, ◌==◌, ◌||◌, ℕ, zero, suc, ◌+◌, ◌%◌, ◌^◌, Bool, true}
 use Rattle.std.proofs.Common.{false, List, [], ◌∷◌}
 use Rattle.std.proofs.Common.{refl, sym, ap, subst, arith, Result, Ok, Err, if◌then◌else◌}
+use Rattle.std.proofs.lemmas.Bool.{cases_eq}
 use Rattle.std.proofs.lemmas.Bool.Decides.{nat_tests}
 use Rattle.std.proofs.lemmas.Nat.{mod_below}
 use Rattle.std.proofs.lemmas.Option.{same_Some}
-use Rattle.std.specs.Prelude.{Option, Some, None, IfSome, take, drop, length, codes, ⊤, nat_lt}
+use Rattle.std.specs.Prelude.{Option, Some, None, IfSome, slice_set, take, drop, length, codes, ⊤, nat_lt}
 use Rattle.jos_base.specs.declared.registers.Regs.{Regs}
 use Rattle.jos_base.specs.declared.memory.PageFault.{PageFault}
 use Rattle.jos_base.specs.declared.numbers.TheConstants.{NENV}
 use Rattle.jos_base.specs.Below.{some_below}
 use Rattle.jos_base.specs.Environments.{next_id}
 use Rattle.jos_base.specs.SpacesState.{zero_page}
-use Rattle.jos_base.specs.Words.{upd, has_bit}
+use Rattle.jos_base.specs.Words.{page_offset, upd, has_bit}
 use Rattle.jos_cpu.specs.declared.events.Event.{Event}
 use Rattle.jos_cpu.specs.declared.events.Event.TheVariants.{Next, Soft, Raised}
 use Rattle.jos_cpu.specs.declared.events.Gates.TheVariants.{Run}
@@ -58,7 +59,7 @@ use Rattle.jos_base.proofs.Below.{some_below-at}
 -- ---- who has a descriptor
 
 -- where a test passes, it does at some number
-some-passes : (n : ℕ) (passes : ℕ → Bool) → some_below n passes ≡ true → (k : ℕ) × (k < n) × (passes k ≡ true)
+pub some-passes : (n : ℕ) (passes : ℕ → Bool) → some_below n passes ≡ true → (k : ℕ) × (k < n) × (passes k ≡ true)
 unfolding some_below
 some-passes zero passes e = absurd (cc)
 some-passes (suc n) passes e = by (some_below n passes) refl (λ is. some-passes n passes is)
@@ -68,10 +69,10 @@ some-passes (suc n) passes e = by (some_below n passes) refl (λ is. some-passes
     by true is below = let found = below is in (found.0, omega (arith, found.1), found.2)
     by false is below = (n, omega arith, sym (ap (λ (t : Bool). t || passes n) is) ∙ e)
 
-name-same : (name : ℕ) → is_name (Some name) name ≡ true
+pub name-same : (name : ℕ) → is_name (Some name) name ≡ true
 name-same name = grind (arith, nat_tests)
 
-named-so : (o : Option ℕ) (name : ℕ) → is_name o name ≡ true → o ≡ Some name
+pub named-so : (o : Option ℕ) (name : ℕ) → is_name o name ≡ true → o ≡ Some name
 named-so None name is = absurd (cc)
 named-so (Some other) name is = let same : other ≡ name = grind (arith, nat_tests) in ap (λ (k : ℕ). Some k) same
 
@@ -114,6 +115,17 @@ fits-without : (a : AbstractState) (objects : ℕ → Object) (next : ℕ) (desc
     Fits a objects next descriptors → Fits a objects next (upd descriptors fd None)
 fits-without a objects next descriptors fd h = fits-with a objects next descriptors fd None h (λ name is. absurd (cc))
 
+-- ---- pages
+
+-- a byte that is put where no page is makes none
+still_none : (shared : ℕ → List ℕ) (name other offset byte : ℕ) → shared other ≡ [] → upd shared name (slice_set (shared name) offset byte) other ≡ []
+still_none shared name other offset byte none = elim (cases_eq other name) [
+  | inl same ↦
+      ap (upd shared name (slice_set (shared name) offset byte)) same ∙ upd-at shared name (slice_set (shared name) offset byte)
+      ∙ ap (λ (l : List ℕ). slice_set l offset byte) (ap shared (sym same) ∙ none)
+  | inr ne ↦ upd-other shared name (slice_set (shared name) offset byte) other ne ∙ none
+]
+
 -- ---- what is left
 
 -- the server is as it was, or is asked
@@ -123,17 +135,18 @@ data Asked (a : AbstractState) (n : ℕ) (server : Server) : Type 0 where
 
 -- The parts of a later state that this is about, with how they stand to those of the first.
 record Now (a : AbstractState) (n : ℕ) (slots : ℕ → AbstractSlot) (objects : ℕ → Object) (next : ℕ) (files : FileSystem)
-    (opened : ℕ → TablePlace) (server : Server) : Type 0 where
+    (opened : ℕ → TablePlace) (server : Server) (shared : ℕ → List ℕ) : Type 0 where
   files_are : files ≡ a.files
   opened_are : opened ≡ a.opened
   server_is : Asked a n server
   names : a.next_name ≤ next
   objects_are : (name : ℕ) → name < a.next_name → objects name ≡ a.objects name
   holders : (m : ℕ) → m < NENV → FitsIn a objects next (born_in (slots m))
+  pages_are : (name : ℕ) → (name < a.next_name) ⊎ (next ≤ name) → a.shared name ≡ [] → shared name ≡ []
 
 module _ (a : AbstractState) (n : ℕ) (small : n < NENV) where
   abbrev Left : AbstractState → Type 0
-  Left x = Now a n x.slots x.objects x.next_name x.files x.opened x.server
+  Left x = Now a n x.slots x.objects x.next_name x.files x.opened x.server x.shared
 
   abbrev LeftIf : Option AbstractState → Type 0
   LeftIf r = IfSome r Left
@@ -148,6 +161,7 @@ module _ (a : AbstractState) (n : ℕ) (small : n < NENV) where
     names = omega arith;
     objects_are = λ name below. refl;
     holders = λ m below. fits-before a a.objects a.next_name m below (born_in (a.slots m)) refl;
+    pages_are = λ name old none. none;
   }
 
   -- something else stands in a slot
@@ -161,6 +175,7 @@ module _ (a : AbstractState) (n : ℕ) (small : n < NENV) where
     objects_are = h.objects_are;
     holders = upd-all (λ (m : ℕ) (s : AbstractSlot). m < NENV → FitsIn a x.objects x.next_name (born_in s)) x.slots k slot
         (λ below. fits) (λ m ne. h.holders m);
+    pages_are = h.pages_are;
   }
 
   set_left : (slot : AbstractSlot) → FitsIn a a.objects a.next_name (born_in slot) → Left (with_slot a n slot)
@@ -178,7 +193,16 @@ module _ (a : AbstractState) (n : ℕ) (small : n < NENV) where
       Fits a x.objects x.next_name b.descriptors → Left (stored_in x k b va byte page)
   page_left x k b va byte None h fits = h
   page_left x k b va byte (Some (own bytes w)) h fits = set_left_in x k _ h fits
-  page_left x k b va byte (Some (named name w)) h fits = h
+  page_left x k b va byte (Some (named name w)) h fits = record {
+    files_are = h.files_are;
+    opened_are = h.opened_are;
+    server_is = h.server_is;
+    names = h.names;
+    objects_are = h.objects_are;
+    holders = h.holders;
+    pages_are = λ other old none.
+        still_none x.shared name other (page_offset va) byte (h.pages_are other old none);
+  }
 
   into_left : (x : AbstractState) (k va byte : ℕ) (o : Option Born) → Left x → FitsIn a x.objects x.next_name o →
       Left (stored_into x k va byte o)
@@ -253,6 +277,10 @@ module _ (a : AbstractState) (n : ℕ) (small : n < NENV) where
         fresh : AbstractState
         fresh = record a { shared = upd a.shared a.next_name zero_page; next_name = a.next_name + 1 }
 
+        apart : (name : ℕ) → (name < a.next_name) ⊎ (a.next_name + 1 ≤ name) → name ≢ a.next_name
+        apart name (inl below) = omega (arith, below)
+        apart name (inr above) = omega (arith, above)
+
         fresh_left : Left fresh
         fresh_left = record {
           files_are = refl;
@@ -261,6 +289,7 @@ module _ (a : AbstractState) (n : ℕ) (small : n < NENV) where
           names = omega arith;
           objects_are = λ name below. refl;
           holders = λ m below. fits-before a a.objects (a.next_name + 1) m below (born_in (a.slots m)) refl;
+          pages_are = λ name old none. upd-other a.shared a.next_name zero_page name (apart name old) ∙ none;
         }
 
     page_new_left : (va flags : ℕ) → Left (page_new a n b regs va flags)
@@ -338,6 +367,7 @@ module _ (a : AbstractState) (n : ℕ) (small : n < NENV) where
               upd-other ends (a.next_name + 2) (write_end a.next_name) name (omega arith)
               ∙ upd-other a.objects (a.next_name + 1) (read_end a.next_name) name (omega arith);
           holders = λ m below. fits-before a objects next m below (born_in (a.slots m)) refl;
+          pages_are = λ name old none. none;
         }
 
     module _ (s : Service) where
@@ -378,6 +408,7 @@ module _ (a : AbstractState) (n : ℕ) (small : n < NENV) where
             names = same_left.names;
             objects_are = same_left.objects_are;
             holders = same_left.holders;
+            pages_are = same_left.pages_are;
           }) mine
       asks_left request _ e = record {}
 
@@ -673,7 +704,7 @@ module _ (a : AbstractState) (n : ℕ) (small : n < NENV) where
   stated : (r : Option AbstractState) → LeftIf r → IfSome r Stated
   stated None h = record {}
   stated (Some x) h = (
-    record { files = h.files_are; opened = h.opened_are; names = h.names; objects = h.objects_are; held = held_after x h },
+    record { files = h.files_are; opened = h.opened_are; names = h.names; objects = h.objects_are; held = held_after x h; pages = h.pages_are },
     asked_after x h.server_is,
   )
 

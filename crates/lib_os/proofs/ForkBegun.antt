@@ -23,7 +23,7 @@ use Rattle.lib_os.specs.declared.service.Service.TheVariants as service
 use Rattle.lib_os.specs.AbstractFork.{begun_in, fork}
 use Rattle.lib_os.specs.AbstractState.{AbstractState, AbstractSlot, Born, unborn, born, bearing, in_service, is_live, with_slot}
 use Rattle.lib_os.specs.Answers.{at_stage}
-use Rattle.lib_os.specs.DescriptorPages.{device_of}
+use Rattle.lib_os.specs.DescriptorPages.{lasting_words}
 use Rattle.lib_os.specs.InOrder.{IsInOrder, AreFree}
 use Rattle.lib_os.specs.LibraryPages.{has_working, region_index}
 use Rattle.lib_os.specs.Places.{place_of, words_at}
@@ -183,7 +183,7 @@ module _ {names : Names} {s : KernelState} {a : AbstractState} (h : StandsFor na
     rows = rows_kept d;
     bytes = λ p x is own_page. page_kept d p x is;
     named_so = λ p x is shared_page. refl;
-    devices = λ p x descriptor is shared_page. ap device_of (page_kept d p x is);
+    devices = λ p x descriptor is shared_page. ap lasting_words (page_kept d p x is);
     regions = λ r. refl;
   }
 
@@ -470,7 +470,6 @@ module _ {names : Names} {s : KernelState} {a : AbstractState} (h : StandsFor na
           ∙ upd-other a.slots m (unborn id b.id) 0 not_first
           ∙ h.first;
       server = server_same server_here (server_alike (seen (slot_at s 0).directory) h.server);
-      consoles = h.consoles;
       input = h.input;
       last = h.last;
       turns = h.turns;

@@ -8,7 +8,7 @@ use Rattle.std.proofs.lemmas.Nat.{from_le_bytes-to_le_bytes_4}
 use Rattle.std.proofs.lemmas.Option.{same_Some}
 use Rattle.jos_base.specs.declared.memory.Access.TheVariants.{Read}
 use Rattle.jos_base.specs.declared.memory.PageFault.{PageFault}
-use Rattle.jos_base.specs.declared.numbers.TheConstants.{PGSIZE, UTRAPFRAME_WORDS}
+use Rattle.jos_base.specs.declared.numbers.TheConstants.{PGSIZE, UTEMP, UTRAPFRAME_WORDS}
 use Rattle.jos_base.specs.declared.registers.Regs.{Regs}
 use Rattle.jos_base.specs.Counting.{page_limit}
 use Rattle.jos_base.specs.Environments.{Slot, records_of}
@@ -31,13 +31,13 @@ use Rattle.lib_os.specs.LibrarySteps.{copies_left, copy_steps, hidden_left, left
 use Rattle.lib_os.specs.Places.{is_handlers, place_of}
 use Rattle.lib_os.specs.Rows.{EntryRow, Names, Rows, rows_of}
 use Rattle.lib_os.specs.StandsFor.{StandsFor, StandsForBorn, StandsAt, upcall_at, view_of, borne_in}
-use Rattle.lib_os.specs.StandsInHandler.{Copies, CopiesOrEnds, StandsBeneath, copies, ends}
+use Rattle.lib_os.specs.StandsInHandler.{Copies, CopiesOrEnds, copies, ends, is_refused_by}
 use Rattle.lib_os.specs.UserCalls.{giving, restored, restore_frame}
 use Rattle.lib_os.proofs.FaultsStand.{frame_long, stack_page, stack_reached}
 use Rattle.lib_os.proofs.Handled.{IsHandled, handled_part}
 use Rattle.lib_os.proofs.Children.{bears_none}
 use Rattle.lib_os.proofs.Logical.{is_plain}
-use Rattle.lib_os.proofs.Beneath.{StandsAgain, stands_again}
+use Rattle.lib_os.proofs.Beneath.{StandsAgain, beneath_moved, stands_again}
 use Rattle.lib_os.proofs.Serving.{library_moved}
 use Rattle.lib_os.proofs.Working.{words_work}
 use Rattle.lib_os.proofs.SlotsStand.{born_at}
@@ -155,13 +155,18 @@ module _ {names : Names} {s : KernelState} {a : AbstractState} (h : StandsFor na
   back = record k { registers = regs_before }
 
   -- where it stands again
-  pub again : (w : View) → w.row ≡ rows_of s.spaces k.directory → StandsAgain w back v.b
-  again w same =
+  pub again : (w : View) → w.row ≡ rows_of s.spaces k.directory → w.bytes ≡ s.spaces.pages → StandsAgain w back v.b
+  again w same bytes =
       stands_again w back v.b (free_outside regs_before.esp v.at.stack)
-      (subst (λ (row : EntryRow). StandsBeneath row back v.b) (sym same) way.beneath)
+      (beneath_moved (view_of s.spaces k.directory) w back v.b (λ p programs writes. ap (λ (row : EntryRow). is_refused_by true (row p)) same ∙ writes)
+      (record {
+        row = ap (λ (row : EntryRow). row (page_number UTEMP)) same;
+        bytes = λ x is own_page. ap (λ (pages : ℕ → List ℕ). pages x.frame) bytes;
+      })
+      way.beneath)
 
   abbrev first : StandsAgain (view_of s.spaces k.directory) back v.b
-  first = again (view_of s.spaces k.directory) refl
+  first = again (view_of s.spaces k.directory) refl refl
 
   -- the place
   abbrev pub place_again : Place
@@ -188,7 +193,7 @@ module _ {names : Names} {s : KernelState} {a : AbstractState} (h : StandsFor na
       mine : StandsForBorn names sp back v.b
       mine =
           let own = born_at reached n v.b v.is in
-          let it = again (view_of sp k.directory) (ap (λ (rows : Rows). rows k.directory) quiet.rows) in
+          let it = again (view_of sp k.directory) (ap (λ (rows : Rows). rows k.directory) quiet.rows) quiet.pages in
           record {
             id = own.id;
             id_small = own.id_small;

@@ -119,6 +119,30 @@ passed_from (step.Awaiting id) p = every p
 passed_from (step.ReadingReply id) p = every p
 passed_from step.Identifying p = every p
 passed_from (step.Clearing id) p = every p
+passed_from step.ReadingMode p = every p
+passed_from step.ReadingNumber p = every p
+passed_from (step.StoringNumber number) p = every p
+passed_from step.StoringCount p = every p
+passed_from step.TakingRequest p = every p
+passed_from (step.GatheringBytes done start) p = every p
+passed_from (step.KeepingBytes done word left start) p = every p
+passed_from (step.CountingReply id) p = every p
+passed_from (step.FileRegion done count) p = every p
+passed_from (step.FileEntry done count) p = every p
+passed_from (step.LoadingBytes done count) p = every p
+passed_from (step.LoadingRest done count first) p = every p
+passed_from (step.PuttingBytes done count word) p = every p
+passed_from (step.FileFaulting done count) p = every p
+passed_from (step.Returning answer) p = every p
+passed_from step.FreeRegion p = every p
+passed_from (step.FreeEntry fd) p = every p
+passed_from (step.StoringMode fd) p = every p
+passed_from (step.OpenIdentifying fd) p = every p
+passed_from (step.OpenAsking id fd) p = every p
+passed_from (step.OpenPausing id fd) p = every p
+passed_from (step.OpenAwaiting id fd) p = every p
+passed_from (step.OpenClearing id fd) p = every p
+passed_from (step.ReadingOpened id fd) p = every p
 
 stack_kept : is_programs (page_number UXSTACK) ≡ false
 unfolding in_fence

@@ -40,6 +40,7 @@ copies_go way at = record {
 pub ends_go : {from to : HandlerStep} {v : View} {k : Slot} {b : Born} {fault : PageFault} {regs : Regs} → Ends from v k b fault regs →
     EndsAt to fault regs → Ends to v (handler_slot k to) b fault regs
 ends_go way at = record {
+  eax = way.eax;
   program = way.program;
   stopped = way.stopped;
   silent = way.silent;

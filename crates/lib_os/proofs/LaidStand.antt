@@ -12,7 +12,7 @@ use Rattle.jos_base.specs.SpacesState.{SpacesState, overlaid}
 use Rattle.jos_base.specs.SystemCalls.{has_write}
 use Rattle.jos_base.specs.Words.{upd}
 use Rattle.lib_os.specs.AbstractState.{AbstractState, Born, born}
-use Rattle.lib_os.specs.DescriptorPages.{device_of}
+use Rattle.lib_os.specs.DescriptorPages.{lasting_words}
 use Rattle.lib_os.specs.Places.{place_of}
 use Rattle.lib_os.specs.Rows.{Names, Rows, rows_of, counted, logical, logical_by, is_clients, is_descriptor, is_shared, IsPage}
 use Rattle.lib_os.specs.StandsFor.{StandsFor, things_in, view_of}
@@ -92,7 +92,7 @@ module _ {names : Names} {s : KernelState} {a : AbstractState} {sp : SpacesState
 
   -- what the pages of its own descriptors tell is the same
   pub laid_devices : is_descriptor p ≡ false → SameDevices (view_of s.spaces d) (view_of sp d)
-  laid_devices none q x descriptor hx = ap device_of (by_sharing (is_shared x.perm) refl)
+  laid_devices none q x descriptor hx = ap lasting_words (by_sharing (is_shared x.perm) refl)
     where
       by_sharing : (c : Bool) → is_shared x.perm ≡ c → sp.pages x.frame ≡ s.spaces.pages x.frame
       by_sharing true shared_page = bytes_kept x (shared_elsewhere n q x (own_counts q x hx) shared_page)
@@ -111,7 +111,7 @@ module _ {names : Names} {s : KernelState} {a : AbstractState} {sp : SpacesState
     rows = ap (λ (rows : Rows). rows q) laid.rows;
     bytes = λ r x hx own_too. own_elsewhere lacked q r x ne hx own_too;
     named_so = λ r x hx shared_page. refl;
-    devices = λ r x descriptor hx shared_too. ap device_of (shared_kept lacked q r x hx shared_too);
+    devices = λ r x descriptor hx shared_too. ap lasting_words (shared_kept lacked q r x hx shared_too);
     regions = laid.regions q;
   }
 

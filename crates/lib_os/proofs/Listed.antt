@@ -364,7 +364,6 @@ module _ (l : Spaces) (pairs : List (ℕ × Pair)) (owner : ℕ → ℕ) (fit : 
       tables = λ r is. absurd (false≢true (sym (ap (λ (o : Option Region). is_some o) (fit.server.tables r)) ∙ is));
       alone = λ j q x y below at there same. absurd (none-some y (sym (fit.server.empty q) ∙ there));
     };
-    consoles = λ name. refl;
     input = (refl, λ i. omega arith);
     last = refl;
     turns = refl;

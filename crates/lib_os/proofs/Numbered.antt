@@ -25,6 +25,7 @@ number_of (service.PageNew va flags) = 6
 number_of (service.PageDrop va) = 7
 number_of (service.Send id value va) = 8
 number_of (service.Receive va from) = 9
+number_of (service.OpenFile path mode) = 10
 number_of (service.Close fd) = 11
 number_of (service.Read fd va len) = 12
 number_of (service.Write fd va len) = 13
@@ -43,26 +44,15 @@ by_number q k x y here other = by_test (q == k) refl
     by_test true is = let at : q ≡ k = grind (arith, nat_tests) in here ∙ sym at
     by_test false is = other (grind (arith, nat_tests))
 
--- of a number that names no service that is built nothing is claimed
-past : (q k : ℕ) (x y : Service) → q ≢ k → number_of y ≡ q → number_of (if q == k then x else y) ≡ q
-past q k x y other is = by_test (q == k) refl
-  where
-    by_test : (t : Bool) → (q == k) ≡ t → number_of (if t then x else y) ≡ q
-    by_test true same = let no : ⊥ = other (grind (arith, nat_tests)) in absurd no
-    by_test false differs = is
-
 pub numbered : (r : Regs) → is_built r.eax ≡ true → number_of (named_service r) ≡ r.eax
 unfolding named_service
 numbered r built =
     by_number r.eax 0 _ _ refl (λ n0. by_number r.eax 1 _ _ refl (λ n1. by_number r.eax 2 _ _ refl (λ n2. by_number r.eax 3 _ _ refl (λ n3.
     by_number r.eax 4 _ _ refl (λ n4. by_number r.eax 5 _ _ refl (λ n5. by_number r.eax 6 _ _ refl (λ n6. by_number r.eax 7 _ _ refl (λ n7.
-    by_number r.eax 8 _ _ refl (λ n8. by_number r.eax 9 _ _ refl (λ n9. past r.eax 10 _ _ (unbuilt 10 refl) (by_number r.eax 11 _ _ refl (λ n11.
+    by_number r.eax 8 _ _ refl (λ n8. by_number r.eax 9 _ _ refl (λ n9. by_number r.eax 10 _ _ refl (λ n10. by_number r.eax 11 _ _ refl (λ n11.
     by_number r.eax 12 _ _ refl (λ n12. by_number r.eax 13 _ _ refl (λ n13. by_number r.eax 14 _ _ refl (λ n14. by_number r.eax 15 _ _ refl (λ n15.
     by_number r.eax 16 _ _ refl (λ n16. by_number r.eax 17 _ _ refl (λ n17. by_number r.eax 18 _ _ refl (λ n18. by_number r.eax 19 _ _ refl (λ n19.
     let no_number : ⊥ = grind (arith, nat_tests) in absurd no_number))))))))))))))))))))
-  where
-    unbuilt : (k : ℕ) → is_built k ≡ false → r.eax ≢ k
-    unbuilt k none same = let contradiction : true ≡ false = sym built ∙ ap is_built same ∙ none in cc
 
 pub named_again : (r : Regs) (s : Service) → service_of r ≡ s → service_of (record r { eax = number_of s }) ≡ s
 unfolding service_of

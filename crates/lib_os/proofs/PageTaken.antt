@@ -30,13 +30,13 @@ use Rattle.lib_os.specs.Answers.{back_with}
 use Rattle.lib_os.specs.DescriptorPages.{device_of}
 use Rattle.lib_os.specs.Fence.{in_fence, is_resident}
 use Rattle.lib_os.specs.InOrder.{IsInOrder}
-use Rattle.lib_os.specs.LibraryPages.{IsOwnWritable, LibraryPages, has_working, is_library_region, region_index}
+use Rattle.lib_os.specs.LibraryPages.{IsOwnWritable, LibraryPages, has_working, is_library_region, region_index, HasTaken}
 use Rattle.lib_os.specs.LibrarySteps.{KeepsStanding, TakesAtMost, copies_left, is_to_copy, service_answered, steps_left}
 use Rattle.lib_os.specs.Places.{is_handlers, place_of, words_at}
 use Rattle.lib_os.specs.Rows.{IsPage, IsUsers, Names, Rows, descriptor_page, descriptor_seen, is_descriptor, is_programs, is_shared, logical}
 use Rattle.lib_os.specs.Rows.{is_clients, is_cow, lasting, page_by, page_seen, rows_of, seen_where, shown_at}
-use Rattle.lib_os.specs.StandsFor.{HasTaken, IsIn, IsStatusFor, IsTaking, StandsAt, StandsFor, StandsForBorn, borne_in, things_in, view_of}
-use Rattle.lib_os.specs.StandsInHandler.{IsGiven, wanted_of}
+use Rattle.lib_os.specs.StandsFor.{HasTakenFrom, IsIn, IsStatusFor, IsTaking, StandsAt, StandsFor, StandsForBorn, borne_in, things_in, view_of}
+use Rattle.lib_os.specs.StandsInHandler.{IsGiven, on_console, wanted_of}
 use Rattle.lib_os.specs.UserCalls.{CallStep, giving, system}
 use Rattle.lib_os.proofs.CallersStay.{alloc_answers}
 use Rattle.lib_os.proofs.Calls.{PageMade, PageRefused, page_made_or_refused, refusal_is_seen}
@@ -350,6 +350,10 @@ module _ {names : Names} {s : KernelState} {a : AbstractState} {sp : SpacesState
   taken_own = record { entry = new_entry; stands = working_here taken_puts; own_page = refl; writes = refl }
 
   -- it has no bytes yet
+  pub taken_none_from : (start : ℕ) → HasTakenFrom (view_of sp d) start [] 0
+  taken_none_from start =
+      record { entry = new_entry; stands = working_here taken_puts; own_page = refl; same = λ i lt. absurd (omega (arith, lt)) }
+
   pub taken_none : HasTaken (view_of sp d) [] 0
   taken_none = record { entry = new_entry; stands = working_here taken_puts; own_page = refl; same = λ i lt. absurd (omega (arith, lt)) }
 
@@ -404,7 +408,7 @@ module _ {names : Names} {s : KernelState} {a : AbstractState} {sp : SpacesState
   puts = taken_puts h n v.b v.is made
 
   -- it stands before the first byte of its buffer, of which nothing is taken
-  taken_at : IsTaking (view_of sp home) goes_to v.b fd va len 0
+  taken_at : IsTaking (view_of sp home) goes_to v.b fd va len 0 0
   taken_at = record {
     bytes = [];
     program = is_in.program;
@@ -412,19 +416,19 @@ module _ {names : Names} {s : KernelState} {a : AbstractState} {sp : SpacesState
       phase = is_in.phase;
       given = record {
         below = given.below;
-        console = record {
+        begins = on_console refl (record {
           entry = given.console.entry;
           stands = working_beside puts (descriptor_page fd) beside ∙ given.console.stands;
           device =
               ap device_of (puts.bytes home (descriptor_page fd) given.console.entry (λ same too. beside too) given.console.stands)
               ∙ given.console.device;
-        };
+        });
         buffer = given.buffer;
       };
       fewer = few;
     };
     many = refl;
-    kept = taken_none h n v.b v.is made;
+    kept = taken_none_from h n v.b v.is made 0;
     silent = is_in.silent;
     awake = is_in.awake;
   }

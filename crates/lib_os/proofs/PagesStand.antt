@@ -15,7 +15,7 @@ use Rattle.jos_base.specs.Words.{page_number, upd}
 use Rattle.lib_os.specs.declared.numbers.TheConstants.{REQUEST}
 use Rattle.lib_os.specs.AbstractState.{AbstractState, Born, Page, own, named, born, with_born}
 use Rattle.lib_os.specs.AbstractMemory.{page_at, with_page, without_page}
-use Rattle.lib_os.specs.DescriptorPages.{device_of}
+use Rattle.lib_os.specs.DescriptorPages.{lasting_words}
 use Rattle.lib_os.specs.InOrder.{IsInOrder}
 use Rattle.lib_os.specs.LibraryPages.{is_library_region}
 use Rattle.lib_os.specs.Places.{place_of}
@@ -70,7 +70,7 @@ module _ {names after : Names} {s : KernelState} {a : AbstractState} {sp : Space
     rows = λ i. λ r. row_kept q r (λ same too. ne same) i;
     bytes = λ r x hx own_page. puts.bytes q r x (λ same too. ne same) hx;
     named_so = λ r x hx shared_page. puts.named_so q r x hx shared_page;
-    devices = λ r x descriptor hx shared_page. ap device_of (puts.bytes q r x (λ same too. ne same) hx);
+    devices = λ r x descriptor hx shared_page. ap lasting_words (puts.bytes q r x (λ same too. ne same) hx);
     regions = λ r. puts.regions q r ne;
   }
 

@@ -25,7 +25,7 @@ use Rattle.lib_os.specs.declared.place.Step.TheVariants as step
 use Rattle.lib_os.specs.declared.service.Service.TheVariants as service
 use Rattle.lib_os.specs.AbstractState.{AbstractState, AbstractSlot, Page, own, unborn, serving, is_live}
 use Rattle.lib_os.specs.AbstractMemory.{has_page_in}
-use Rattle.lib_os.specs.DescriptorPages.{Things, device_of}
+use Rattle.lib_os.specs.DescriptorPages.{Things, lasting_words}
 use Rattle.lib_os.specs.InOrder.{IsInOrder}
 use Rattle.lib_os.specs.LibraryPages.{is_library_region, region_index}
 use Rattle.lib_os.specs.Places.{place_in_words, place_of, words_at}
@@ -383,7 +383,7 @@ module _ {names : Names} {s : KernelState} {a : AbstractState} (h : StandsFor na
       rows = λ i. λ r. kept q r (λ same too. ne same) i;
       bytes = λ r x hx own_page. bytes_kept q r x hx;
       named_so = λ r x hx shared_page. refl;
-      devices = λ r x descriptor hx shared_page. ap device_of (bytes_kept q r x hx);
+      devices = λ r x descriptor hx shared_page. ap lasting_words (bytes_kept q r x hx);
       regions = λ r. other_regions given.placed q r ne;
     }
 

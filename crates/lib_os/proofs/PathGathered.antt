@@ -1,5 +1,5 @@
--- The bytes that remove loads of its path, a word or a byte at once: the load gives those of the abstract system, and remove has them in
--- mind, with those that its page has.
+-- The bytes that a service loads of the path that it is given, a word or a byte at once: the load gives those of the abstract system, and the
+-- service has them in mind, with those that its page has.
 use Rattle.std.proofs.Common.{◌≡◌, ◌∙◌, ◌+◌, ◌-◌, ◌%◌, ◌^◌, ◌++◌, ◌==◌, ◌<◌, ◌≤◌, ℕ, suc, Bool, true, false, List, [], ◌∷◌, length}
 use Rattle.std.proofs.Common.{refl, sym, ap, subst, arith, if◌then◌else◌}
 use Rattle.std.proofs.lemmas.Bool.Decides.{nat_tests}
@@ -19,21 +19,20 @@ use Rattle.jos_base.specs.UserMemory.{reach_in}
 use Rattle.jos_base.specs.Words.{page_number, page_offset}
 use Rattle.jos_base.proofs.Walks.{walked_below}
 use Rattle.fs_layout.specs.declared.numbers.TheConstants.{MAXPATHLEN}
-use Rattle.lib_os.specs.declared.numbers.TheConstants.{SERVICE_REMOVE}
 use Rattle.lib_os.specs.declared.place.Step.TheVariants as step
-use Rattle.lib_os.specs.declared.service.Service.TheVariants as service
+use Rattle.lib_os.specs.declared.service.Service.{Service}
 use Rattle.lib_os.specs.AbstractMemory.{byte_at, page_allows, page_at}
 use Rattle.lib_os.specs.AbstractRun.{abs_step}
 use Rattle.lib_os.specs.AbstractState.{AbstractState, Born, gathering, in_service}
 use Rattle.lib_os.specs.Answers.{at_stage, bytes_from, moved_at_once}
 use Rattle.lib_os.specs.Fence.{in_fence, is_inside}
-use Rattle.lib_os.specs.FileServices.{is_nul, remove_asked}
+use Rattle.lib_os.specs.FileServices.{is_nul}
 use Rattle.lib_os.specs.LibraryCall.{library_step}
 use Rattle.lib_os.specs.LibraryPages.{View}
 use Rattle.lib_os.specs.Places.{words_at}
 use Rattle.lib_os.specs.Rows.{AreBytes, Names, rows_of}
-use Rattle.lib_os.specs.StandsFor.{IsGatheringPath, IsKeepingPath, IsTakingPath, StandsAtStep, StandsFor, borne_in, refuses_next, view_of}
-use Rattle.lib_os.specs.StandsInHandler.{HasNoEnd, is_refused_by, may_follow, stage_with}
+use Rattle.lib_os.specs.StandsFor.{IsGatheringPath, IsKeepingPath, IsTakingPath, StandsAtStep, StandsFor, borne_in, refuses_next, view_of, writes_buffer}
+use Rattle.lib_os.specs.StandsInHandler.{HasNoEnd, buffer_of, is_refused_by, may_follow, stage_with, takes_path}
 use Rattle.lib_os.specs.UserCalls.{accessing, giving, load, load_byte, user_byte, user_word}
 use Rattle.lib_os.proofs.BufferAccesses.{IsMoved, byte_small, entry_lets, frame_whole, moved_is, reached_order, stage_stands}
 use Rattle.lib_os.proofs.BytesGathered.{four_from, from_length, from_small, one_from}
@@ -41,9 +40,10 @@ use Rattle.lib_os.proofs.BytesRead.{user_byte_is, user_entry_read}
 use Rattle.lib_os.proofs.DescriptorLooks.{loaded_view}
 use Rattle.lib_os.proofs.Fences.{inside_below, inside_number}
 use Rattle.lib_os.proofs.Loading.{loaded}
-use Rattle.lib_os.proofs.Numbered.{named_at}
+use Rattle.lib_os.proofs.Numbered.{named_at, number_of}
 use Rattle.lib_os.proofs.PageBytes.{bytes_append}
-use Rattle.lib_os.proofs.Paths.{follows_fewer, follows_inside, path_gathers}
+use Rattle.lib_os.proofs.Paths.{follows_fewer, follows_inside, next_asked, path_gathers, path_stepped}
+use Rattle.lib_os.proofs.PathServices.{gathering_path, has_path, path_holds, path_keeping, path_reads, path_unborne}
 use Rattle.lib_os.proofs.Serving.{IsServed, holds_page, service_step}
 use Rattle.lib_os.proofs.StatesStand.{quiet_stands}
 use Rattle.lib_os.proofs.Touching.{touched_quiet}
@@ -72,32 +72,38 @@ no_end_before (byte ∷ rest) more none = by_first (is_nul byte) (λ later. no_e
 -- ---- the step of the abstract system
 
 -- the next bytes are taken
-path_more : (a : AbstractState) (n : ℕ) (b : Born) (regs : Regs) (path : ℕ) (bytes : List ℕ) → HasNoEnd bytes → may_follow path (length bytes) ≡ true →
-    page_allows (page_at b (path + length bytes)) Read ≡ true →
-    library_step a n b regs (service.Remove path) (stage_with bytes)
-    ≡ Some (at_stage a n b (service.Remove path) (gathering (bytes ++ bytes_from a b (path + length bytes)
-    (moved_at_once (path + length bytes) (MAXPATHLEN - length bytes)))))
-unfolding library_step
-path_more a n b regs path [] none follows may =
-    path_gathers a n b regs (service.Remove path) path [] (remove_asked a n b (service.Remove path)) none follows ∙ rw may refl
-path_more a n b regs path (byte ∷ rest) none follows may =
-    path_gathers a n b regs (service.Remove path) path (byte ∷ rest) (remove_asked a n b (service.Remove path)) none follows ∙ rw may refl
+path_more : (a : AbstractState) (n : ℕ) (b : Born) (regs : Regs) (call : Service) → takes_path call ≡ true → (bytes : List ℕ) → HasNoEnd bytes →
+    may_follow (buffer_of call) (length bytes) ≡ true → page_allows (page_at b (buffer_of call + length bytes)) Read ≡ true →
+    library_step a n b regs call (stage_with bytes)
+    ≡ Some (at_stage a n b call (gathering (bytes ++ bytes_from a b (buffer_of call + length bytes)
+    (moved_at_once (buffer_of call + length bytes) (MAXPATHLEN - length bytes)))))
+path_more a n b regs call takes bytes none follows may =
+    path_stepped a n b regs call takes bytes
+    ∙ path_gathers a n b regs call (buffer_of call) bytes (next_asked a n b regs call) none follows ∙ rw may refl
 
 -- ---- the load
 
--- remove is about to load the next bytes
-module _ {names : Names} {s : KernelState} {a : AbstractState} (h : StandsFor names s a) (n path done : ℕ)
-    (v : IsServed names s a n (service.Remove path) (step.Gathering done)) (follows : may_follow path done ≡ true) where
+-- it is about to load the next bytes
+module _ {names : Names} {s : KernelState} {a : AbstractState} (h : StandsFor names s a) (n : ℕ) (call : Service)
+    (takes : has_path call ≡ true) (done : ℕ) (v : IsServed names s a n call (step.Gathering done))
+    (follows : may_follow (buffer_of call) done ≡ true) where
+  abbrev path : ℕ
+  path = buffer_of call
+
   abbrev k : Slot
   k = slot_at s n
 
   abbrev d : ℕ
   d = k.directory
 
-  at : IsTakingPath (view_of s.spaces d) k v.b path done × (refuses_next (rows_of s.spaces d) (service.Remove path) done ≡ false)
-  at = subst (λ (t : Bool). IsGatheringPath t (view_of s.spaces d) k v.b path done) follows v.at
+  at : IsTakingPath (view_of s.spaces d) k v.b call done × (refuses_next (rows_of s.spaces d) call done ≡ false)
+  at = subst (λ (t : Bool). IsGatheringPath t (view_of s.spaces d) k v.b call done) follows (gathering_path (view_of s.spaces d) k v.b call takes done v.at)
 
-  pub it : IsTakingPath (view_of s.spaces d) k v.b path done
+  -- its bytes are read
+  read_so : (va : ℕ) → is_refused_by (writes_buffer call) (rows_of s.spaces d (page_number va)) ≡ is_refused_by false (rows_of s.spaces d (page_number va))
+  read_so va = ap (λ (w : Bool). is_refused_by w (rows_of s.spaces d (page_number va))) (path_reads call takes)
+
+  pub it : IsTakingPath (view_of s.spaces d) k v.b call done
   it = at.0
 
   -- those that it has taken
@@ -148,7 +154,7 @@ module _ {names : Names} {s : KernelState} {a : AbstractState} (h : StandsFor na
   page_read : page_allows (page_at v.b next) Read ≡ true
   page_read =
       entry_lets h n v.b v.is next first_inside false
-      (ap (λ (q : ℕ). is_refused_by false (rows_of s.spaces d (page_number q))) next_is ∙ at.1)
+      (ap (λ (q : ℕ). is_refused_by false (rows_of s.spaces d (page_number q))) next_is ∙ sym (read_so (path + done)) ∙ at.1)
 
   each_read : (i : ℕ) → i < moved → page_allows (page_at v.b (next + i)) Read ≡ true
   each_read i lt = ap (λ (p : ℕ). page_allows (v.b.memory p) Read) (lies.page i lt) ∙ page_read
@@ -203,15 +209,15 @@ module _ {names : Names} {s : KernelState} {a : AbstractState} (h : StandsFor na
 
   -- remove has them
   abbrev pub path_gathered : AbstractState
-  path_gathered = at_stage a n v.b (service.Remove path) (gathering (it.bytes ++ path_taken))
+  path_gathered = at_stage a n v.b call (gathering (it.bytes ++ path_taken))
 
   pub path_gathered_step : abs_step a n ≡ Some path_gathered
   path_gathered_step =
       let place : path + length it.bytes ≡ next = ap (λ (m : ℕ). path + m) it.many ∙ sym next_is in
-      service_step a n v.b k.registers (service.Remove path) (stage_with it.bytes) v.is it.program it.wants.phase it.awake
-      ∙ path_more a n v.b k.registers path it.bytes it.wants.no_end it.wants.follows
+      service_step a n v.b k.registers call (stage_with it.bytes) v.is it.program it.wants.phase it.awake
+      ∙ path_more a n v.b k.registers call it.wants.takes it.bytes it.wants.no_end it.wants.follows
       (ap (λ (q : ℕ). page_allows (page_at v.b q) Read) place ∙ page_read)
-      ∙ (λ i. Some (at_stage a n v.b (service.Remove path) (gathering (it.bytes ++ bytes_from a v.b (place i)
+      ∙ (λ i. Some (at_stage a n v.b call (gathering (it.bytes ++ bytes_from a v.b (place i)
       (moved_at_once (place i) (MAXPATHLEN - it.many i))))))
 
   -- each of those that it had is a byte
@@ -232,20 +238,21 @@ module _ {names : Names} {s : KernelState} {a : AbstractState} (h : StandsFor na
   taken_small = from_small a v.b next moved below_limit each_small
 
   -- they lie in one page
-  taken_page : refuses_next (rows_of s.spaces d) (service.Remove path) (done + moved - 1) ≡ false
+  taken_page : refuses_next (rows_of s.spaces d) call (done + moved - 1) ≡ false
   taken_page =
       let some = lies.some in
       let same : path + (done + moved - 1) ≡ next + (moved - 1) = (let place = next_is in omega (arith, place, some)) in
-      ap (λ (q : ℕ). is_refused_by false (rows_of s.spaces d (page_number q))) same
+      read_so (path + (done + moved - 1))
+      ∙ ap (λ (q : ℕ). is_refused_by false (rows_of s.spaces d (page_number q))) same
       ∙ ap (λ (p : ℕ). is_refused_by false (rows_of s.spaces d p)) (lies.page (moved - 1) (omega (arith, some)))
-      ∙ ap (λ (q : ℕ). is_refused_by false (rows_of s.spaces d (page_number q))) next_is ∙ at.1
+      ∙ ap (λ (q : ℕ). is_refused_by false (rows_of s.spaces d (page_number q))) next_is ∙ sym (read_so (path + done)) ∙ at.1
 
   abbrev told : ℕ → Slot
-  told word = record k { extra = words_at SERVICE_REMOVE (step.Keeping done word moved) }
+  told word = record k { extra = words_at (number_of call) (step.Keeping done word moved) }
 
   keeping : (word : ℕ) → take moved (to_le_bytes w32 word) ≡ path_taken →
       IsKeepingPath (view_of s.spaces d) (told word)
-      (record v.b { phase = in_service (service.Remove path) (gathering (it.bytes ++ path_taken)) }) path done word moved
+      (record v.b { phase = in_service call (gathering (it.bytes ++ path_taken)) }) call done word moved
   keeping word is =
       let all = length-append it.bytes path_taken in
       let those = from_length a v.b next moved in
@@ -255,6 +262,7 @@ module _ {names : Names} {s : KernelState} {a : AbstractState} (h : StandsFor na
       let before = no_end_before it.bytes path_taken it.wants.no_end in
       record {
         bytes = it.bytes ++ path_taken;
+        takes = it.wants.takes;
         is_in = record { program = it.program; phase = refl; silent = it.silent; awake = it.awake };
         many = omega (arith, all, those, many);
         few = omega (arith, all, those, many, within, more);
@@ -273,15 +281,19 @@ module _ {names : Names} {s : KernelState} {a : AbstractState} (h : StandsFor na
       }
 
   gathered_stands : (word : ℕ) → take moved (to_le_bytes w32 word) ≡ path_taken →
-      StandsFor names (with_extra (loaded s n next) n (words_at SERVICE_REMOVE (step.Keeping done word moved))) path_gathered
+      StandsFor names (with_extra (loaded s n next) n (words_at (number_of call) (step.Keeping done word moved))) path_gathered
   gathered_stands word is =
-      stage_stands loaded_stands n SERVICE_REMOVE v.b v.is v.outside (ap borne_in v.place) (service.Remove path) (step.Keeping done word moved)
-      (gathering (it.bytes ++ path_taken)) (ap holds_page v.place) refl (named_at k (service.Remove path) (step.Gathering done) v.place)
-      (subst (λ (w : View). StandsAtStep w (told word) (record v.b { phase = in_service (service.Remove path) (gathering (it.bytes ++ path_taken)) })
-      (service.Remove path) (step.Keeping done word moved)) (sym (loaded_view s n next d)) (keeping word is))
+      stage_stands loaded_stands n (number_of call) v.b v.is v.outside (ap borne_in v.place ∙ path_unborne call takes (step.Gathering done)) call
+      (step.Keeping done word moved) (gathering (it.bytes ++ path_taken))
+      (ap holds_page v.place ∙ path_holds call takes (step.Gathering done) ∙ sym (path_holds call takes (step.Keeping done word moved)))
+      (path_unborne call takes (step.Keeping done word moved)) (named_at k call (step.Gathering done) v.place)
+      (subst (λ (w : View). StandsAtStep w (told word) (record v.b { phase = in_service call (gathering (it.bytes ++ path_taken)) })
+      call (step.Keeping done word moved)) (sym (loaded_view s n next d))
+      (path_keeping (view_of s.spaces d) (told word) (record v.b { phase = in_service call (gathering (it.bytes ++ path_taken)) }) call takes done word moved
+      (keeping word is)))
 
   pub path_gathered_word_stands : (moved == 4) ≡ true →
-      StandsFor names (with_extra (loaded s n next) n (words_at SERVICE_REMOVE (step.Keeping done (from_le_bytes w32 path_taken) moved))) path_gathered
+      StandsFor names (with_extra (loaded s n next) n (words_at (number_of call) (step.Keeping done (from_le_bytes w32 path_taken) moved))) path_gathered
   path_gathered_word_stands test =
       let four = lies.word test in
       gathered_stands (from_le_bytes w32 path_taken)
@@ -289,7 +301,7 @@ module _ {names : Names} {s : KernelState} {a : AbstractState} (h : StandsFor na
       ∙ le_bytes_4 path_taken (from_le_bytes w32 path_taken) (from_length a v.b next moved ∙ four) taken_small refl)
 
   pub path_gathered_byte_stands : (moved == 4) ≡ false →
-      StandsFor names (with_extra (loaded s n next) n (words_at SERVICE_REMOVE (step.Keeping done (byte_at a v.b next) moved))) path_gathered
+      StandsFor names (with_extra (loaded s n next) n (words_at (number_of call) (step.Keeping done (byte_at a v.b next) moved))) path_gathered
   path_gathered_byte_stands test =
       let one = lies.byte test in
       let first : next + 0 ≡ next = omega arith in

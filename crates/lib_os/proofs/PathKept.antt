@@ -1,4 +1,4 @@
--- The kernel's state goes on standing for the same abstract one where remove keeps bytes of its path in its page: no other client has the
+-- The kernel's state goes on standing for the same abstract one where a service keeps bytes of the path that it is given in its page: no other client has the
 -- frame of that, and nothing is seen of it. Then its page has more of them, and it goes on by whether the end of the path is among them.
 use Rattle.std.proofs.Common.{◌≡◌, ◌≢◌, ◌∙◌, ◌==◌, ◌&&◌, ◌||◌, ◌+◌, ◌-◌, ◌*◌, ◌/◌, ◌%◌, ◌^◌, ◌<◌, ◌≤◌, ℕ, zero, suc, Bool, true, false, not}
 use Rattle.std.proofs.Common.{List, ◌∷◌, [], length, Some, refl, sym, ap, subst, arith, if◌then◌else◌}
@@ -14,21 +14,20 @@ use Rattle.jos_base.specs.SpacesState.{SpacesState}
 use Rattle.jos_base.specs.SystemCalls.{is_page_perm}
 use Rattle.jos_base.specs.Words.{page_number}
 use Rattle.fs_layout.specs.declared.numbers.TheConstants.{MAXPATHLEN}
-use Rattle.lib_os.specs.declared.numbers.TheConstants.{SERVICE_REMOVE}
 use Rattle.lib_os.specs.declared.place.Place.{Place}
 use Rattle.lib_os.specs.declared.place.Place.TheVariants as place
 use Rattle.lib_os.specs.declared.place.Step.{Step}
 use Rattle.lib_os.specs.declared.place.Step.TheVariants as step
 use Rattle.lib_os.specs.declared.service.Service.{Service}
-use Rattle.lib_os.specs.declared.service.Service.TheVariants as service
 use Rattle.lib_os.specs.AbstractState.{AbstractState, gathering, in_service}
 use Rattle.lib_os.specs.FileServices.{is_nul}
 use Rattle.lib_os.specs.InOrder.{IsInOrder}
-use Rattle.lib_os.specs.LibraryPages.{LibraryPages, IsOwnWritable, keeps_path}
+use Rattle.lib_os.specs.LibraryPages.{LibraryPages, IsOwnWritable, keeps_path, HasTaken}
 use Rattle.lib_os.specs.Places.{place_of, words_at}
 use Rattle.lib_os.specs.Rows.{AreBytes, EntryRow, IsPage, Names, Rows, logical, rows_of}
-use Rattle.lib_os.specs.StandsFor.{HasTaken, IsGatheringPath, IsKeepingPath, IsTakingPath, StandsAt, StandsAtStep, StandsFor, borne_in, refuses_next, view_of}
-use Rattle.lib_os.specs.StandsInHandler.{HasNoEnd, is_refused_by, may_follow, stage_with}
+use Rattle.lib_os.specs.StandsFor.{IsGatheringPath, IsKeepingPath, IsTakingPath, StandsAt, StandsAtStep, StandsFor, borne_in, refuses_next, view_of}
+use Rattle.lib_os.specs.StandsFor.{writes_buffer}
+use Rattle.lib_os.specs.StandsInHandler.{HasNoEnd, is_refused_by, may_follow, stage_with, buffer_of}
 use Rattle.lib_os.specs.UserCalls.{CallStep, giving, store, store_byte}
 use Rattle.lib_os.proofs.BytesKept.{PutsBytes, kept_at_once, keeping, more_there, store_byte_puts, store_puts, unseen_rewritten, word_behind, word_byte}
 use Rattle.lib_os.proofs.BytesKept.{working_below, working_no_descriptor, working_outside, working_page}
@@ -36,9 +35,11 @@ use Rattle.lib_os.proofs.BytesPut.{bytes_put, put_whole}
 use Rattle.lib_os.proofs.Fences.{inside_below}
 use Rattle.lib_os.proofs.GoingOn.{words_stand}
 use Rattle.lib_os.proofs.Logical.{is_plain, logical_plain}
-use Rattle.lib_os.proofs.Numbered.{named_at}
+use Rattle.lib_os.proofs.Numbered.{named_at, number_of}
 use Rattle.lib_os.proofs.PageBytes.{bytes_more, bytes_none, word_bytes}
 use Rattle.lib_os.proofs.Paths.{follows_inside, gathers_path}
+use Rattle.lib_os.proofs.PathServices.{has_path, keeping_path, path_before, path_gathering, path_holds, path_keeping, path_plain, path_unborne, path_whole}
+use Rattle.lib_os.proofs.PathServices.{path_works, whole_kept, whole_step}
 use Rattle.lib_os.proofs.Serving.{IsServed, holds_page, served}
 use Rattle.lib_os.proofs.SlotsStand.{born_at}
 use Rattle.lib_os.proofs.StatesStand.{clients_live}
@@ -80,7 +81,7 @@ end_later bytes done kept long first none = by_place (nat_lt (position_or_len is
         let contradiction : true ≡ false = sym (passes_at_first is_nul bytes 0 (omega (arith, lower, long))) ∙ off in absurd cc
     by_place false test = grind (arith, nat_tests)
 
--- ---- what remove keeps, and where it goes on
+-- ---- what it keeps, and where it goes on
 
 -- one of the bytes that are put at once is the end of the path
 abbrev pub has_end : ℕ → ℕ → Bool
@@ -93,20 +94,20 @@ abbrev pub path_step_behind : ℕ → ℕ → Step
 path_step_behind path done =
     if may_follow path done && ((path + done) % 2 ^ 32 % PGSIZE == 0) then step.BufferRegion done 0 else step.Gathering done
 
-abbrev pub path_step_behind_keeping : ℕ → ℕ → ℕ → ℕ → Step
-path_step_behind_keeping path done word left =
+abbrev pub path_step_behind_keeping : Service → ℕ → ℕ → ℕ → Step
+path_step_behind_keeping call done word left =
     let kept = kept_at_once done left in
     let behind = (done + kept) % 2 ^ 32 in
-    if has_end kept word then step.Identifying
-    else if nat_le left kept then path_step_behind path behind
+    if has_end kept word then whole_step call
+    else if nat_le left kept then path_step_behind (buffer_of call) behind
     else step.Keeping behind (word / 256) (left - kept)
 
 -- What it comes to: the store gives nothing, and the state behind it stands for the same abstract one at the next step.
-pub record IsPathKept (names : Names) (s : KernelState) (a : AbstractState) (n path done word left : ℕ) : Type 0 where
+pub record IsPathKept (names : Names) (s : KernelState) (a : AbstractState) (n : ℕ) (call : Service) (done word left : ℕ) : Type 0 where
   pub spaces : SpacesState
   pub step_is : keeping s n done word left ≡ giving (with_spaces s spaces) tt
   pub stands : IsInOrder (with_spaces s spaces) →
-      StandsFor names (with_extra (with_spaces s spaces) n (words_at SERVICE_REMOVE (path_step_behind_keeping path done word left))) a
+      StandsFor names (with_extra (with_spaces s spaces) n (words_at (number_of call) (path_step_behind_keeping call done word left))) a
 
 -- the end is among these bytes, or not
 record Tells (nul : Bool) (put : List ℕ) : Type 0 where
@@ -164,33 +165,34 @@ word_tells word =
         each (suc (suc (suc zero))) lt = fourth
         each (suc (suc (suc (suc i)))) lt = absurd (omega (arith, lt))
 
--- ---- the page of remove
+-- ---- its page
 
-module _ {names : Names} {s : KernelState} {a : AbstractState} (h : StandsFor names s a) (n path done word left : ℕ)
-    (stands : place_of (slot_at s n) ≡ place.InService (service.Remove path) (step.Keeping done word left)) where
+module _ {names : Names} {s : KernelState} {a : AbstractState} (h : StandsFor names s a) (n : ℕ) (call : Service)
+    (takes : has_path call ≡ true) (done word left : ℕ)
+    (stands : place_of (slot_at s n) ≡ place.InService call (step.Keeping done word left)) where
+  abbrev path : ℕ
+  path = buffer_of call
+
   abbrev home : ℕ
   home = (slot_at s n).directory
-
-  abbrev removing : Service
-  removing = service.Remove path
 
   abbrev row : EntryRow
   row = rows_of s.spaces home
 
-  abbrev v : IsServed names s a n (service.Remove path) (step.Keeping done word left)
-  v = served h n (service.Remove path) (step.Keeping done word left) stands
+  abbrev v : IsServed names s a n call (step.Keeping done word left)
+  v = served h n call (step.Keeping done word left) stands
 
-  it : IsKeepingPath (view_of s.spaces home) (slot_at s n) v.b path done word left
-  it = v.at
+  it : IsKeepingPath (view_of s.spaces home) (slot_at s n) v.b call done word left
+  it = keeping_path (view_of s.spaces home) (slot_at s n) v.b call takes done word left v.at
 
   page : IsOwnWritable (rows_of s.spaces home) working_page
   page =
-      let library : LibraryPages (place.InService removing (step.Keeping done word left)) (slot_at s n).extra row =
+      let library : LibraryPages (place.InService call (step.Keeping done word left)) (slot_at s n).extra row =
       subst (λ (q : Place). LibraryPages q (slot_at s n).extra row) stands v.own.library in
-      library.working refl
+      library.working (path_works call takes (step.Keeping done word left) (slot_at s n).extra)
 
   page_counts : logical s.spaces s.environments.slots n working_page ≡ Some page.entry
-  page_counts = logical_plain s.spaces s.environments.slots n (clients_live h n v.b v.is) (ap is_plain stands) working_page ∙ page.stands
+  page_counts = logical_plain s.spaces s.environments.slots n (clients_live h n v.b v.is) (ap is_plain stands ∙ path_plain call takes (step.Keeping done word left)) working_page ∙ page.stands
 
   page_whole : IsPage (s.spaces.pages page.entry.frame)
   page_whole = h.whole n working_page page.entry page_counts
@@ -203,7 +205,7 @@ module _ {names : Names} {s : KernelState} {a : AbstractState} (h : StandsFor na
       (next : (i : ℕ) → i < length put → slice_index put i ≡ slice_index it.bytes (done + i))
       (rest : kept < left → take (left - kept) (to_le_bytes w32 (word / 256)) ≡ drop (done + kept) it.bytes)
       (nul : Bool) (tells : Tells nul put)
-      (call : CallStep (Unit {0})) (puts : PutsBytes s n page.entry done put call) (order : IsInOrder (with_spaces s puts.spaces)) where
+      (does : CallStep (Unit {0})) (puts : PutsBytes s n page.entry done put does) (order : IsInOrder (with_spaces s puts.spaces)) where
     abbrev sp : SpacesState
     sp = puts.spaces
 
@@ -241,10 +243,12 @@ module _ {names : Names} {s : KernelState} {a : AbstractState} (h : StandsFor na
     -- behind the store the same is so, with more bytes in the page
     still : StandsFor names (with_spaces s sp) a
     still =
-        unseen_rewritten h n v.b v.is (ap is_plain stands) working_page working_outside working_no_descriptor page.entry page.stands page.own_page
+        unseen_rewritten h n v.b v.is (ap is_plain stands ∙ path_plain call takes (step.Keeping done word left)) working_page working_outside working_no_descriptor page.entry page.stands page.own_page
         page.writes now now_whole puts.rewritten order
-        (subst (λ (q : Place). StandsAt q (view_of sp home) (slot_at s n) v.b) (sym stands) (record {
+        (subst (λ (q : Place). StandsAt q (view_of sp home) (slot_at s n) v.b) (sym stands)
+        (path_keeping (view_of sp home) (slot_at s n) v.b call takes done word left (record {
           bytes = it.bytes;
+          takes = it.takes;
           is_in = it.is_in;
           many = it.many;
           few = it.few;
@@ -253,34 +257,36 @@ module _ {names : Names} {s : KernelState} {a : AbstractState} (h : StandsFor na
           word_is = it.word_is;
           small = it.small;
           no_end = it.no_end;
-          allowed = ap (λ (r : EntryRow). refuses_next r removing (done + left - 1)) row_same ∙ it.allowed;
+          allowed = ap (λ (r : EntryRow). refuses_next r call (done + left - 1)) row_same ∙ it.allowed;
           kept = taken done (omega arith);
-        }))
+        })))
 
     goes_on : (to : Step) → keeps_path to ≡ true →
-        StandsAtStep (view_of sp home) (record (slot_at s n) { extra = words_at SERVICE_REMOVE to }) v.b removing to →
-        StandsFor names (with_extra (with_spaces s sp) n (words_at SERVICE_REMOVE to)) a
+        StandsAtStep (view_of sp home) (record (slot_at s n) { extra = words_at (number_of call) to }) v.b call to →
+        StandsFor names (with_extra (with_spaces s sp) n (words_at (number_of call) to)) a
     goes_on to keeps so =
-        words_stand still n SERVICE_REMOVE v.b v.is (born_at still n v.b v.is) v.outside (ap borne_in stands) removing to
-        (ap holds_page stands ∙ sym keeps) refl (named_at (slot_at s n) removing (step.Keeping done word left) stands) so
+        words_stand still n (number_of call) v.b v.is (born_at still n v.b v.is) v.outside
+        (ap borne_in stands ∙ path_unborne call takes (step.Keeping done word left)) call to
+        (ap holds_page stands ∙ path_holds call takes (step.Keeping done word left) ∙ sym (path_holds call takes to ∙ keeps)) (path_unborne call takes to) (named_at (slot_at s n) call (step.Keeping done word left) stands) so
 
     -- ---- the end is put
 
-    goes_whole : nul ≡ true → StandsFor names (with_extra (with_spaces s sp) n (words_at SERVICE_REMOVE step.Identifying)) a
+    goes_whole : nul ≡ true → StandsFor names (with_extra (with_spaces s sp) n (words_at (number_of call) (whole_step call))) a
     goes_whole is =
         let at = tells.has is in
         let lower = at.1 in
         let place : position_or_len is_nul it.bytes ≤ done + at.0 =
         end_before it.bytes (done + at.0) (ap is_nul (sym (next at.0 at.1)) ∙ at.2) in
         let many = it.many in
-        goes_on step.Identifying refl (record {
+        goes_on (whole_step call) (whole_kept call)
+        (path_whole (view_of sp home) (record (slot_at s n) { extra = words_at (number_of call) (whole_step call) }) v.b call takes (record {
           bytes = it.bytes;
           is_in = record { program = it.is_in.program; phase = it.is_in.phase; silent = it.is_in.silent; awake = it.is_in.awake };
           few = it.few;
           small = it.small;
           ended = omega (arith, place, lower, long, most, many);
           kept = taken (position_or_len is_nul it.bytes + 1) (omega (arith, place, lower, long));
-        })
+        }))
 
     -- ---- it is not
 
@@ -304,15 +310,15 @@ module _ {names : Names} {s : KernelState} {a : AbstractState} (h : StandsFor na
         staged [] more = absurd (omega (arith, more))
         staged (byte ∷ behind) more = refl
 
-        phase : v.b.phase ≡ in_service removing (stage_with it.bytes)
-        phase = it.is_in.phase ∙ ap (λ stage. in_service removing stage) (sym (staged it.bytes (omega (arith, whole, some))))
+        phase : v.b.phase ≡ in_service call (stage_with it.bytes)
+        phase = it.is_in.phase ∙ ap (λ stage. in_service call stage) (sym (staged it.bytes (omega (arith, whole, some))))
 
         taking : (words : List ℕ) → may_follow path (length it.bytes) ≡ true →
-            IsTakingPath (view_of sp home) (record (slot_at s n) { extra = words }) v.b path (length it.bytes)
+            IsTakingPath (view_of sp home) (record (slot_at s n) { extra = words }) v.b call (length it.bytes)
         taking words follows = record {
           bytes = it.bytes;
           program = it.is_in.program;
-          wants = record { phase = phase; no_end = none_ends; follows = follows };
+          wants = record { takes = it.takes; phase = phase; no_end = none_ends; follows = follows };
           many = refl;
           kept = taken (length it.bytes) (omega (arith, whole));
           silent = it.is_in.silent;
@@ -321,56 +327,62 @@ module _ {names : Names} {s : KernelState} {a : AbstractState} (h : StandsFor na
 
         -- the next byte lies in the page of the last, but where it begins another
         next_allowed : may_follow path (length it.bytes) ≡ true → ((path + length it.bytes) % 2 ^ 32 % PGSIZE == 0) ≡ false →
-            refuses_next (rows_of sp home) removing (length it.bytes) ≡ false
+            refuses_next (rows_of sp home) call (length it.bytes) ≡ false
         next_allowed follows test =
             let below = inside_below (path + length it.bytes) (follows_inside path (length it.bytes) follows) in
             let many = it.many in
             let later : (path + length it.bytes) % 2 ^ 32 % 4096 ≢ 0 = grind (arith, nat_tests) in
             let same : page_number (path + length it.bytes) ≡ page_number (path + (done + left - 1)) =
             omega (arith, below, many, later, whole, some) in
-            ap (λ (r : EntryRow). is_refused_by false (r (page_number (path + length it.bytes)))) row_same
-            ∙ ap (λ (p : ℕ). is_refused_by false (row p)) same ∙ it.allowed
+            ap (λ (r : EntryRow). refuses_next r call (length it.bytes)) row_same
+            ∙ ap (λ (p : ℕ). is_refused_by (writes_buffer call) (row p)) same ∙ it.allowed
 
-        goes_behind : StandsFor names (with_extra (with_spaces s sp) n (words_at SERVICE_REMOVE (path_step_behind path (length it.bytes)))) a
+        goes_behind : StandsFor names (with_extra (with_spaces s sp) n (words_at (number_of call) (path_step_behind path (length it.bytes)))) a
         goes_behind = by_next (may_follow path (length it.bytes)) refl
           where
             by_page : may_follow path (length it.bytes) ≡ true → (c : Bool) → ((path + length it.bytes) % 2 ^ 32 % PGSIZE == 0) ≡ c →
                 StandsFor names (with_extra (with_spaces s sp) n
-                (words_at SERVICE_REMOVE (if c then step.BufferRegion (length it.bytes) 0 else step.Gathering (length it.bytes)))) a
+                (words_at (number_of call) (if c then step.BufferRegion (length it.bytes) 0 else step.Gathering (length it.bytes)))) a
             by_page follows true test =
                 goes_on (step.BufferRegion (length it.bytes) 0) refl
-                (taking (words_at SERVICE_REMOVE (step.BufferRegion (length it.bytes) 0)) follows, tt)
+                (path_before (view_of sp home) (record (slot_at s n) { extra = words_at (number_of call) (step.BufferRegion (length it.bytes) 0) }) v.b call takes
+                (length it.bytes) 0 (taking (words_at (number_of call) (step.BufferRegion (length it.bytes) 0)) follows, tt))
             by_page follows false test =
-                let words = words_at SERVICE_REMOVE (step.Gathering (length it.bytes)) in
+                let words = words_at (number_of call) (step.Gathering (length it.bytes)) in
                 goes_on (step.Gathering (length it.bytes)) refl
-                (gathers_path (view_of sp home) (record (slot_at s n) { extra = words }) v.b path (length it.bytes) (taking words follows)
+                (gathers_path (view_of sp home) (record (slot_at s n) { extra = words }) v.b call (length it.bytes) (taking words follows)
                 (next_allowed follows test))
 
             by_next : (c : Bool) → may_follow path (length it.bytes) ≡ c →
-                StandsFor names (with_extra (with_spaces s sp) n (words_at SERVICE_REMOVE
+                StandsFor names (with_extra (with_spaces s sp) n (words_at (number_of call)
                 (if c && ((path + length it.bytes) % 2 ^ 32 % PGSIZE == 0) then step.BufferRegion (length it.bytes) 0
                 else step.Gathering (length it.bytes)))) a
             by_next true follows = by_page follows ((path + length it.bytes) % 2 ^ 32 % PGSIZE == 0) refl
             by_next false ends =
-                let words = words_at SERVICE_REMOVE (step.Gathering (length it.bytes)) in
+                let words = words_at (number_of call) (step.Gathering (length it.bytes)) in
                 goes_on (step.Gathering (length it.bytes)) refl
-                (subst (λ (t : Bool). IsGatheringPath t (view_of sp home) (record (slot_at s n) { extra = words }) v.b path (length it.bytes)) (sym ends)
+                (path_gathering (view_of sp home) (record (slot_at s n) { extra = words }) v.b call takes (length it.bytes)
+                (subst (λ (t : Bool). IsGatheringPath t (view_of sp home) (record (slot_at s n) { extra = words }) v.b call (length it.bytes)) (sym ends)
                 (record {
                   bytes = it.bytes;
+                  takes = it.takes;
                   is_in = record { program = it.is_in.program; phase = phase; silent = it.is_in.silent; awake = it.is_in.awake };
                   no_end = none_ends;
                   many = refl;
                   few = it.few;
                   ends = ends;
-                }))
+                })))
 
       -- ---- some are left
 
       goes_keeping : kept < left →
-          StandsFor names (with_extra (with_spaces s sp) n (words_at SERVICE_REMOVE (step.Keeping (done + kept) (word / 256) (left - kept)))) a
+          StandsFor names (with_extra (with_spaces s sp) n (words_at (number_of call) (step.Keeping (done + kept) (word / 256) (left - kept)))) a
       goes_keeping more =
-          goes_on (step.Keeping (done + kept) (word / 256) (left - kept)) refl (record {
+          goes_on (step.Keeping (done + kept) (word / 256) (left - kept)) refl
+          (path_keeping (view_of sp home) (record (slot_at s n) { extra = words_at (number_of call) (step.Keeping (done + kept) (word / 256) (left - kept)) })
+          v.b call takes (done + kept) (word / 256) (left - kept) (record {
             bytes = it.bytes;
+            takes = it.takes;
             is_in = record { program = it.is_in.program; phase = it.is_in.phase; silent = it.is_in.silent; awake = it.is_in.awake };
             many = let many = it.many in omega (arith, many, more);
             few = it.few;
@@ -380,13 +392,13 @@ module _ {names : Names} {s : KernelState} {a : AbstractState} (h : StandsFor na
             small = it.small;
             no_end = no_end;
             allowed = let same : done + kept + (left - kept) - 1 ≡ done + left - 1 = omega (arith, more) in
-                ap (refuses_next (rows_of sp home) removing) same
-                ∙ ap (λ (r : EntryRow). refuses_next r removing (done + left - 1)) row_same ∙ it.allowed;
+                ap (refuses_next (rows_of sp home) call) same
+                ∙ ap (λ (r : EntryRow). refuses_next r call (done + left - 1)) row_same ∙ it.allowed;
             kept = taken (done + kept) (omega arith);
-          })
+          }))
 
-    kept_goes : StandsFor names (with_extra (with_spaces s sp) n (words_at SERVICE_REMOVE
-        (if nul then step.Identifying
+    kept_goes : StandsFor names (with_extra (with_spaces s sp) n (words_at (number_of call)
+        (if nul then whole_step call
         else if nat_le left kept then path_step_behind path ((done + kept) % 2 ^ 32)
         else step.Keeping ((done + kept) % 2 ^ 32) (word / 256) (left - kept)))) a
     kept_goes = by_end nul refl
@@ -394,20 +406,20 @@ module _ {names : Names} {s : KernelState} {a : AbstractState} (h : StandsFor na
         unwrapped : (done + kept) % 2 ^ 32 ≡ done + kept
         unwrapped = let all = few in omega (arith, all, most)
 
-        by_left : nul ≡ false → (c : Bool) → nat_le left kept ≡ c → StandsFor names (with_extra (with_spaces s sp) n (words_at SERVICE_REMOVE
+        by_left : nul ≡ false → (c : Bool) → nat_le left kept ≡ c → StandsFor names (with_extra (with_spaces s sp) n (words_at (number_of call)
             (if c then path_step_behind path ((done + kept) % 2 ^ 32) else step.Keeping ((done + kept) % 2 ^ 32) (word / 256) (left - kept)))) a
         by_left none true test =
             let all : left ≤ kept = grind (arith, nat_tests) in
-            subst (λ (m : ℕ). StandsFor names (with_extra (with_spaces s sp) n (words_at SERVICE_REMOVE (path_step_behind path m))) a)
+            subst (λ (m : ℕ). StandsFor names (with_extra (with_spaces s sp) n (words_at (number_of call) (path_step_behind path m))) a)
             (whole none all ∙ sym unwrapped) (goes_behind none all)
         by_left none false test =
             let more : kept < left = grind (arith, nat_tests) in
             subst
-            (λ (m : ℕ). StandsFor names (with_extra (with_spaces s sp) n (words_at SERVICE_REMOVE (step.Keeping m (word / 256) (left - kept)))) a)
+            (λ (m : ℕ). StandsFor names (with_extra (with_spaces s sp) n (words_at (number_of call) (step.Keeping m (word / 256) (left - kept)))) a)
             (sym unwrapped) (goes_keeping none more)
 
-        by_end : (c : Bool) → nul ≡ c → StandsFor names (with_extra (with_spaces s sp) n (words_at SERVICE_REMOVE
-            (if c then step.Identifying
+        by_end : (c : Bool) → nul ≡ c → StandsFor names (with_extra (with_spaces s sp) n (words_at (number_of call)
+            (if c then whole_step call
             else if nat_le left kept then path_step_behind path ((done + kept) % 2 ^ 32)
             else step.Keeping ((done + kept) % 2 ^ 32) (word / 256) (left - kept)))) a
         by_end true is = goes_whole is
@@ -424,10 +436,10 @@ module _ {names : Names} {s : KernelState} {a : AbstractState} (h : StandsFor na
   place_is : working_page * PGSIZE + done ≡ UTEMP + done % PGSIZE
   place_is = let lt = in_page in omega (arith, lt)
 
-  pub keeps_path_bytes : IsPathKept names s a n path done word left
+  pub keeps_path_bytes : IsPathKept names s a n call done word left
   keeps_path_bytes = by_word ((done % 4 == 0) && (left == 4)) refl
     where
-      by_word : (c : Bool) → ((done % 4 == 0) && (left == 4)) ≡ c → IsPathKept names s a n path done word left
+      by_word : (c : Bool) → ((done % 4 == 0) && (left == 4)) ≡ c → IsPathKept names s a n call done word left
       by_word true test =
           let four : left ≡ 4 = grind (arith, nat_tests) in
           let all = few in

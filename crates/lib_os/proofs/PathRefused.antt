@@ -1,8 +1,9 @@
--- remove refuses its path: where that begins outside of what a program may touch, at once; and where its bytes, none of which is the end, are
+-- A service refuses the path that it is given: where that begins outside of what a program may touch, at once; and where its bytes, none of which is the end, are
 -- too many, or lead out of there, as it gives back the page that has them.
-use Rattle.std.proofs.Common.{◌≡◌, ◌∙◌, ◌+◌, ◌%◌, ◌^◌, ◌<◌, ◌≤◌, ◌&&◌, ℕ, Bool, true, false, List, [], ◌∷◌, length, Some, refl, sym, ap, subst}
+use Rattle.std.proofs.Common.{◌≡◌, ◌∙◌, ◌+◌, ◌%◌, ◌^◌, ◌<◌, ◌≤◌, ◌&&◌, ℕ, Bool, true, false, List, [], length, Some, refl, sym, ap, subst}
 use Rattle.std.proofs.Common.{arith, if◌then◌else◌}
 use Rattle.std.specs.Prelude.{nat_le, nat_lt}
+use Rattle.std.proofs.lemmas.Bool.{false≢true}
 use Rattle.std.proofs.lemmas.Bool.Decides.{nat_tests}
 use Rattle.jos_base.specs.declared.numbers.TheConstants.{E_BAD_PATH, E_INVAL}
 use Rattle.jos_base.specs.declared.registers.Regs.{Regs}
@@ -11,7 +12,6 @@ use Rattle.jos_base.specs.KernelState.{KernelState, slot_at, with_extra, with_sp
 use Rattle.jos_base.specs.SpacesState.{SpacesState}
 use Rattle.jos_base.specs.Words.{negated}
 use Rattle.fs_layout.specs.declared.numbers.TheConstants.{MAXPATHLEN}
-use Rattle.lib_os.specs.declared.numbers.TheConstants.{SERVICE_REMOVE}
 use Rattle.lib_os.specs.declared.place.Place.TheVariants as place
 use Rattle.lib_os.specs.declared.place.Step.{Step}
 use Rattle.lib_os.specs.declared.place.Step.TheVariants as step
@@ -22,7 +22,7 @@ use Rattle.lib_os.specs.AbstractRun.{abs_step}
 use Rattle.lib_os.specs.AbstractState.{AbstractState, Born, entered}
 use Rattle.lib_os.specs.Answers.{refused}
 use Rattle.lib_os.specs.Fence.{in_fence, is_inside}
-use Rattle.lib_os.specs.FileServices.{path_step, remove_asked}
+use Rattle.lib_os.specs.FileServices.{path_step}
 use Rattle.lib_os.specs.InOrder.{IsInOrder}
 use Rattle.lib_os.specs.LibraryCall.{library_step}
 use Rattle.lib_os.specs.LibrarySteps.{KeepsStanding, service_answered}
@@ -30,14 +30,15 @@ use Rattle.lib_os.specs.Places.{place_of, words_at}
 use Rattle.lib_os.specs.Rows.{Names}
 use Rattle.lib_os.specs.Services.{named_service, service_of}
 use Rattle.lib_os.specs.StandsFor.{IsGatheringPath, IsIn, IsRefusingPath, StandsFor, borne_in, view_of}
-use Rattle.lib_os.specs.StandsInHandler.{AreSmall, HasNoEnd, may_follow, stage_with}
+use Rattle.lib_os.specs.StandsInHandler.{AreSmall, HasNoEnd, buffer_of, may_follow, stage_with, takes_path}
 use Rattle.lib_os.proofs.Answering.{back_stands}
 use Rattle.lib_os.proofs.Effects.{Removed}
 use Rattle.lib_os.proofs.GoingOn.{in_with_words, words_stand}
-use Rattle.lib_os.proofs.Numbered.{named_at}
+use Rattle.lib_os.proofs.Numbered.{named_at, number_of}
 use Rattle.lib_os.proofs.PageGiven.{give_removes, given_puts, given_row, given_tables, without_working}
 use Rattle.lib_os.proofs.PageTaken.{working_back, working_page}
-use Rattle.lib_os.proofs.Paths.{path_is_long, path_leaves_fence}
+use Rattle.lib_os.proofs.Paths.{next_asked, path_is_long, path_leaves_fence, path_stepped}
+use Rattle.lib_os.proofs.PathServices.{gathering_path, has_path, path_given, path_holds, path_taking, path_unborne}
 use Rattle.lib_os.proofs.Serving.{IsServed, holds_page, printed_nothing, served, step_in, words_of_none}
 
 -- ---- the path
@@ -45,17 +46,20 @@ use Rattle.lib_os.proofs.Serving.{IsServed, holds_page, printed_nothing, served,
 -- the word of it
 abbrev path_of : Service → ℕ
 path_of (service.Remove path) = path
+path_of (service.OpenFile path mode) = path
 path_of _ = 0
 
-path_register : (r : Regs) (path : ℕ) → service_of (record r { eax = SERVICE_REMOVE }) ≡ service.Remove path → r.edx ≡ path
+path_register : (r : Regs) (call : Service) → has_path call ≡ true → service_of (record r { eax = number_of call }) ≡ call → r.edx ≡ buffer_of call
 unfolding service_of named_service
-path_register r path is = ap path_of is
+path_register r (service.Remove path) takes is = ap path_of is
+path_register r (service.OpenFile path mode) takes is = ap path_of is
+path_register r _ takes is = absurd (false≢true takes)
 
 -- what is given is a word
-pub path_small : (s : KernelState) (n path : ℕ) (at : Step) → place_of (slot_at s n) ≡ place.InService (service.Remove path) at →
-    AreSmall (slot_at s n).registers → path < 2 ^ 32
-path_small s n path at stands small =
-    let is = path_register (slot_at s n).registers path (named_at (slot_at s n) (service.Remove path) at stands) in
+pub path_small : (s : KernelState) (n : ℕ) (call : Service) → has_path call ≡ true → (at : Step) → place_of (slot_at s n) ≡ place.InService call at →
+    AreSmall (slot_at s n).registers → buffer_of call < 2 ^ 32
+path_small s n call takes at stands small =
+    let is = path_register (slot_at s n).registers call takes (named_at (slot_at s n) call at stands) in
     let low = small.edx in omega (arith, is, low)
 
 -- none of the lowest addresses may be touched, where those end that wrap
@@ -82,71 +86,68 @@ path_error done = if nat_le MAXPATHLEN done then E_BAD_PATH else E_INVAL
 -- ---- the step of the abstract system
 
 -- none may follow, so that it refuses
-path_refused : (a : AbstractState) (n : ℕ) (b : Born) (regs : Regs) (path : ℕ) (bytes : List ℕ) → path < 2 ^ 32 → HasNoEnd bytes →
-    length bytes ≤ MAXPATHLEN → may_follow path (length bytes) ≡ false →
-    library_step a n b regs (service.Remove path) (stage_with bytes) ≡ Some (refused a n b regs (path_error (length bytes)))
-unfolding library_step
-path_refused a n b regs path bytes small none few ends = by_bytes bytes none few ends
+path_refused : (a : AbstractState) (n : ℕ) (b : Born) (regs : Regs) (call : Service) → takes_path call ≡ true → (bytes : List ℕ) → buffer_of call < 2 ^ 32 →
+    HasNoEnd bytes → length bytes ≤ MAXPATHLEN → may_follow (buffer_of call) (length bytes) ≡ false →
+    library_step a n b regs call (stage_with bytes) ≡ Some (refused a n b regs (path_error (length bytes)))
+path_refused a n b regs call takes bytes small none few ends =
+    path_stepped a n b regs call takes bytes ∙ by_many (nat_le MAXPATHLEN (length bytes)) refl
   where
-    by_many : (bytes : List ℕ) → HasNoEnd bytes → length bytes ≤ MAXPATHLEN → may_follow path (length bytes) ≡ false →
-        (c : Bool) → nat_le MAXPATHLEN (length bytes) ≡ c →
-        path_step a n b regs (service.Remove path) path bytes (remove_asked a n b (service.Remove path))
-        ≡ Some (refused a n b regs (if c then E_BAD_PATH else E_INVAL))
-    by_many bytes none few ends true test =
-        path_is_long a n b regs (service.Remove path) path bytes (remove_asked a n b (service.Remove path)) none (grind (arith, nat_tests))
-    by_many bytes none few ends false test =
+    by_many : (c : Bool) → nat_le MAXPATHLEN (length bytes) ≡ c →
+        path_step a n b regs call (buffer_of call) bytes (next_asked a n b regs call) ≡ Some (refused a n b regs (if c then E_BAD_PATH else E_INVAL))
+    by_many true test =
+        path_is_long a n b regs call (buffer_of call) bytes (next_asked a n b regs call) none (grind (arith, nat_tests))
+    by_many false test =
         let fewer : length bytes < MAXPATHLEN = grind (arith, nat_tests) in
         let lower : nat_lt (length bytes) MAXPATHLEN ≡ true = grind (arith, nat_tests) in
-        let off : is_inside (path + length bytes) ≡ false = ap (λ (c : Bool). c && is_inside (path + length bytes)) (sym lower) ∙ ends in
-        path_leaves_fence a n b regs (service.Remove path) path bytes (remove_asked a n b (service.Remove path)) none fewer
-        (leaves_fence path (length bytes) small few off)
-
-    by_bytes : (bytes : List ℕ) → HasNoEnd bytes → length bytes ≤ MAXPATHLEN → may_follow path (length bytes) ≡ false →
-        library_step a n b regs (service.Remove path) (stage_with bytes) ≡ Some (refused a n b regs (path_error (length bytes)))
-    by_bytes [] none few ends = by_many [] none few ends false refl
-    by_bytes (byte ∷ rest) none few ends =
-        by_many (byte ∷ rest) none few ends (nat_le MAXPATHLEN (length (byte ∷ rest))) refl
+        let off : is_inside (buffer_of call + length bytes) ≡ false = ap (λ (c : Bool). c && is_inside (buffer_of call + length bytes)) (sym lower) ∙ ends in
+        path_leaves_fence a n b regs call (buffer_of call) bytes (next_asked a n b regs call) none fewer (leaves_fence (buffer_of call) (length bytes) small few off)
 
 -- ---- where it begins
 
-module _ (s : KernelState) (n path : ℕ) (stands : place_of (slot_at s n) ≡ place.InService (service.Remove path) step.Entered) where
+module _ (s : KernelState) (n : ℕ) (call : Service) (takes : takes_path call ≡ true)
+    (stands : place_of (slot_at s n) ≡ place.InService call step.Entered) where
   -- it begins where a program may touch, and is about to be taken
-  pub path_enters : is_inside path ≡ true → KeepsStanding progress.Hidden n s (with_extra s n (words_at SERVICE_REMOVE step.TakingPage)) []
+  pub path_enters : is_inside (buffer_of call) ≡ true → KeepsStanding progress.Hidden n s (with_extra s n (words_at (number_of call) step.TakingPage)) []
   path_enters inside a h quiet =
-      let v = served h.1 n (service.Remove path) step.Entered stands in
-      let here : IsIn (slot_at s n) v.b (service.Remove path) entered = v.at in (
+      let v = served h.1 n call step.Entered stands in
+      let here : IsIn (slot_at s n) v.b call entered = v.at in
+      let words = words_at (number_of call) step.TakingPage in (
         refl,
         (
           h.0,
-          words_stand h.1 n SERVICE_REMOVE v.b v.is v.own v.outside (ap borne_in v.place) (service.Remove path) step.TakingPage
-              (ap holds_page v.place) refl (named_at (slot_at s n) (service.Remove path) step.Entered stands)
-              (in_with_words (words_at SERVICE_REMOVE step.TakingPage) here, inside),
+          words_stand h.1 n (number_of call) v.b v.is v.own v.outside (ap borne_in v.place ∙ path_unborne call (path_given call takes) step.Entered) call step.TakingPage
+              (ap holds_page v.place ∙ path_holds call (path_given call takes) step.Entered ∙ sym (path_holds call (path_given call takes) step.TakingPage))
+              (path_unborne call (path_given call takes) step.TakingPage) (named_at (slot_at s n) call step.Entered stands)
+              (path_taking (view_of s.spaces (slot_at s n).directory) (record (slot_at s n) { extra = words }) v.b call (path_given call takes)
+              (in_with_words words here, takes, inside)),
         ),
       )
 
   -- it does not
-  pub path_enters_not : AreSmall (slot_at s n).registers → is_inside path ≡ false →
+  pub path_enters_not : AreSmall (slot_at s n).registers → is_inside (buffer_of call) ≡ false →
       KeepsStanding progress.Finished n s (service_answered s n (negated E_INVAL)) []
   path_enters_not small off a h quiet =
-      let v = served h.1 n (service.Remove path) step.Entered stands in
-      let here : IsIn (slot_at s n) v.b (service.Remove path) entered = v.at in
-      let first : path + 0 ≡ path = omega arith in (
+      let v = served h.1 n call step.Entered stands in
+      let here : IsIn (slot_at s n) v.b call entered = v.at in
+      let first : buffer_of call + 0 ≡ buffer_of call = omega arith in (
         refused a n v.b (slot_at s n).registers E_INVAL,
-        step_in a n v.b (slot_at s n) (service.Remove path) entered v.is here
-            ∙ path_refused a n v.b (slot_at s n).registers path [] (path_small s n path step.Entered stands small) refl (omega arith)
+        step_in a n v.b (slot_at s n) call entered v.is here
+            ∙ path_refused a n v.b (slot_at s n).registers call takes [] (path_small s n call (path_given call takes) step.Entered stands small) refl (omega arith)
             (ap is_inside first ∙ off),
         printed_nothing a,
         (
           h.0,
-          back_stands h.1 n v.b v.is (record (slot_at s n).registers { eax = negated E_INVAL }) (ap borne_in v.place) (ap holds_page v.place)
+          back_stands h.1 n v.b v.is (record (slot_at s n).registers { eax = negated E_INVAL })
+              (ap borne_in v.place ∙ path_unborne call (path_given call takes) step.Entered) (ap holds_page v.place ∙ path_holds call (path_given call takes) step.Entered)
               here.silent here.awake v.outside refl refl,
         ),
       )
 
 -- ---- behind some of its bytes
 
-module _ {names : Names} {s : KernelState} {a : AbstractState} {sp : SpacesState} (h : StandsFor names s a) (n path done : ℕ)
-    (stands : place_of (slot_at s n) ≡ place.InService (service.Remove path) (step.Gathering done)) (ends : may_follow path done ≡ false)
+module _ {names : Names} {s : KernelState} {a : AbstractState} {sp : SpacesState} (h : StandsFor names s a) (n : ℕ) (call : Service)
+    (takes : has_path call ≡ true) (done : ℕ) (stands : place_of (slot_at s n) ≡ place.InService call (step.Gathering done))
+    (ends : may_follow (buffer_of call) done ≡ false)
     (removed : Removed s.spaces sp (slot_at s n).directory working_page) (in_order : IsInOrder (with_spaces s sp)) where
   abbrev d : ℕ
   d = (slot_at s n).directory
@@ -157,33 +158,35 @@ module _ {names : Names} {s : KernelState} {a : AbstractState} {sp : SpacesState
   abbrev regs : Regs
   regs = record (slot_at s n).registers { eax = answer }
 
-  v : IsServed names s a n (service.Remove path) (step.Gathering done)
-  v = served h n (service.Remove path) (step.Gathering done) stands
+  v : IsServed names s a n call (step.Gathering done)
+  v = served h n call (step.Gathering done) stands
 
-  it : IsRefusingPath (slot_at s n) v.b path done
-  it = subst (λ (t : Bool). IsGatheringPath t (view_of s.spaces d) (slot_at s n) v.b path done) ends v.at
+  it : IsRefusingPath (slot_at s n) v.b call done
+  it =
+      subst (λ (t : Bool). IsGatheringPath t (view_of s.spaces d) (slot_at s n) v.b call done) ends
+      (gathering_path (view_of s.spaces d) (slot_at s n) v.b call takes done v.at)
 
   refused_step : AreSmall (slot_at s n).registers → abs_step a n ≡ Some (refused a n v.b (slot_at s n).registers (path_error done))
   refused_step small =
       let many = it.many in
       let few = it.few in
-      step_in a n v.b (slot_at s n) (service.Remove path) (stage_with it.bytes) v.is it.is_in
-      ∙ path_refused a n v.b (slot_at s n).registers path it.bytes (path_small s n path (step.Gathering done) stands small) it.no_end
-      (omega (arith, many, few)) (ap (may_follow path) it.many ∙ it.ends)
+      step_in a n v.b (slot_at s n) call (stage_with it.bytes) v.is it.is_in
+      ∙ path_refused a n v.b (slot_at s n).registers call it.takes it.bytes (path_small s n call takes (step.Gathering done) stands small) it.no_end
+      (omega (arith, many, few)) (ap (may_follow (buffer_of call)) it.many ∙ it.ends)
       ∙ ap (λ (m : ℕ). Some (refused a n v.b (slot_at s n).registers (path_error m))) it.many
 
   refused_stands : StandsFor names (service_answered (with_spaces s sp) n answer) (refused a n v.b (slot_at s n).registers (path_error done))
   refused_stands =
-      working_back h n v.b v.is v.own v.outside (ap borne_in v.place) (given_puts h n v.b v.is removed) regs no_extra place.Guest
+      working_back h n v.b v.is v.own v.outside (ap borne_in v.place ∙ path_unborne call takes (step.Gathering done)) (given_puts h n v.b v.is removed) regs no_extra place.Guest
       (words_of_none regs no_extra v.outside refl) refl refl refl refl refl it.is_in.silent it.is_in.awake refl refl (given_tables h n v.b v.is removed) (given_row h n v.b v.is removed) in_order
 
 -- what the step comes to
-pub path_refused_keeps : (s : KernelState) (n path done : ℕ) → place_of (slot_at s n) ≡ place.InService (service.Remove path) (step.Gathering done) →
-    AreSmall (slot_at s n).registers → may_follow path done ≡ false → IsInOrder (with_spaces s (without_working s n)) →
+pub path_refused_keeps : (s : KernelState) (n : ℕ) (call : Service) → has_path call ≡ true → (done : ℕ) → place_of (slot_at s n) ≡ place.InService call (step.Gathering done) →
+    AreSmall (slot_at s n).registers → may_follow (buffer_of call) done ≡ false → IsInOrder (with_spaces s (without_working s n)) →
     KeepsStanding progress.Finished n s (service_answered (with_spaces s (without_working s n)) n (negated (path_error done))) []
-path_refused_keeps s n path done stands small ends in_order a h quiet = (
+path_refused_keeps s n call takes done stands small ends in_order a h quiet = (
   _,
-  refused_step h.1 n path done stands ends (give_removes s n h.1) in_order small,
+  refused_step h.1 n call takes done stands ends (give_removes s n h.1) in_order small,
   printed_nothing a,
-  (h.0, refused_stands h.1 n path done stands ends (give_removes s n h.1) in_order),
+  (h.0, refused_stands h.1 n call takes done stands ends (give_removes s n h.1) in_order),
 )

@@ -1,6 +1,7 @@
 -- A path that is taken byte by byte: what its bytes say of the next step, in the abstract system and here.
-use Rattle.std.proofs.Common.{◌≡◌, ◌∙◌, ◌+◌, ◌-◌, ◌<◌, ◌≤◌, ◌%◌, ◌^◌, ◌++◌, ◌&&◌, ℕ, Bool, true, false, List, length, refl, sym, ap, subst}
+use Rattle.std.proofs.Common.{◌≡◌, ◌∙◌, ◌+◌, ◌-◌, ◌<◌, ◌≤◌, ◌%◌, ◌^◌, ◌++◌, ◌&&◌, ℕ, Bool, true, false, List, [], ◌∷◌, length, refl, sym, ap, subst}
 use Rattle.std.proofs.Common.{arith}
+use Rattle.std.proofs.lemmas.Bool.{false≢true}
 use Rattle.std.proofs.lemmas.Bool.Decides.{nat_tests}
 use Rattle.std.specs.List.{before_first, position_or_len}
 use Rattle.std.specs.Prelude.{Option, Some, nat_le, nat_lt}
@@ -14,11 +15,13 @@ use Rattle.lib_os.specs.declared.service.Service.TheVariants as service
 use Rattle.lib_os.specs.AbstractState.{AbstractState, Born, gathering}
 use Rattle.lib_os.specs.Answers.{bytes_gathered, refused}
 use Rattle.lib_os.specs.Fence.{in_fence, is_inside}
-use Rattle.lib_os.specs.FileServices.{is_nul, path_step}
+use Rattle.lib_os.specs.FileServices.{is_nul, open_asked, path_step, remove_asked}
+use Rattle.lib_os.specs.LibraryCall.{library_step}
 use Rattle.lib_os.specs.LibraryPages.{View}
 use Rattle.lib_os.specs.StandsFor.{IsGatheringPath, IsTakingPath, StandsAtStep, refuses_next}
-use Rattle.lib_os.specs.StandsInHandler.{HasNoEnd, may_follow}
+use Rattle.lib_os.specs.StandsInHandler.{HasNoEnd, buffer_of, may_follow, stage_with, takes_path}
 use Rattle.lib_os.proofs.Fences.{inside_below}
+use Rattle.lib_os.proofs.PathServices.{path_gathering, path_given}
 
 -- ---- whether another byte may follow
 
@@ -34,16 +37,32 @@ pub follows_inside : (path done : ℕ) → may_follow path done ≡ true → is_
 follows_inside path done is = (both (nat_lt done MAXPATHLEN) (is_inside (path + done)) is).1
 
 -- by the bytes that are taken, whose number is kept
-pub taking_follows : (v : View) (k : Slot) (b : Born) (path done : ℕ) → IsTakingPath v k b path done → may_follow path done ≡ true
-taking_follows v k b path done h = ap (may_follow path) (sym h.many) ∙ h.wants.follows
+pub taking_follows : (v : View) (k : Slot) (b : Born) (s : Service) (done : ℕ) → IsTakingPath v k b s done → may_follow (buffer_of s) done ≡ true
+taking_follows v k b s done h = ap (may_follow (buffer_of s)) (sym h.many) ∙ h.wants.follows
 
 -- it is about to take the next, where the page of that doesn't refuse it
-pub gathers_path : (v : View) (k : Slot) (b : Born) (path done : ℕ) → IsTakingPath v k b path done →
-    refuses_next v.row (service.Remove path) done ≡ false → StandsAtStep v k b (service.Remove path) (step.Gathering done)
-gathers_path v k b path done h free =
-    subst (λ (t : Bool). IsGatheringPath t v k b path done) (sym (taking_follows v k b path done h)) (h, free)
+pub gathers_path : (v : View) (k : Slot) (b : Born) (s : Service) (done : ℕ) → IsTakingPath v k b s done →
+    refuses_next v.row s done ≡ false → StandsAtStep v k b s (step.Gathering done)
+gathers_path v k b s done h free =
+    path_gathering v k b s (path_given s h.wants.takes) done
+    (subst (λ (t : Bool). IsGatheringPath t v k b s done) (sym (taking_follows v k b s done h)) (h, free))
 
 -- ---- the abstract system's step
+
+module _ (a : AbstractState) (n : ℕ) (b : Born) (regs : Regs) where
+  -- what is done when the path is taken
+  abbrev pub next_asked : Service → List ℕ → Option AbstractState
+  next_asked (service.OpenFile path mode) = open_asked a n b regs (service.OpenFile path mode) mode
+  next_asked s = remove_asked a n b s
+
+  pub path_stepped : (s : Service) → takes_path s ≡ true → (bytes : List ℕ) →
+      library_step a n b regs s (stage_with bytes) ≡ path_step a n b regs s (buffer_of s) bytes (next_asked s)
+  unfolding library_step
+  path_stepped (service.Remove path) is [] = refl
+  path_stepped (service.Remove path) is (byte ∷ rest) = refl
+  path_stepped (service.OpenFile path mode) is [] = rw is refl
+  path_stepped (service.OpenFile path mode) is (byte ∷ rest) = refl
+  path_stepped _ is bytes = absurd (false≢true is)
 
 module _ (a : AbstractState) (n : ℕ) (b : Born) (regs : Regs) (call : Service) (path : ℕ) (bytes : List ℕ) (next : List ℕ → Option AbstractState) where
   -- the next bytes are taken

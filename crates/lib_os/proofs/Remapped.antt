@@ -22,7 +22,7 @@ use Rattle.lib_os.specs.declared.place.Step.{Step}
 use Rattle.lib_os.specs.declared.place.Step.TheVariants as step
 use Rattle.lib_os.specs.declared.service.Service.TheVariants as service
 use Rattle.lib_os.specs.AbstractState.{AbstractState, own}
-use Rattle.lib_os.specs.DescriptorPages.{device_of}
+use Rattle.lib_os.specs.DescriptorPages.{lasting_words}
 use Rattle.lib_os.specs.InOrder.{IsInOrder}
 use Rattle.lib_os.specs.LibrarySteps.{TakesAtMost}
 use Rattle.lib_os.specs.Places.{place_of, words_at}
@@ -136,7 +136,7 @@ module _ {names : Names} {s : KernelState} {a : AbstractState} {sp : SpacesState
     rows = λ i r. row_elsewhere given.placed q r (λ same too. ne same) i;
     bytes = λ r x hx own_page. bytes_kept q r x hx;
     named_so = λ r x hx shared_page. refl;
-    devices = λ r x descriptor hx shared_page. ap device_of (bytes_kept q r x hx);
+    devices = λ r x descriptor hx shared_page. ap lasting_words (bytes_kept q r x hx);
     regions = λ r. other_regions given.placed q r ne;
   }
 

@@ -23,9 +23,11 @@ use Rattle.lib_os.specs.Descriptors.{lowest_free}
 use Rattle.lib_os.specs.LibraryCall.{library_step}
 use Rattle.lib_os.specs.AbstractRun.{abs_step, program_step, slot_step}
 use Rattle.lib_os.specs.AbstractLaws.{client_served, asks_server, has_asked, is_asking, bears_in, borne_by, is_vacant, is_unborn, IsNoneOf}
-use Rattle.lib_os.specs.AbstractLaws.{AreVacant, AreGivenApart, ServesWhoAsked, ServedClientsStay}
+use Rattle.lib_os.specs.AbstractLaws.{AreVacant, AreGivenApart, AsksOrLeaves, LeavesFiles, OpensNobodys, ServesWhoAsked, ServedClientsStay}
 use Rattle.jos_base.proofs.Maps.{upd-other, upd-at}
-use Rattle.lib_os.proofs.StepsAsk.{Kind, kind, Others, Own, bears_none, as_before, still, ended, asks, begins, bears, Ends, step_ends}
+use Rattle.lib_os.proofs.FilesLeft.{clients_leave_files}
+use Rattle.lib_os.proofs.OpensStay.{opens_by_client, opens_by_server}
+use Rattle.lib_os.proofs.StepsAsk.{Kind, kind, Others, Own, bears_none, as_before, still, ended, asks, begins, bears, Ends, seen_other, step_ends}
 
 false≢true : {A : Type 0} → false ≡ true → A
 false≢true e = absurd (cc)
@@ -127,6 +129,11 @@ module _ (a : AbstractState) (n : ℕ) (b : Born) where
 
 -- ---- it stays
 
+-- whom the server serves has asked it, and nobody's slot is given twice
+record ServesStill (a : AbstractState) : Type 0 where
+  asked : (client : ℕ) → client_served a.server ≡ Some client → (client < NENV) × (is_asking (a.slots client) ≡ true)
+  given : AreGivenApart a.slots a.free_slots
+
 module _ (a : AbstractState) (h : ServesWhoAsked a) (n : ℕ) (b : Born) (at : a.slots n ≡ born b) where
   -- slot n is an environment's
   not_vacant : is_vacant (a.slots n) ≡ false
@@ -152,7 +159,7 @@ module _ (a : AbstractState) (h : ServesWhoAsked a) (n : ℕ) (b : Born) (at : a
 
   module _ (slots : ℕ → AbstractSlot) (others : Others a n slots) where
     vacant_other : (m : ℕ) → m ≢ n → is_vacant (a.slots m) ≡ true → is_vacant (slots m) ≡ true
-    vacant_other m ne is = kind_vacant (slots m) (a.slots m) (others m ne) ∙ is
+    vacant_other m ne is = kind_vacant (slots m) (a.slots m) (others m ne).alike ∙ is
 
     free_still : AreVacant slots a.free_slots
     free_still = vacant_still a.slots slots n vacant_other a.free_slots (none_vacant a.slots n not_vacant a.free_slots h.given.vacant) h.given.vacant
@@ -163,7 +170,7 @@ module _ (a : AbstractState) (h : ServesWhoAsked a) (n : ℕ) (b : Born) (at : a
       bore m child is = elim (cases_eq m n) [
         | inl same ↦ subst (λ (k : ℕ). borne_by (a.slots k) ≡ Some child) (sym same)
             (itself child (subst (λ (k : ℕ). borne_by (slots k) ≡ Some child) same is))
-        | inr ne ↦ sym (kind_bears (slots m) (a.slots m) (others m ne)) ∙ is
+        | inr ne ↦ sym (kind_bears (slots m) (a.slots m) (others m ne).alike) ∙ is
       ]
 
       given_still : (free_slots : List ℕ) → AreVacant slots free_slots → AreGivenApart slots free_slots
@@ -171,7 +178,7 @@ module _ (a : AbstractState) (h : ServesWhoAsked a) (n : ℕ) (b : Born) (at : a
         vacant = vacant;
         children = λ m child is.
             let made : is_unborn (a.slots child) ≡ true = h.given.children m child (bore m child is) in
-            kind_unborn (slots child) (a.slots child) (others child (other_unborn child made)) ∙ made;
+            kind_unborn (slots child) (a.slots child) (others child (other_unborn child made)).alike ∙ made;
         parents = λ m k child is so. h.given.parents m k child (bore m child is) (bore k child so);
       }
 
@@ -181,7 +188,7 @@ module _ (a : AbstractState) (h : ServesWhoAsked a) (n : ℕ) (b : Born) (at : a
     asking_still itself m is = elim (cases_eq m n) [
       | inl same ↦ subst (λ (k : ℕ). is_asking (slots k) ≡ true) (sym same)
           (itself (subst (λ (k : ℕ). is_asking (a.slots k) ≡ true) same is))
-      | inr ne ↦ kind_asks (slots m) (a.slots m) (others m ne) ∙ is
+      | inr ne ↦ kind_asks (slots m) (a.slots m) (others m ne).alike ∙ is
     ]
 
   -- what an environment bears that bears nobody, or is as it was
@@ -358,7 +365,7 @@ module _ (a : AbstractState) (h : ServesWhoAsked a) (n : ℕ) (b : Born) (at : a
 
   -- ---- any step of the environment
 
-  done_stays : n < NENV → (x : AbstractState) → Ends a n x → (is_asking (a.slots n) ≡ true → is_asking (x.slots n) ≡ true) → ServesWhoAsked x
+  done_stays : n < NENV → (x : AbstractState) → Ends a n x → (is_asking (a.slots n) ≡ true → is_asking (x.slots n) ≡ true) → ServesStill x
   done_stays small x (still k) itself = record {
     asked = served_still x.slots x.server k.server_is (asking_still x.slots k.others itself);
     given = given_still x.slots k.others (own_bore (x.slots n) k.itself) x.free_slots
@@ -403,7 +410,7 @@ module _ (a : AbstractState) (h : ServesWhoAsked a) (n : ℕ) (b : Born) (at : a
         (birth_apart child new c borne new_bears no_more));
   }
 
-  own_stays : n < NENV → (r : Option AbstractState) → IfSome r (Ends a n) → (is_asking (a.slots n) ≡ true → Asks a n b r) → IfSome r ServesWhoAsked
+  own_stays : n < NENV → (r : Option AbstractState) → IfSome r (Ends a n) → (is_asking (a.slots n) ≡ true → Asks a n b r) → IfSome r ServesStill
   own_stays small None ends itself = record {}
   own_stays small (Some x) ends itself = done_stays small x ends itself
 
@@ -420,7 +427,7 @@ module _ (a : AbstractState) (h : ServesWhoAsked a) where
   Goes client x = Serves client x.slots x.free_slots x.server
 
   same_slots : (x : AbstractState) → x.slots ≡ a.slots → x.free_slots ≡ a.free_slots →
-      ((client : ℕ) → client_served x.server ≡ Some client → client_served a.server ≡ Some client) → ServesWhoAsked x
+      ((client : ℕ) → client_served x.server ≡ Some client → client_served a.server ≡ Some client) → ServesStill x
   same_slots x slots_are free_are serves = record {
     asked = λ client is.
         let was : (client < NENV) × (is_asking (a.slots client) ≡ true) = h.asked client (serves client is) in
@@ -429,7 +436,7 @@ module _ (a : AbstractState) (h : ServesWhoAsked a) where
         (subst (λ (slots : ℕ → AbstractSlot). AreGivenApart slots a.free_slots) (sym slots_are) h.given);
   }
 
-  goes_stays : (client : ℕ) (x : AbstractState) → client_served a.server ≡ Some client → Goes client x → ServesWhoAsked x
+  goes_stays : (client : ℕ) (x : AbstractState) → client_served a.server ≡ Some client → Goes client x → ServesStill x
   goes_stays client x was k = same_slots x k.slots_are k.free_are (λ other is. was ∙ sym k.serves ∙ is)
 
   module _ (client : ℕ) where
@@ -471,7 +478,7 @@ module _ (a : AbstractState) (h : ServesWhoAsked a) where
     done_goes (seek name offset) place = offset_goes (record a { server = acted client 0 [] None }) name offset (a.objects name) (same_goes _ refl)
 
   -- it has replied, and serves nobody
-  replied_stays : ServesWhoAsked (record a { server = leaving })
+  replied_stays : ServesStill (record a { server = leaving })
   replied_stays = same_slots _ refl refl (λ client is. absurd (cc))
 
   born_there : (slot : AbstractSlot) (b : Born) → born_in slot ≡ Some b → slot ≡ born b
@@ -479,7 +486,7 @@ module _ (a : AbstractState) (h : ServesWhoAsked a) where
   born_there _ b is = absurd (cc)
 
   reply_stays : (client answer : ℕ) (bytes : List ℕ) (object : Option ℕ) (b : Born) (phase : Phase) → a.slots client ≡ born b →
-      IfSome (reply_at a client b answer bytes object phase) ServesWhoAsked
+      IfSome (reply_at a client b answer bytes object phase) ServesStill
   reply_stays client answer bytes object b (in_service s awaiting) at = record {
     asked = λ other is. absurd (cc);
     given = given_still a h client b at slots others
@@ -499,15 +506,15 @@ module _ (a : AbstractState) (h : ServesWhoAsked a) where
       slots = upd a.slots client (born answered_one)
 
       others : Others a client slots
-      others m ne = ap (λ (slot : AbstractSlot). kind slot) (upd-other a.slots client (born answered_one) m ne)
+      others m ne = seen_other a.slots client (born answered_one) m ne
   reply_stays client answer bytes object b _ at = record {}
 
   answer_stays : (client answer : ℕ) (bytes : List ℕ) (object : Option ℕ) (o : Option Born) → born_in (a.slots client) ≡ o →
-      IfSome (reply a client answer bytes object o) ServesWhoAsked
+      IfSome (reply a client answer bytes object o) ServesStill
   answer_stays client answer bytes object None is = replied_stays
   answer_stays client answer bytes object (Some b) is = reply_stays client answer bytes object b b.phase (born_there (a.slots client) b is)
 
-  server_stays : (server : Server) → a.server ≡ server → IfSome (served a server) ServesWhoAsked
+  server_stays : (server : Server) → a.server ≡ server → IfSome (served a server) ServesStill
   server_stays leaving is = same_slots _ refl refl (λ client so. absurd (cc))
   server_stays idle is = record {}
   server_stays (looking client request k) is =
@@ -518,17 +525,35 @@ module _ (a : AbstractState) (h : ServesWhoAsked a) where
 
   -- ---- any step
 
-  step_stays : (n : ℕ) → n < NENV → (slot : AbstractSlot) → a.slots n ≡ slot → IfSome (abs_step a n) ServesWhoAsked
+  step_stays : (n : ℕ) → n < NENV → (slot : AbstractSlot) → a.slots n ≡ slot → IfSome (abs_step a n) ServesStill
   unfolding abs_step server_step
-  step_stays n small (free id) at = subst (λ (slot : AbstractSlot). IfSome (slot_step a n slot) ServesWhoAsked) (sym at) (record {})
-  step_stays n small (unborn id parent) at = subst (λ (slot : AbstractSlot). IfSome (slot_step a n slot) ServesWhoAsked) (sym at) (record {})
+  step_stays n small (free id) at = subst (λ (slot : AbstractSlot). IfSome (slot_step a n slot) ServesStill) (sym at) (record {})
+  step_stays n small (unborn id parent) at = subst (λ (slot : AbstractSlot). IfSome (slot_step a n slot) ServesStill) (sym at) (record {})
   step_stays n small (serving id) at =
-      subst (λ (slot : AbstractSlot). IfSome (slot_step a n slot) ServesWhoAsked) (sym at) (server_stays a.server refl)
+      subst (λ (slot : AbstractSlot). IfSome (slot_step a n slot) ServesStill) (sym at) (server_stays a.server refl)
   step_stays n small (born b) at = own_stays a h n b at small (abs_step a n) (step_ends a n b at) (still_asks a n b at)
+
+  -- what it has opened is nobody's still
+  step_opens : (n : ℕ) → n < NENV → (slot : AbstractSlot) → a.slots n ≡ slot → IfSome (abs_step a n) OpensNobodys
+  unfolding abs_step server_step
+  step_opens n small (free id) at = subst (λ (slot : AbstractSlot). IfSome (slot_step a n slot) OpensNobodys) (sym at) (record {})
+  step_opens n small (unborn id parent) at = subst (λ (slot : AbstractSlot). IfSome (slot_step a n slot) OpensNobodys) (sym at) (record {})
+  step_opens n small (serving id) at =
+      subst (λ (slot : AbstractSlot). IfSome (slot_step a n slot) OpensNobodys) (sym at) (opens_by_server a h.opens a.server refl)
+  step_opens n small (born b) at = by (abs_step a n) (clients_leave_files a n b small at)
+    where
+      by : (r : Option AbstractState) → IfSome r (λ x. LeavesFiles a x × AsksOrLeaves a x n) → IfSome r OpensNobodys
+      by None left = record {}
+      by (Some x) left = opens_by_client a x n h.opens left.0 left.1
 
 pub served_clients_stay : ServedClientsStay
 served_clients_stay a after n small h step =
-    subst (λ (r : Option AbstractState). IfSome r ServesWhoAsked) step (step_stays a h n small (a.slots n) refl)
+    let still = subst (λ (r : Option AbstractState). IfSome r ServesStill) step (step_stays a h n small (a.slots n) refl) in
+    record {
+      asked = still.asked;
+      given = still.given;
+      opens = subst (λ (r : Option AbstractState). IfSome r OpensNobodys) step (step_opens a h n small (a.slots n) refl);
+    }
 
 -- ---- who is served
 

@@ -298,6 +298,7 @@ module _ (s : KernelState) (n id : ℕ) (stands : place_of (slot_at s n) ≡ pla
           (asked_it (record {
             by_service = service.Sync;
             id = id;
+            fd = 0;
             at = stands;
             waited = so;
             brings = (upd-at s.environments.slots 0 (with_word (slot_at s 0) (slot_at s n).id FSREQ_SYNC), refl);

@@ -1,8 +1,9 @@
 -- What a step of the library leaves to the file server, by the call that it makes: its slot, the entries and regions of its space, and the
--- bytes of its pages which the caller has not. No environment but itself may change it, and one writes pages of its own alone.
-use Rattle.std.proofs.Common.{◌≡◌, ◌≢◌, ◌∙◌, ◌==◌, ◌%◌, ◌+◌, ◌&&◌, ◌||◌, ◌⊎◌, inl, inr, ℕ, Bool, true, false, not, List, [], ◌∷◌, refl, sym, ap}
+-- bytes of its pages which the caller has not, or has as pages of descriptors alone. No environment but itself may change it, and one writes
+-- pages of its own alone, which are no descriptors'.
+use Rattle.std.proofs.Common.{◌≡◌, ◌≢◌, ◌∙◌, ◌==◌, ◌%◌, ◌/◌, ◌+◌, ◌-◌, ◌<◌, ◌≤◌, ◌&&◌, ◌||◌, ◌⊎◌, inl, inr, ℕ, Bool, true, false, not, List, [], ◌∷◌, refl, sym, ap}
 use Rattle.std.proofs.Common.{Option, Some, None, Result, Ok, Err, IfSome, subst, arith, if◌then◌else◌}
-use Rattle.std.specs.Prelude.{nat_lt, get_or}
+use Rattle.std.specs.Prelude.{nat_le, nat_lt, get_or, length}
 use Rattle.std.specs.Int.{w32, to_le_bytes}
 use Rattle.std.proofs.lemmas.Bool.{and_parts, or_parts, or_right}
 use Rattle.std.proofs.lemmas.Bool.Decides.{nat_tests}
@@ -16,7 +17,7 @@ use Rattle.jos_base.specs.declared.line.Line.TheVariants.{UserFault, UserMemChec
 use Rattle.jos_base.specs.declared.memory.Access.{Access}
 use Rattle.jos_base.specs.declared.memory.Access.TheVariants.{Read, Write}
 use Rattle.jos_base.specs.declared.memory.PageFault.{PageFault}
-use Rattle.jos_base.specs.declared.numbers.TheConstants.{CPUTS_MAX, FIRST_ENV_ID, NENV, PGSIZE, UTOP, SYS_CPUTS, SYS_CGETC, SYS_GETENVID}
+use Rattle.jos_base.specs.declared.numbers.TheConstants.{CPUTS_MAX, FIRST_ENV_ID, NENV, PGSIZE, UTOP, UXSTACKTOP, SYS_CPUTS, SYS_CGETC, SYS_GETENVID}
 use Rattle.jos_base.specs.declared.numbers.TheConstants.{SYS_ENV_DESTROY, SYS_PAGE_ALLOC, SYS_PAGE_MAP, SYS_PAGE_UNMAP, SYS_EXOFORK}
 use Rattle.jos_base.specs.declared.numbers.TheConstants.{SYS_ENV_SET_STATUS, SYS_ENV_SET_TRAPFRAME, SYS_ENV_SET_PGFAULT_UPCALL, SYS_YIELD}
 use Rattle.jos_base.specs.declared.numbers.TheConstants.{SYS_IPC_TRY_SEND, SYS_IPC_RECV}
@@ -35,7 +36,7 @@ use Rattle.jos_base.specs.SystemCalls.{page_unmap_of, record_size, env_set_trapf
 use Rattle.jos_base.specs.SystemCalls.{message_taken, Passing, nothing, a_page, invalid, passing_by, passing_of, sent_with, sent}
 use Rattle.jos_base.specs.SystemCalls.{environment_made, exofork, exofork_of, made_of, ipc_try_send_of, ipc_recv, call_of}
 use Rattle.jos_base.specs.SystemCalls.{handler_entered, handled_at, handled}
-use Rattle.jos_base.specs.TrapFrames.{words_of_bytes, from_frame, from_record, frame_bytes, frame_size, upcall_place}
+use Rattle.jos_base.specs.TrapFrames.{words_of_bytes, from_frame, from_record, exception_stack, frame_bytes, frame_size, upcall_place}
 use Rattle.jos_base.specs.UserMemory.{reach_in, touched, all_touched, stored_byte}
 use Rattle.jos_base.specs.Words.{page_number, upd}
 use Rattle.lib_os.specs.AbstractState.{AbstractState, AbstractSlot}
@@ -43,7 +44,7 @@ use Rattle.lib_os.specs.InOrder.{HasOneUse, IsInOrder, AreFree}
 use Rattle.lib_os.specs.declared.service.Service.{Service}
 use Rattle.lib_os.specs.declared.service.Service.TheVariants as service
 use Rattle.lib_os.specs.LibrarySteps.{BringsRequest, Stands, KeepsServer, LeavesOrAsks, asked_it, left_alone}
-use Rattle.lib_os.specs.Rows.{Names}
+use Rattle.lib_os.specs.Rows.{Names, is_descriptor}
 use Rattle.lib_os.specs.StandsFor.{StandsFor, StandsForSlot, StandsForServer}
 use Rattle.lib_os.specs.UserCalls.{CallStep, giving, accessing, by_access, faulting, user_byte, user_word, with_user_byte, with_user_word}
 use Rattle.lib_os.specs.UserCalls.{got, with_bytes_put, load, load_byte, store, store_byte, exchange, restored, restore_frame, asking, sets_own, system}
@@ -122,10 +123,43 @@ pub record ServerStays (d n : ℕ) (s t : KernelState) : Type 0 where
   pub space : SpaceLeft (slot_at s n).directory d s.spaces t.spaces
 
 -- it is left wherever the state stands for an abstract one
-pub keeps_server : (s t : KernelState) (n : ℕ) → (IsInOrder t → (d : ℕ) → IsAside d s n → ServerStays d n s t) → KeepsServer n s t
+pub keeps_server : (s t : KernelState) (n : ℕ) →
+    (IsInOrder t → (a : AbstractState) → Stands s a → (d : ℕ) → IsAside d s n → ServerStays d n s t) → KeepsServer n s t
 keeps_server s t n left then_so other live a h =
-    let it = left then_so (slot_at s 0).directory (aside_where h.1 n other live) in
+    let it = left then_so a h (slot_at s 0).directory (aside_where h.1 n other live) in
     left_alone (record { slot = it.slot; entries = it.space.entries; regions = it.space.regions; pages = it.space.pages })
+
+-- a word that lies there lies in no page of a descriptor's
+abbrev pub IsWordBeside : ℕ → Type 0
+IsWordBeside va = (is_descriptor (page_number va) ≡ false) × (is_descriptor (page_number (va + 3)) ≡ false)
+
+-- as it is where it lies at a multiple of four, in one page
+pub aligned_beside : (va : ℕ) → va % 4 ≡ 0 → is_descriptor (page_number va) ≡ false → IsWordBeside va
+aligned_beside va aligned other =
+    let same : (va + 3) / PGSIZE ≡ va / PGSIZE = omega (arith, aligned) in
+    (other, ap is_descriptor same ∙ other)
+
+-- then each of its bytes does
+word_byte : (va i : ℕ) → i ≤ 3 → IsWordBeside va → is_descriptor (page_number (va + i)) ≡ false
+word_byte va i small it =
+    let first = it.0 in
+    let last = it.1 in
+    grind (arith, nat_tests)
+
+-- nor is the frame of a fault pushed in one
+place_beside : (esp place : ℕ) → upcall_place esp ≡ Some place → is_descriptor (page_number place) ≡ false
+unfolding upcall_place
+place_beside esp place is = by_tests (nat_le exception_stack esp && nat_lt esp UXSTACKTOP) refl (nat_lt esp (exception_stack + frame_size + 4)) refl is
+  where
+    by_tests : (a : Bool) → (nat_le exception_stack esp && nat_lt esp UXSTACKTOP) ≡ a → (b : Bool) → nat_lt esp (exception_stack + frame_size + 4) ≡ b →
+        (if a then (if b then None else Some (esp - (frame_size + 4))) else Some (UXSTACKTOP - frame_size)) ≡ Some place →
+        is_descriptor (page_number place) ≡ false
+    by_tests false ea b eb some = let same : UXSTACKTOP - frame_size ≡ place = same_Some _ place some in grind (arith, nat_tests)
+    by_tests true ea true eb none = absurd cc
+    by_tests true ea false eb some =
+        let same : esp - (frame_size + 4) ≡ place = same_Some _ place some in
+        let above : exception_stack + frame_size + 4 ≤ esp = grind (arith, nat_tests) in
+        grind (arith, nat_tests)
 
 -- a call that names no page that may pass
 abbrev pub is_no_page : ℕ → Bool
@@ -480,26 +514,28 @@ module _ (d : ℕ) (s : KernelState) (n : ℕ) (h : IsAside d s n) where
 
   -- ---- accesses
 
-  entered_stays : (fault : PageFault) (place : ℕ) (reached : Result FrameOffset PageFault) → reach_in s.spaces (slot_at s n).directory place Write ≡ reached →
-      IfSome (handler_entered s n fault place reached) Left
-  entered_stays fault place (Err refusal) is = tt
-  entered_stays fault place (Ok at) is =
+  entered_stays : (fault : PageFault) (place : ℕ) → is_descriptor (page_number place) ≡ false → (reached : Result FrameOffset PageFault) →
+      reach_in s.spaces (slot_at s n).directory place Write ≡ reached → IfSome (handler_entered s n fault place reached) Left
+  entered_stays fault place apart (Err refusal) is = tt
+  entered_stays fault place apart (Ok at) is =
       let k = slot_at s n in
       let t = touched s.spaces k.directory place Write in
       let bytes = overlaid (t.pages at.frame) at.offset (frame_bytes fault k.registers) in
-      let space = bytes_left home d s.spaces h.frames t at.frame bytes (written_none home d s.spaces h.frames s.spaces place at beside is)
+      let space = bytes_left home d s.spaces h.frames t at.frame bytes (written_none home d s.spaces h.frames s.spaces place at apart beside is)
       (touched_left home d s.spaces h.frames home home_apart s.spaces place Write still) in
       let moved = put_stays s stays_so n (record k { registers = record k.registers { esp = place; eip = k.upcall } }) h.other in
       record { slot = moved.slot; space = record { entries = space.entries; regions = space.regions; pages = space.pages } }
 
   pub handled_server : (fault : PageFault) → IfSome (handled s n fault) Left
   unfolding handled
-  handled_server fault = by_upcall ((slot_at s n).upcall == 0) (upcall_place (slot_at s n).registers.esp)
+  handled_server fault = by_upcall ((slot_at s n).upcall == 0) (upcall_place (slot_at s n).registers.esp) refl
     where
-      by_upcall : (test : Bool) (place : Option ℕ) → IfSome (if test then None else handled_at s n fault place) Left
-      by_upcall true place = tt
-      by_upcall false None = tt
-      by_upcall false (Some place) = entered_stays fault place (reach_in s.spaces (slot_at s n).directory place Write) refl
+      by_upcall : (test : Bool) (place : Option ℕ) → upcall_place (slot_at s n).registers.esp ≡ place →
+          IfSome (if test then None else handled_at s n fault place) Left
+      by_upcall true place is = tt
+      by_upcall false None is = tt
+      by_upcall false (Some place) is =
+          entered_stays fault place (place_beside (slot_at s n).registers.esp place is) (reach_in s.spaces (slot_at s n).directory place Write) refl
 
   fault_stays : (X : Type 0) (fault : PageFault) (after : Option KernelState) → IfSome after Left → Left (faulting {X = X} s n fault after).state
   fault_stays X fault (Some after) it = it
@@ -527,19 +563,29 @@ module _ (d : ℕ) (s : KernelState) (n : ℕ) (h : IsAside d s n) where
           })
       by_reach (Err fault) = fault_stays _ fault (handled s n fault) (handled_server fault)
 
-  byte_put : (k : KernelState) (va byte : ℕ) → Writes k → Writes (with_user_byte k n va byte)
-  byte_put k va byte w = record {
+  byte_put : (k : KernelState) (va byte : ℕ) → is_descriptor (page_number va) ≡ false → Writes k → Writes (with_user_byte k n va byte)
+  byte_put k va byte apart w = record {
     slot = w.slot;
     own = w.own;
     space = subst (λ (q : ℕ). SpaceLeft home d s.spaces (stored_byte k.spaces q va byte)) (sym w.own)
-        (stored_left home d s.spaces h.frames k.spaces va byte w.pages w.space);
+        (stored_left home d s.spaces h.frames k.spaces va byte apart w.pages w.space);
     pages = subst (λ (q : ℕ). IsBesidePages home d s.spaces h.frames (stored_byte k.spaces q va byte)) (sym w.own)
         (stored_beside home d s.spaces h.frames k.spaces va byte w.pages);
   }
 
-  bytes_put : (k : KernelState) (va : ℕ) (bytes : List ℕ) → Writes k → Left (with_bytes_put k n va bytes)
-  bytes_put k va [] w = record { slot = w.slot; space = w.space }
-  bytes_put k va (byte ∷ rest) w = bytes_put (with_user_byte k n va byte) (va + 1) rest (byte_put k va byte w)
+  bytes_put : (k : KernelState) (va : ℕ) (bytes : List ℕ) → ((i : ℕ) → i < length bytes → is_descriptor (page_number (va + i)) ≡ false) → Writes k →
+      Left (with_bytes_put k n va bytes)
+  bytes_put k va [] apart w = record { slot = w.slot; space = w.space }
+  bytes_put k va (byte ∷ rest) apart w =
+      bytes_put (with_user_byte k n va byte) (va + 1) rest
+      (λ i less. ap (λ (q : ℕ). is_descriptor (page_number q)) (let same : va + 1 + i ≡ va + (i + 1) = omega arith in same)
+      ∙ apart (i + 1) (omega (arith, less)))
+      (byte_put k va byte (ap (λ (q : ℕ). is_descriptor (page_number q)) (let same : va ≡ va + 0 = omega arith in same) ∙ apart 0 (omega arith)) w)
+
+  word_put : (k : KernelState) (va word : ℕ) → IsWordBeside va → Writes k → Left (with_user_word k n va word)
+  word_put k va word apart w =
+      bytes_put k va (to_le_bytes w32 word)
+      (λ i less. word_byte va i (let most : i < 4 = less in omega (arith, most)) apart) w
 
   pub load_server : (va : ℕ) → Left (load s n va).state
   unfolding load
@@ -549,21 +595,22 @@ module _ (d : ℕ) (s : KernelState) (n : ℕ) (h : IsAside d s n) where
   unfolding load_byte
   load_byte_server va = access_stays va Read (λ after. giving after (user_byte after n va)) (λ k w. record { slot = w.slot; space = w.space })
 
-  pub store_server : (va word : ℕ) → Left (store s n va word).state
+  pub store_server : (va word : ℕ) → IsWordBeside va → Left (store s n va word).state
   unfolding store
-  store_server va word =
-      access_stays va Write (λ after. giving (with_user_word after n va word) tt) (λ k w. bytes_put k va (to_le_bytes w32 word) w)
+  store_server va word apart =
+      access_stays va Write (λ after. giving (with_user_word after n va word) tt) (λ k w. word_put k va word apart w)
 
-  pub store_byte_server : (va byte : ℕ) → Left (store_byte s n va byte).state
+  pub store_byte_server : (va byte : ℕ) → is_descriptor (page_number va) ≡ false → Left (store_byte s n va byte).state
   unfolding store_byte
-  store_byte_server va byte =
-      access_stays va Write (λ after. giving (with_user_byte after n va byte) tt) (λ k w. bytes_put k va (byte ∷ []) w)
+  store_byte_server va byte apart =
+      access_stays va Write (λ after. giving (with_user_byte after n va byte) tt)
+      (λ k w. let it = byte_put k va byte apart w in record { slot = it.slot; space = it.space })
 
-  pub exchange_server : (va word : ℕ) → Left (exchange s n va word).state
+  pub exchange_server : (va word : ℕ) → IsWordBeside va → Left (exchange s n va word).state
   unfolding exchange
-  exchange_server va word =
+  exchange_server va word apart =
       access_stays va Write (λ after. record { state = with_user_word after n va word; gives = got (user_word after n va); written = [] })
-      (λ k w. bytes_put k va (to_le_bytes w32 word) w)
+      (λ k w. word_put k va word apart w)
 
   pub restore_server : Left (restore_frame s n).state
   unfolding restore_frame
@@ -604,13 +651,19 @@ own_server s n mid slot status directory_is h then_so other live a stands =
 
     brought : (x : Service) → BringsRequest x n s mid → BringsRequest x n s (with_slot_at mid n slot)
     brought service.Sync it = (kept ∙ it.0, it.1)
+    brought (service.OpenFile path mode) it = (kept ∙ it.0, record { entry = it.1.entry; stands = it.1.stands; spaces = it.1.spaces })
     brought (service.Remove path) it = (kept ∙ it.0, record { entry = it.1.entry; stands = it.1.stands; spaces = it.1.spaces })
+    brought (service.Seek fd offset) it = (kept ∙ it.0, record { entry = it.1.entry; stands = it.1.stands; spaces = it.1.spaces })
+    brought (service.SetSize fd size) it = (kept ∙ it.0, record { entry = it.1.entry; stands = it.1.stands; spaces = it.1.spaces })
+    brought (service.Write fd va len) it = (kept ∙ it.0, record { entry = it.1.entry; stands = it.1.stands; spaces = it.1.spaces })
+    brought (service.Read fd va len) it = (kept ∙ it.0, record { entry = it.1.entry; stands = it.1.stands; spaces = it.1.spaces })
+    brought (service.Stat fd va) it = (kept ∙ it.0, record { entry = it.1.entry; stands = it.1.stands; spaces = it.1.spaces })
     brought _ it = absurd it
 
     by_way : LeavesOrAsks n s mid → LeavesOrAsks n s (with_slot_at mid n slot)
     by_way (left_alone it) = left_alone (record { slot = kept ∙ it.slot; entries = it.entries; regions = it.regions; pages = it.pages })
     by_way (asked_it it) =
-        asked_it (record { by_service = it.by_service; id = it.id; at = it.at; waited = it.waited; brings = brought it.by_service it.brings })
+        asked_it (record { by_service = it.by_service; id = it.id; fd = it.fd; at = it.at; waited = it.waited; brings = brought it.by_service it.brings })
 
 module _ (s : KernelState) (n number : ℕ) (args : List ℕ) where
   server_by : (d : ℕ) → IsAside d s n → ((number == SYS_EXOFORK) ≡ true → NextIsFree s) → sends_aside number args ≡ true →
@@ -645,12 +698,12 @@ module _ (s : KernelState) (n number : ℕ) (args : List ℕ) where
   system_server plain aside then_so other live a stands =
       let parts = or_parts (number == SYS_ENV_SET_TRAPFRAME) (number == SYS_EXOFORK) plain in
       keeps_server s (system s n number args).state n
-      (λ order d h. server_by d h (λ is. absurd (let contradiction : true ≡ false = sym is ∙ parts.1 in cc)) (aside a stands)) then_so other live a stands
+      (λ order b stood d h. server_by d h (λ is. absurd (let contradiction : true ≡ false = sym is ∙ parts.1 in cc)) (aside a stands)) then_so other live a stands
 
 -- a child that is made
 pub exofork_server : (s : KernelState) (n : ℕ) → KeepsServer n s (system s n SYS_EXOFORK (given (slot_at s n).registers)).state
 exofork_server s n then_so other live a stands =
     keeps_server s (system s n SYS_EXOFORK (given (slot_at s n).registers)).state n
-    (λ order d h. server_by s n SYS_EXOFORK (given (slot_at s n).registers) d h
+    (λ order b stood d h. server_by s n SYS_EXOFORK (given (slot_at s n).registers) d h
     (λ is m slots f frames slots_are frames_are. slot_was_free s n live m slots slots_are f frames frames_are stands.1.in_order then_so) refl)
     then_so other live a stands

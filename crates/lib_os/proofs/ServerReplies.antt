@@ -1,16 +1,19 @@
 -- The steps of the file server that are seen: it waits for the next request, it has done what a sync asks for, and its reply comes to the client
 -- that waits for it. Behind each of them the kernel's state stands for the abstract one behind the server's step.
 use Rattle.std.proofs.Common.{◌≡◌, ◌≢◌, ◌∙◌, ◌⊎◌, inl, inr, ◌<◌, ◌%◌, ◌^◌, ◌==◌, ◌&&◌, ◌||◌, ℕ, Bool, true, false, List, [], ◌∷◌, Option, Some, None}
-use Rattle.std.proofs.Common.{Ok, refl, sym, ap, subst, arith, length}
+use Rattle.std.proofs.Common.{Ok, refl, sym, ap, subst, arith, length, if◌then◌else◌}
+use Rattle.std.proofs.lemmas.Bool.Decides.{nat_tests}
 use Rattle.jos_base.specs.declared.called.Called.{Called}
 use Rattle.jos_base.specs.declared.called.Called.TheVariants.{Answered, Blocked}
 use Rattle.jos_base.specs.declared.environment.Status.TheVariants.{NotRunnable}
-use Rattle.jos_base.specs.declared.numbers.TheConstants.{E_IPC_NOT_RECV, FIRST_ENV_ID, NENV, SYS_IPC_RECV, SYS_IPC_TRY_SEND, UTOP}
+use Rattle.jos_base.specs.declared.numbers.TheConstants.{E_IPC_NOT_RECV, FIRST_ENV_ID, NENV, SYS_IPC_RECV, SYS_IPC_TRY_SEND, UTEMP, UTOP}
 use Rattle.jos_base.specs.Environments.{Slot, found, is_live as is_live_slot}
 use Rattle.jos_base.specs.KernelState.{KernelState, slot_at, with_slot_at}
 use Rattle.jos_base.specs.Messages.{Rendezvous, accepts, wanting}
 use Rattle.jos_base.specs.SpacesState.{SpacesState}
-use Rattle.jos_base.specs.Words.{negated}
+use Rattle.std.specs.Prelude.{slice_index}
+use Rattle.jos_base.specs.Reach.{Entry}
+use Rattle.jos_base.specs.Words.{negated, page_number}
 use Rattle.fs_layout.specs.FileActs.{file_act}
 use Rattle.fs_layout.specs.FileTree.{sync_files}
 use Rattle.lib_os.specs.declared.numbers.TheConstants.{REQUEST, SHORT_QUANTUM}
@@ -19,18 +22,20 @@ use Rattle.lib_os.specs.declared.place.Place.TheVariants as place
 use Rattle.lib_os.specs.declared.service.Service.{Service}
 use Rattle.lib_os.specs.declared.service.Service.TheVariants as service
 use Rattle.lib_os.specs.AbstractRun.{abs_step, may_wait, reply_may_wait, slot_may_wait, slot_step}
+use Rattle.lib_os.specs.AskedFor.{IsThere}
 use Rattle.lib_os.specs.AbstractState.{AbstractSlot, AbstractState, Born, Phase, Server, act, acted, asked, awaiting, born, busy, idle, in_service}
-use Rattle.lib_os.specs.AbstractState.{leaving, replied, with_born}
+use Rattle.lib_os.specs.AbstractState.{guest, leaving, replied, with_born}
 use Rattle.lib_os.specs.FileServer.{act_done, reply, reply_at, reply_to, served, server_step}
 use Rattle.lib_os.specs.GuestStep.{born_in}
-use Rattle.lib_os.specs.LibraryPages.{View, has_copy, has_working}
+use Rattle.lib_os.specs.LibraryPages.{IsOwnWritable, View, has_copy, has_working}
 use Rattle.lib_os.specs.MadeCalls.{SetsWords}
 use Rattle.lib_os.specs.Places.{handler_step_in, place_in_words, place_of}
-use Rattle.lib_os.specs.Rows.{Names, rows_of}
-use Rattle.lib_os.specs.StandsFor.{HasReply, IsServerStatus, StandsAt, StandsFor, StandsForBorn, StandsForServer, has_reply, upcall_at}
-use Rattle.lib_os.specs.StandsFor.{view_of}
+use Rattle.lib_os.specs.Rows.{AreBytes, Names, rows_of}
+use Rattle.lib_os.specs.StandsFor.{HasBytesReply, HasReply, has_bytes, IsServerStatus, StandsAt, StandsFor, StandsForBorn}
+use Rattle.lib_os.specs.StandsFor.{StandsForServer, has_reply, upcall_at, view_of, has_opened, opened_answer}
+use Rattle.lib_os.specs.StandsInHandler.{handed_with, hands_back}
 use Rattle.lib_os.specs.UserCalls.{CallStep, IsCallStep, Output, Prints, got, giving, system}
-use Rattle.lib_os.proofs.AskedPlaces.{AskedPlace, AwaitingPlace, asked_place, awaiting_place, awaiting_step, is_requests}
+use Rattle.lib_os.proofs.AskedPlaces.{AskedPlace, AwaitingPlace, ExpectsSo, asked_place, awaiting_place, awaiting_step, is_requests}
 use Rattle.lib_os.proofs.Calls.{comes_to, ipc_recv_is, receives_at, waits_is}
 use Rattle.lib_os.proofs.Logical.{is_plain}
 use Rattle.lib_os.proofs.Sends.{found_where, not_waited_for, received_in, with_message, word_comes}
@@ -65,7 +70,6 @@ server_goes_on h server status = record {
   free_slots = h.free_slots;
   first = h.first;
   server = record { status = status; pages = h.server.pages; tables = h.server.tables; alone = h.server.alone };
-  consoles = h.consoles;
   input = h.input;
   last = h.last;
   turns = h.turns;
@@ -74,7 +78,7 @@ server_goes_on h server status = record {
 }
 
 -- its status, where it is known what it does
-status_at : {names : Names} {s : KernelState} {a : AbstractState} → StandsFor names s a → (server : Server) → a.server ≡ server →
+pub status_at : {names : Names} {s : KernelState} {a : AbstractState} → StandsFor names s a → (server : Server) → a.server ≡ server →
     IsServerStatus server (slot_at s 0)
 status_at {s = s} h server is = subst (λ (x : Server). IsServerStatus x (slot_at s 0)) is h.server.status
 
@@ -142,42 +146,136 @@ module _ {names : Names} {s : KernelState} {a : AbstractState} (h : StandsFor na
 -- ---- it replies
 
 -- where the client's slot stands behind the reply
-told_at : (k : Slot) (sender value perm : ℕ) → place_of (received_in k sender value perm) ≡ place_of k
+pub told_at : (k : Slot) (sender value perm : ℕ) → place_of (received_in k sender value perm) ≡ place_of k
 unfolding place_in_words handler_step_in
 told_at k sender value perm = refl
 
--- it stands where it will read the reply, or give its page back, when that has come
-reply_there : (call : Service) → is_requests call ≡ true → (v : View) (k : Slot) (b : Born) (id : ℕ) → id ≡ k.id → HasReply k b call →
-    StandsAt (place.InService call (awaiting_step call id)) v k b
-reply_there service.Sync is v k b id self came = (self, has_reply came)
-reply_there (service.Remove path) is v k b id self came = (self, has_reply came)
-reply_there _ is v k b id self came = absurd (let contradiction : false ≡ true = is in cc)
+-- The bytes of a reply go with its word, and the page at UTEMP of the client has them.
+pub record HandsOver (v : View) (call : Service) (bytes : List ℕ) (answer : ℕ) : Type 0 where
+  pub many : length bytes ≡ handed_with call answer
+  pub small : AreBytes bytes
+  pub same : (entry : Entry) → v.row (page_number UTEMP) ≡ Some entry → (i : ℕ) → i < length bytes →
+      slice_index (v.bytes entry.frame) i ≡ slice_index bytes i
 
-plain_there : (call : Service) → is_requests call ≡ true → (id : ℕ) → is_plain (place.InService call (awaiting_step call id)) ≡ true
-plain_there service.Sync is id = refl
-plain_there (service.Remove path) is id = refl
-plain_there _ is id = absurd (let contradiction : false ≡ true = is in cc)
+-- A word alone, to one to which no bytes are handed back, or with an error's number.
+pub hands_none : (v : View) (call : Service) (answer : ℕ) → handed_with call answer ≡ 0 → HandsOver v call [] answer
+hands_none v call answer none = record { many = sym none; small = no_bytes; same = λ entry is i lt. absurd (omega (arith, lt)) }
+  where
+    no_bytes : AreBytes []
+    no_bytes i = omega arith
+
+none_long : (bytes : List ℕ) → length bytes ≡ 0 → bytes ≡ []
+none_long [] none = refl
+none_long (byte ∷ rest) none = absurd (omega (arith, none))
+
+-- With no page no file was opened: one that wants that is told an error's number.
+abbrev pub TellsNoFile : Service → ℕ → Type 0
+TellsNoFile (service.OpenFile path mode) answer = answer ≢ 0
+TellsNoFile _ answer = Unit {0}
+
+untold : (value fd : ℕ) → value ≢ 0 → opened_answer value fd ≡ value
+untold value fd some =
+    let test : (value == 0) ≡ false = grind (arith, nat_tests, some) in ap (λ (t : Bool). if t then fd else value) test
 
 -- the client to which the reply has come
-abbrev pub replied_born : Service → Born → ℕ → Born
-replied_born call b answer = record b { phase = in_service call (replied [] answer); blocked = false }
+abbrev pub replied_born : Service → Born → List ℕ → ℕ → Born
+replied_born call b bytes answer = record b { phase = in_service call (replied bytes answer); blocked = false }
 
-replied_own : {names : Names} {s : SpacesState} {k : Slot} {b : Born} (call : Service) (sender answer : ℕ) →
-    AwaitingPlace (place_of k) k b call → StandsForBorn names s k b → answer < 2 ^ 32 →
-    StandsForBorn names s (received_in k sender answer 0) (replied_born call b answer)
-replied_own {s = s} {k = k} {b = b} call sender answer there own_part small =
-    let j : Slot = received_in k sender answer 0 in
-    let after : Born = replied_born call b answer in
-    let same : place_of j ≡ place_of k = told_at k sender answer 0 in
-    let came : HasReply j after call = record {
+-- it stands where it will read the reply, or give its page back, or count the bytes, when that has come
+reply_there : (call : Service) → is_requests call ≡ true → (v : View) (k : Slot) (b : Born) (sender answer : ℕ) (bytes : List ℕ) (id fd : ℕ) →
+    id ≡ k.id → ExpectsSo k b call → (hands_back call ≡ true → IsOwnWritable v.row (page_number UTEMP)) →
+    StandsAt (place.InService call (awaiting_step call id fd)) v k b → answer < 2 ^ 32 → HandsOver v call bytes answer → TellsNoFile call answer →
+    StandsAt (place.InService call (awaiting_step call id fd)) v (received_in k sender answer 0) (replied_born call b bytes answer)
+reply_there call is v k b sender answer bytes id fd self waits page was small hands told = by_service call is page was waits hands told
+  where
+    word_came : (call : Service) → handed_with call answer ≡ 0 → b.program ≡ guest k.registers → HandsOver v call bytes answer →
+        HasReply (received_in k sender answer 0) (replied_born call b bytes answer) call
+    word_came call none program hands = record {
       regs = k.registers;
-      program = there.so.program;
+      program = program;
       registers = refl;
+      phase = ap (λ (l : List ℕ). in_service call (replied l answer)) (none_long bytes (hands.many ∙ none));
+      awake = refl;
+      silent = refl;
+      small = small;
+    }
+
+    bytes_came : (call : Service) → IsOwnWritable v.row (page_number UTEMP) → ExpectsSo k b call → HandsOver v call bytes answer →
+        HasBytesReply v (received_in k sender answer 0) (replied_born call b bytes answer) call
+    bytes_came call page so hands = record {
+      regs = k.registers;
+      program = so.program;
+      registers = refl;
+      bytes = bytes;
       phase = refl;
       awake = refl;
       silent = refl;
       small = small;
-    } in
+      many = hands.many;
+      small_bytes = hands.small;
+      kept = record { entry = page.entry; stands = page.stands; own_page = page.own_page; same = hands.same page.entry page.stands };
+    }
+
+    by_service : (call : Service) → is_requests call ≡ true → (hands_back call ≡ true → IsOwnWritable v.row (page_number UTEMP)) →
+        StandsAt (place.InService call (awaiting_step call id fd)) v k b → ExpectsSo k b call → HandsOver v call bytes answer →
+        TellsNoFile call answer →
+        StandsAt (place.InService call (awaiting_step call id fd)) v (received_in k sender answer 0)
+        (replied_born call b bytes answer)
+    by_service service.Sync is page was so hands told = (self, has_reply (word_came service.Sync refl so.program hands))
+    by_service (service.Remove path) is page was so hands told = (self, has_reply (word_came (service.Remove path) refl so.program hands))
+    by_service (service.OpenFile path mode) is page was so hands told =
+        let came = word_came (service.OpenFile path mode) refl so.program hands in (
+          self,
+          has_opened (record {
+            regs = came.regs;
+            program = came.program;
+            registers = came.registers;
+            phase = came.phase ∙ ap (λ (n : ℕ). in_service (service.OpenFile path mode) (replied [] n)) (sym (untold answer fd told));
+            awake = came.awake;
+            silent = came.silent;
+            small = came.small;
+          }),
+        )
+    by_service (service.Seek given offset) is page was so hands told =
+        (self, has_reply (word_came (service.Seek given offset) refl so.program hands))
+    by_service (service.SetSize given size) is page was so hands told =
+        (self, has_reply (word_came (service.SetSize given size) refl so.program hands))
+    by_service (service.Write given va len) is page was so hands told =
+        (self, has_reply (word_came (service.Write given va len) refl so.program hands))
+    by_service (service.Read given va len) is page was so hands told =
+        record { self = self; hands = refl; inside = was.inside; so = has_bytes (bytes_came (service.Read given va len) (page refl) so hands) }
+    by_service (service.Stat given va) is page was so hands told =
+        record { self = self; hands = refl; inside = was.inside; so = has_bytes (bytes_came (service.Stat given va) (page refl) so hands) }
+    by_service _ is page was so hands told = absurd (let contradiction : false ≡ true = is in cc)
+
+plain_there : (call : Service) → is_requests call ≡ true → (id fd : ℕ) → is_plain (place.InService call (awaiting_step call id fd)) ≡ true
+plain_there service.Sync is id fd = refl
+plain_there (service.Remove path) is id fd = refl
+plain_there (service.OpenFile path mode) is id fd = refl
+plain_there (service.Seek given offset) is id fd = refl
+plain_there (service.SetSize given size) is id fd = refl
+plain_there (service.Write given va len) is id fd = refl
+plain_there (service.Read given va len) is id fd = refl
+plain_there (service.Stat given va) is id fd = refl
+plain_there _ is id fd = absurd (let contradiction : false ≡ true = is in cc)
+
+-- one that waits for bytes has its page
+has_page : (call : Service) (id fd : ℕ) (words : List ℕ) → hands_back call ≡ true →
+    has_working (place.InService call (awaiting_step call id fd)) words ≡ true
+has_page (service.Read given va len) id fd words hands = refl
+has_page (service.Stat given va) id fd words hands = refl
+has_page _ id fd words hands = absurd (let contradiction : false ≡ true = hands in cc)
+
+replied_own : {names : Names} {s : SpacesState} {k : Slot} {b : Born} (call : Service) (sender answer : ℕ) (bytes : List ℕ) →
+    AwaitingPlace (place_of k) (view_of s k.directory) k b call → StandsForBorn names s k b → answer < 2 ^ 32 →
+    HandsOver (view_of s k.directory) call bytes answer → TellsNoFile call answer →
+    StandsForBorn names s (received_in k sender answer 0) (replied_born call b bytes answer)
+replied_own {s = s} {k = k} {b = b} call sender answer bytes there own_part small hands none =
+    let j : Slot = received_in k sender answer 0 in
+    let after : Born = replied_born call b bytes answer in
+    let same : place_of j ≡ place_of k = told_at k sender answer 0 in
+    let page : hands_back call ≡ true → IsOwnWritable (rows_of s k.directory) (page_number UTEMP) =
+    λ is. own_part.library.working (ap (λ (p : Place). has_working p k.extra) there.at ∙ has_page call there.id there.fd k.extra is) in
     record {
       id = own_part.id;
       id_small = own_part.id_small;
@@ -194,7 +292,8 @@ replied_own {s = s} {k = k} {b = b} call sender answer there own_part small =
       stack = own_part.stack;
       flags = own_part.flags;
       at = subst (λ (p : Place). StandsAt p (view_of s k.directory) j after) (sym (same ∙ there.at))
-          (reply_there call there.asks_it (view_of s k.directory) j after there.id there.self came);
+          (reply_there call there.asks_it (view_of s k.directory) k b sender answer bytes there.id there.fd there.self there.so page
+          (subst (λ (p : Place). StandsAt p (view_of s k.directory) k b) there.at own_part.at) small hands none);
     }
 
 -- the call with which it replies: a word, with no page
@@ -202,14 +301,15 @@ abbrev pub reply_call : KernelState → ℕ → ℕ → CallStep Called
 reply_call s id answer = system s 0 SYS_IPC_TRY_SEND (id ∷ answer ∷ UTOP ∷ 0 ∷ 0 ∷ [])
 
 -- the abstract state behind the reply
-abbrev pub replied_state : AbstractState → ℕ → Service → Born → ℕ → AbstractState
-replied_state a client call b answer = reply_to a client call [] (b, answer)
+abbrev pub replied_state : AbstractState → ℕ → Service → Born → List ℕ → ℕ → AbstractState
+replied_state a client call b bytes answer = reply_to a client call bytes (b, answer)
 
 -- The client waits: the word has come to it.
-pub record HasReplied (names : Names) (s : KernelState) (a : AbstractState) (client : ℕ) (by : Service) (b : Born) (answer : ℕ) : Type 0 where
+pub record HasReplied (names : Names) (s : KernelState) (a : AbstractState) (client : ℕ) (by : Service) (b : Born) (bytes : List ℕ) (answer : ℕ) :
+    Type 0 where
   pub call : reply_call s b.id answer ≡ giving (with_message s 0 client answer 0) (Answered 0)
-  pub step : abs_step a 0 ≡ Some (replied_state a client by b answer)
-  pub stands : StandsFor names (with_message s 0 client answer 0) (replied_state a client by b answer)
+  pub step : abs_step a 0 ≡ Some (replied_state a client by b bytes answer)
+  pub stands : StandsFor names (with_message s 0 client answer 0) (replied_state a client by b bytes answer)
 
 -- It does not wait yet, and neither is the reply taken.
 pub record HasToWait (s : KernelState) (a : AbstractState) (b : Born) (answer : ℕ) : Type 0 where
@@ -217,17 +317,13 @@ pub record HasToWait (s : KernelState) (a : AbstractState) (b : Born) (answer : 
   pub step : abs_step a 0 ≡ None
   pub waits : may_wait a 0 SHORT_QUANTUM ≡ true
 
--- the client is there for the reply, by its phase
-abbrev pub IsThere : Born → Service → Type 0
-IsThere b s = (b.phase ≡ in_service s asked) ⊎ (b.phase ≡ in_service s awaiting)
-
 module _ {names : Names} {s : KernelState} {a : AbstractState} (h : StandsFor names s a) (client answer : ℕ)
-    (is : a.server ≡ acted client answer [] None) (b : Born) (at : a.slots client ≡ born b) where
+    (bytes : List ℕ) (is : a.server ≡ acted client answer bytes None) (b : Born) (at : a.slots client ≡ born b) where
   own : StandsForBorn names s.spaces (slot_at s client) b
   own = born_at h client b at
 
-  status : IsServerStatus (acted client answer [] None) (slot_at s 0)
-  status = status_at h (acted client answer [] None) is
+  status : IsServerStatus (acted client answer bytes None) (slot_at s 0)
+  status = status_at h (acted client answer bytes None) is
 
   -- it is found by its id
   names_client : found s.environments b.id 0 false ≡ Some client
@@ -243,20 +339,22 @@ module _ {names : Names} {s : KernelState} {a : AbstractState} (h : StandsFor na
       some zero_is = born_not_first h client b at (sym (ap (λ (i : ℕ). i % NENV) zero_is) ∙ number)
 
   -- what is asked of the client, by its phase
-  replied_is : (phase : Phase) → b.phase ≡ phase → abs_step a 0 ≡ reply_at a client b answer [] None phase
+  replied_is : (phase : Phase) → b.phase ≡ phase → abs_step a 0 ≡ reply_at a client b answer bytes None phase
   replied_is phase same =
-      served_is h (acted client answer [] None) is
-      ∙ ap (λ (slot : AbstractSlot). reply a client answer [] None (born_in slot)) at
-      ∙ ap (λ (p : Phase). reply_at a client b answer [] None p) same
+      served_is h (acted client answer bytes None) is
+      ∙ ap (λ (slot : AbstractSlot). reply a client answer bytes None (born_in slot)) at
+      ∙ ap (λ (p : Phase). reply_at a client b answer bytes None p) same
 
-  pub reply_comes : (call : Service) → b.phase ≡ in_service call awaiting → answer < 2 ^ 32 → HasReplied names s a client call b answer
-  reply_comes call phase small = record {
+  pub reply_comes : (call : Service) → b.phase ≡ in_service call awaiting → answer < 2 ^ 32 →
+      HandsOver (view_of s.spaces (slot_at s client).directory) call bytes answer → TellsNoFile call answer →
+      HasReplied names s a client call b bytes answer
+  reply_comes call phase small hands none = record {
     call = word_comes s 0 b.id answer UTOP 0 (0 ∷ []) (first_slot h).lives status.1 client names_client waits (omega arith);
     step = replied_is (in_service call awaiting) phase;
     stands = server_goes_on come leaving still;
   }
     where
-      there : AwaitingPlace (place_of (slot_at s client)) (slot_at s client) b call
+      there : AwaitingPlace (place_of (slot_at s client)) (view_of s.spaces (slot_at s client).directory) (slot_at s client) b call
       there =
           let k : Slot = slot_at s client in awaiting_place (place_of k) (view_of s.spaces k.directory) k b call own.at phase
 
@@ -266,15 +364,15 @@ module _ {names : Names} {s : KernelState} {a : AbstractState} (h : StandsFor na
       k : Slot
       k = received_in (slot_at s client) (slot_at s 0).id answer 0
 
-      plain : is_plain (place.InService call (awaiting_step call there.id)) ≡ true
-      plain = plain_there call there.asks_it there.id
+      plain : is_plain (place.InService call (awaiting_step call there.id there.fd)) ≡ true
+      plain = plain_there call there.asks_it there.id there.fd
 
-      come : StandsFor names (with_message s 0 client answer 0) (with_born a client (replied_born call b answer))
+      come : StandsFor names (with_message s 0 client answer 0) (with_born a client (replied_born call b bytes answer))
       come =
-          slot_changed h client b at k (replied_born call b answer) refl (stopped_settles (slot_at s client) k refl refl refl)
+          slot_changed h client b at k (replied_born call b bytes answer) refl (stopped_settles (slot_at s client) k refl refl refl)
           (ap is_plain there.at ∙ plain)
           (ap is_plain (told_at (slot_at s client) (slot_at s 0).id answer 0 ∙ there.at) ∙ plain)
-          (replied_own call (slot_at s 0).id answer there own small)
+          (replied_own call (slot_at s 0).id answer bytes there own small hands none)
 
       still : IsServerStatus leaving (slot_at (with_message s 0 client answer 0) 0)
       still = subst (λ (x : Slot). IsServerStatus leaving x) (sym (slot_kept s client k 0 (born_not_first h client b at))) status
@@ -301,9 +399,11 @@ module _ {names : Names} {s : KernelState} {a : AbstractState} (h : StandsFor na
       none : abs_step a 0 ≡ None
       none = replied_is (in_service call asked) phase
 
-  pub replies_stand : (call : Service) → IsThere b call → answer < 2 ^ 32 → HasReplied names s a client call b answer ⊎ HasToWait s a b answer
-  replies_stand call (inl phase) small = inr (reply_waits call phase)
-  replies_stand call (inr phase) small = inl (reply_comes call phase small)
+  pub replies_stand : (call : Service) → IsThere b call → answer < 2 ^ 32 →
+      HandsOver (view_of s.spaces (slot_at s client).directory) call bytes answer → TellsNoFile call answer →
+      HasReplied names s a client call b bytes answer ⊎ HasToWait s a b answer
+  replies_stand call (inl phase) small hands none = inr (reply_waits call phase)
+  replies_stand call (inr phase) small hands none = inl (reply_comes call phase small hands none)
 
 -- ---- behind the call, where the server's own words are set
 
@@ -331,12 +431,12 @@ left_stands {names = names} {a = a} state mid after same stands twelve left = by
         }
 
 -- The reply came, or the client does not wait for it yet.
-pub data ReplyLeaves (names : Names) (a : AbstractState) (client : ℕ) (by : Service) (b : Born) (answer : ℕ) (called : Called) (after : KernelState) :
-    Type 0 where
-  came : called ≡ Answered 0 → abs_step a 0 ≡ Some (replied_state a client by b answer) → CallLeaves names after (replied_state a client by b answer) →
-      ReplyLeaves names a client by b answer called after
+pub data ReplyLeaves (names : Names) (a : AbstractState) (client : ℕ) (by : Service) (b : Born) (bytes : List ℕ) (answer : ℕ)
+    (called : Called) (after : KernelState) : Type 0 where
+  came : called ≡ Answered 0 → abs_step a 0 ≡ Some (replied_state a client by b bytes answer) → CallLeaves names after (replied_state a client by b bytes answer) →
+      ReplyLeaves names a client by b bytes answer called after
   not_yet : called ≡ Answered (negated E_IPC_NOT_RECV) → abs_step a 0 ≡ None → may_wait a 0 SHORT_QUANTUM ≡ true → CallLeaves names after a →
-      ReplyLeaves names a client by b answer called after
+      ReplyLeaves names a client by b bytes answer called after
 
 module _ {names : Names} {s : KernelState} {a : AbstractState} (h : StandsFor names s a) (twelve : length (slot_at s 0).extra ≡ 12) where
   pub receive_leaves : (mid after : KernelState) (called : Called) (output : Output) →
@@ -351,20 +451,21 @@ module _ {names : Names} {s : KernelState} {a : AbstractState} (h : StandsFor na
             (ap (λ (x : Slot). length x.extra) (upd-at s.environments.slots 0 (ready_slot (slot_at s 0))) ∙ twelve) left,
       )
 
-  pub reply_leaves : (client answer : ℕ) → a.server ≡ acted client answer [] None → (b : Born) → a.slots client ≡ born b → (by : Service) →
-      IsThere b by → answer < 2 ^ 32 → (mid after : KernelState) (called : Called) (output : Output) →
+  pub reply_leaves : (client answer : ℕ) (bytes : List ℕ) → a.server ≡ acted client answer bytes None → (b : Born) → a.slots client ≡ born b →
+      (by : Service) → IsThere b by → answer < 2 ^ 32 → HandsOver (view_of s.spaces (slot_at s client).directory) by bytes answer →
+      TellsNoFile by answer → (mid after : KernelState) (called : Called) (output : Output) →
       IsCallStep (reply_call s b.id answer) (Ok called) mid output → (after ≡ mid) ⊎ SetsWords mid after 0 →
-      Prints output [] × ReplyLeaves names a client by b answer called after
-  reply_leaves client answer is b at by there small mid after called output call left =
-      by_phase (replies_stand h client answer is b at by there small)
+      Prints output [] × ReplyLeaves names a client by b bytes answer called after
+  reply_leaves client answer bytes is b at by there small hands none mid after called output call left =
+      by_phase (replies_stand h client answer bytes is b at by there small hands none)
     where
       kept : length (slot_at (with_message s 0 client answer 0) 0).extra ≡ 12
       kept =
           let k : Slot = received_in (slot_at s client) (slot_at s 0).id answer 0 in
           ap (λ (x : Slot). length x.extra) (slot_kept s client k 0 (born_not_first h client b at)) ∙ twelve
 
-      by_phase : HasReplied names s a client by b answer ⊎ HasToWait s a b answer →
-          Prints output [] × ReplyLeaves names a client by b answer called after
+      by_phase : HasReplied names s a client by b bytes answer ⊎ HasToWait s a b answer →
+          Prints output [] × ReplyLeaves names a client by b bytes answer called after
       by_phase (inl so) =
           let it = comes_to (reply_call s b.id answer) (Answered 0) called (with_message s 0 client answer 0) mid [] output so.call call in
           (it.2, came it.0 so.step (left_stands (with_message s 0 client answer 0) mid after it.1 so.stands kept left))

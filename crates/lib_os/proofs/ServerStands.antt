@@ -14,7 +14,7 @@ use Rattle.jos_base.specs.Words.{page_number}
 use Rattle.lib_os.specs.declared.numbers.TheConstants.{MAXOPEN, REQUEST}
 use Rattle.lib_os.specs.AbstractState.{AbstractState, AbstractSlot, Object, OpenFile, TablePlace, Server, acted, born, busy, file, idle, leaving}
 use Rattle.lib_os.specs.AbstractState.{looking, read_end, serving, terminal, unborn, write_end}
-use Rattle.lib_os.specs.DescriptorPages.{HasObject, IsConsole, IsOpenFile, Things, device_of, number_of, place_page}
+use Rattle.lib_os.specs.DescriptorPages.{HasObject, IsConsole, IsOpenFile, Things, lasting_words, number_of, place_page}
 use Rattle.lib_os.specs.InOrder.{IsInOrder}
 use Rattle.lib_os.specs.MadeCalls.{SetsWords}
 use Rattle.lib_os.specs.Places.{is_handlers, service_word}
@@ -141,7 +141,7 @@ others_alike names kept q ne = record {
   rows = kept.rows q ne;
   bytes = λ r x is own_page. kept.bytes q r x ne is;
   named_so = λ r x is shared_page. refl;
-  devices = λ r x descriptor is shared_page. ap device_of (kept.bytes q r x ne is);
+  devices = λ r x descriptor is shared_page. ap lasting_words (kept.bytes q r x ne is);
   regions = λ r. kept.regions q r ne;
 }
 
@@ -472,7 +472,6 @@ module _ {names : Names} {s : KernelState} {a : AbstractState} (h : StandsFor na
           free_slots = h.free_slots;
           first = h.first;
           server = record { status = h.server.status; pages = own.pages; tables = own.tables; alone = own.alone };
-          consoles = h.consoles;
           input = h.input;
           last = h.last;
           turns = h.turns;
@@ -545,7 +544,6 @@ module _ {names : Names} {s : KernelState} {a : AbstractState} (h : StandsFor na
     free_slots = h.free_slots;
     first = h.first;
     server = h.server;
-    consoles = h.consoles;
     input = h.input;
     last = h.last;
     turns = h.turns;

@@ -17,7 +17,7 @@ use Rattle.lib_os.specs.AbstractState.{AbstractState, Born, AbstractSlot, free, 
 use Rattle.lib_os.specs.AbstractRun.{abs_step}
 use Rattle.lib_os.specs.Fence.{is_resident}
 use Rattle.lib_os.specs.declared.service.Service.TheVariants as service
-use Rattle.lib_os.specs.LibraryPages.{LibraryPages, has_copy, has_working, keeps_page, keeps_path}
+use Rattle.lib_os.specs.LibraryPages.{LibraryPages, has_copy, has_working, keeps_page, keeps_path, keeps_request}
 use Rattle.lib_os.specs.declared.numbers.TheConstants.{PGFAULT_UPCALL}
 use Rattle.jos_base.specs.TrapFrames.{user_flags}
 use Rattle.lib_os.specs.LibraryCall.{library_step}
@@ -111,12 +111,22 @@ plain_copy (place.InHandler step) plain = absurd (false≢true (sym plain))
 abbrev pub holds_page : Place → Bool
 holds_page (place.InService (service.Write fd va len) at) = keeps_page at
 holds_page (place.InService (service.Remove path) at) = keeps_path at
+holds_page (place.InService (service.OpenFile path mode) at) = keeps_path at
+holds_page (place.InService (service.Seek fd offset) at) = keeps_request at
+holds_page (place.InService (service.SetSize fd size) at) = keeps_request at
+holds_page (place.InService (service.Read fd va len) at) = keeps_request at
+holds_page (place.InService (service.Stat fd va) at) = keeps_request at
 holds_page _ = false
 
 pub plain_working : (at : Place) (words : List ℕ) → is_in_handler at ≡ false → has_working at words ≡ holds_page at
 plain_working place.Guest words plain = refl
 plain_working (place.InService (service.Write fd va len) step) words plain = refl
 plain_working (place.InService (service.Remove path) step) words plain = refl
+plain_working (place.InService (service.OpenFile path mode) step) words plain = refl
+plain_working (place.InService (service.Seek fd offset) step) words plain = refl
+plain_working (place.InService (service.SetSize fd size) step) words plain = refl
+plain_working (place.InService (service.Read fd va len) step) words plain = refl
+plain_working (place.InService (service.Stat fd va) step) words plain = refl
 plain_working (place.InService _ step) words plain = refl
 plain_working (place.InHandler step) words plain = absurd (false≢true (sym plain))
 

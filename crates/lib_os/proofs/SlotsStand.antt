@@ -22,24 +22,28 @@ use Rattle.lib_os.specs.declared.place.Step.TheVariants as step
 use Rattle.lib_os.specs.declared.service.Service.{Service}
 use Rattle.lib_os.specs.declared.service.Service.TheVariants as service
 use Rattle.jos_base.specs.declared.numbers.TheConstants.{FDTABLE, NPTENTRIES, UTEMP}
-use Rattle.jos_base.specs.Words.{page_number, upd}
-use Rattle.lib_os.specs.declared.numbers.TheConstants.{DESCRIPTORS, PFTEMP}
-use Rattle.lib_os.specs.AbstractState.{AbstractState, Born, Page, own, named, AbstractSlot, free, unborn, born, serving}
+use Rattle.jos_base.specs.Words.{page_number, upd, word_at}
+use Rattle.lib_os.specs.declared.numbers.TheConstants.{DESCRIPTORS, PFTEMP, REQUEST_BYTES, REQUEST_COUNT, REQUEST_FILE, REQUEST_MODE}
+use Rattle.lib_os.specs.AbstractState.{AbstractState, Born, Page, own, named, AbstractSlot, free, unborn, born, serving, entered}
 use Rattle.lib_os.specs.AbstractState.{Stage, slot_id, is_live}
-use Rattle.lib_os.specs.DescriptorPages.{device_of}
-use Rattle.lib_os.specs.LibraryPages.{View, HasFrame, IsOwnWritable, LibraryPages, is_library_region, region_index}
+use Rattle.lib_os.specs.DescriptorPages.{lasting_words, number_of}
+use Rattle.lib_os.specs.LibraryPages.{View, HasFrame, IsOwnWritable, LibraryPages, is_library_region, region_index, HasTaken}
 use Rattle.lib_os.specs.Places.{place_of}
 use Rattle.lib_os.specs.Rows.{Names, EntryRow, rows_of, page_by, page_seen, seen_where, is_programs, is_shared, may_write}
 use Rattle.lib_os.specs.Rows.{descriptor_page, descriptor_seen, is_descriptor, name_of, shown_at}
 use Rattle.lib_os.specs.StandsInHandler.{IsAtGuest, IsToCopy, IsCopiedTo, HasWord, IsMappedTwice, CopiesAt}
-use Rattle.lib_os.specs.StandsInHandler.{CopiesOrEnds, copies, ends, IsInHandler, is_refused_by, is_write}
+use Rattle.lib_os.specs.StandsInHandler.{CopiesOrEnds, IsConsoleOpen, IsFileOpen, copies, ends, IsInHandler, is_refused_by, is_write}
 use Rattle.lib_os.specs.StandsInHandler.{IsDelivering, StandsDelivering, StandsPutting, buffer_of, next_page, IsGiven, WantsMore}
-use Rattle.lib_os.specs.StandsInHandler.{may_follow}
+use Rattle.lib_os.specs.StandsInHandler.{BeginsAt, IsGivenBytes, in_file, may_follow, on_console}
 use Rattle.lib_os.specs.StandsFor.{AwaitsOrHas, HasAsked, HasReply, awaits, has_reply}
-use Rattle.lib_os.specs.StandsInHandler.{StandsBeneath, at_program, in_delivery, IsStoppedAt, marked, reading, telling, writing, removing}
+use Rattle.lib_os.specs.StandsInHandler.{StandsBeneath, at_program, in_delivery, in_handing, IsStoppedAt, handing, marked, reading, telling, writing}
+use Rattle.lib_os.specs.StandsInHandler.{HasBytes, IsLoadingBytes, IsLoadingRest, IsPuttingBytes, hands_back, following}
+use Rattle.lib_os.specs.StandsFor.{AwaitsOrHasBytes, IsCounting, awaits_bytes, has_bytes}
 use Rattle.lib_os.specs.StandsFor.{StandsFor, StandsForSlot, StandsForBorn, StandsAt, StandsAtStep, view_of, IsStatusFor, MaySend}
-use Rattle.lib_os.specs.StandsFor.{IsLookingUp, StandsAtDevice, StandsBefore, HasTaken, IsTaking, IsKeeping, IsPrinting}
-use Rattle.lib_os.specs.StandsFor.{HasWholePath, IsGatheringPath, IsKeepingPath, IsTakingPath}
+use Rattle.lib_os.specs.StandsFor.{IsLookingUp, StandsAtDevice, StandsBefore, IsTaking, IsKeeping, IsPrinting, AsksOfFile, HasAllBytes, HasFileNumber}
+use Rattle.lib_os.specs.StandsFor.{HasForRequest, HasTakenFrom, HasWordAt, IsOfFileAt, MayAskOf, TellsNumber, TellsOfFile, count_given, HasWholePath}
+use Rattle.lib_os.specs.StandsFor.{IsGatheringPath, IsKeepingPath, IsTakingPath, AwaitsFileOrHas, EachIsOpenBelow, HasFoundFree, HasOpened}
+use Rattle.lib_os.specs.StandsFor.{IsLookingForFree, IsLowestFree, TellsOpen, awaits_file, has_opened}
 use Rattle.lib_os.specs.StandsFor.{descriptor_given, refuses_next}
 use Rattle.lib_os.specs.StandsFor.{borne_in, IsMapping, IsRemapping, IsDuplicating, IsOpen, NoneIsOpenBelow}
 use Rattle.lib_os.specs.StandsFor.{IsIn, IsTrying, IsWaiting, IsLooking, IsAboutToWait, IsReceiving, HasReceived, WaitsOrHas, waits, has}
@@ -70,6 +74,7 @@ minds_page_at (service.Seek fd offset) at = true
 minds_page_at (service.Stat fd va) at = true
 minds_page_at (service.SetSize fd size) at = true
 minds_page_at (service.Remove path) at = true
+minds_page_at (service.OpenFile path mode) at = true
 minds_page_at _ _ = false
 
 -- or a step of fork that bears a child, or one of the handler, which keeps its stack and its copy in mind
@@ -90,9 +95,10 @@ KeepsTables minds tables after = minds ≡ true → (r : ℕ) → tables r ≡ t
 abbrev pub SameTaken : View → View → Type 0
 SameTaken v w = (x : Entry) → v.row (page_number UTEMP) ≡ Some x → is_shared x.perm ≡ false → w.bytes x.frame ≡ v.bytes x.frame
 
--- and a descriptor's page tells the same of what it names
+-- and a descriptor's page tells the same of what it names, but for its offset
 abbrev pub SameDevices : View → View → Type 0
-SameDevices v w = (p : ℕ) (x : Entry) → is_descriptor p ≡ true → v.row p ≡ Some x → device_of (w.bytes x.frame) ≡ device_of (v.bytes x.frame)
+SameDevices v w = (p : ℕ) (x : Entry) → is_descriptor p ≡ true → v.row p ≡ Some x →
+    lasting_words (w.bytes x.frame) ≡ lasting_words (v.bytes x.frame)
 
 abbrev pub SamePages : View → View → Type 0
 SamePages v w = SameTaken v w × SameDevices v w
@@ -214,23 +220,51 @@ module _ (v w : View) (same : ViewAlike v w) where
 
 -- by the same entries, where descriptors' pages tell the same
 module _ (v w : View) (row : w.row ≡ v.row) (devices : SameDevices v w) where
+  pub told_kept : (fd : ℕ) → fd < DESCRIPTORS → (x : Entry) → v.row (descriptor_page fd) ≡ Some x →
+      lasting_words (w.bytes x.frame) ≡ lasting_words (v.bytes x.frame)
+  told_kept fd below x is = devices (descriptor_page fd) x (grind (arith, nat_tests)) is
+
   pub given_kept : (fd va len : ℕ) → IsGiven v fd va len → IsGiven w fd va len
   given_kept fd va len h = record {
     below = h.below;
     console = record {
       entry = h.console.entry;
       stands = ap (λ (r : EntryRow). r (descriptor_page fd)) row ∙ h.console.stands;
-      device = devices (descriptor_page fd) h.console.entry (numbered h.below) h.console.stands ∙ h.console.device;
+      device = ap (λ (told : ℕ × ℕ × ℕ). told.0) (told_kept fd h.below h.console.entry h.console.stands) ∙ h.console.device;
     };
     buffer = h.buffer;
   }
-    where
-      numbered : fd < DESCRIPTORS → is_descriptor (descriptor_page fd) ≡ true
-      numbered below = grind (arith, nat_tests)
+
+  console_kept : (fd : ℕ) → fd < DESCRIPTORS → IsConsoleOpen v fd → IsConsoleOpen w fd
+  console_kept fd below h = record {
+    entry = h.entry;
+    stands = ap (λ (r : EntryRow). r (descriptor_page fd)) row ∙ h.stands;
+    device = ap (λ (told : ℕ × ℕ × ℕ). told.0) (told_kept fd below h.entry h.stands) ∙ h.device;
+  }
+
+  -- a file
+  abbrev pub file_kept : (fd : ℕ) → fd < DESCRIPTORS → IsFileOpen v fd → IsFileOpen w fd
+  file_kept fd below h = record {
+    entry = h.entry;
+    stands = ap (λ (r : EntryRow). r (descriptor_page fd)) row ∙ h.stands;
+    device = ap (λ (told : ℕ × ℕ × ℕ). told.0) (told_kept fd below h.entry h.stands) ∙ h.device;
+  }
+
+  begins_kept : (fd start : ℕ) → fd < DESCRIPTORS → BeginsAt v fd start → BeginsAt w fd start
+  begins_kept fd start below (on_console is console) = on_console is (console_kept fd below console)
+  begins_kept fd start below (in_file is it) = in_file is (record {
+    file = file_kept fd below it.file;
+    writable = subst (λ (told : ℕ × ℕ × ℕ). told.1 ≢ 0) (sym (told_kept fd below it.file.entry it.file.stands)) it.writable;
+  })
+
+  pub given_bytes_kept : (fd va len start : ℕ) → IsGivenBytes v fd va len start → IsGivenBytes w fd va len start
+  given_bytes_kept fd va len start h =
+      record { below = h.below; begins = begins_kept fd start h.below h.begins; buffer = h.buffer }
 
   module _ (b after : Born) (phase_kept : after.phase ≡ b.phase) where
-    wants_kept : (fd va len : ℕ) (bytes : List ℕ) → WantsMore v b fd va len bytes → WantsMore w after fd va len bytes
-    wants_kept fd va len bytes h = record { phase = phase_kept ∙ h.phase; given = given_kept fd va len h.given; fewer = h.fewer }
+    wants_kept : (fd va len start : ℕ) (bytes : List ℕ) → WantsMore v b fd va len start bytes → WantsMore w after fd va len start bytes
+    wants_kept fd va len start bytes h =
+        record { phase = phase_kept ∙ h.phase; given = given_bytes_kept fd va len start h.given; fewer = h.fewer }
 
     pub stopped_kept : (write : Bool) (va ip : ℕ) → IsStoppedAt write v b va ip → IsStoppedAt write w after va ip
     stopped_kept write va ip (marked phase) = marked (phase_kept ∙ phase)
@@ -238,10 +272,12 @@ module _ (v w : View) (row : w.row ≡ v.row) (devices : SameDevices v w) where
         reading fd buffer len bytes answer writes (phase_kept ∙ phase) some
     stopped_kept write va ip (telling fd buffer bytes answer writes phase some) =
         telling fd buffer bytes answer writes (phase_kept ∙ phase) some
-    stopped_kept write va ip (writing fd buffer len bytes reads wants there) =
-        writing fd buffer len bytes reads (wants_kept fd buffer len bytes wants) there
-    stopped_kept write va ip (removing path bytes reads wants there) =
-        removing path bytes reads (record { phase = phase_kept ∙ wants.phase; no_end = wants.no_end; follows = wants.follows }) there
+    stopped_kept write va ip (handing s bytes answer writes hands phase some there) =
+        handing s bytes answer writes hands (phase_kept ∙ phase) some there
+    stopped_kept write va ip (writing fd buffer len start bytes reads wants there) =
+        writing fd buffer len start bytes reads (wants_kept fd buffer len start bytes wants) there
+    stopped_kept write va ip (following s bytes reads wants there) =
+        following s bytes reads (record { takes = wants.takes; phase = phase_kept ∙ wants.phase; no_end = wants.no_end; follows = wants.follows }) there
 
 -- ---- where it stands
 
@@ -362,24 +398,33 @@ module _ (v w : View) (k : Slot) (b : Born) (status : Status) (runs : ℕ) (memo
     same = λ i lt. ap (λ (l : List ℕ). slice_index l i) (page h.entry h.stands h.own_page) ∙ h.same i lt;
   }
 
-  taking_kept : (fd va len done : ℕ) → w.row ≡ v.row → SamePages v w → IsTaking v k b fd va len done →
-      IsTaking w kernel_slot environment fd va len done
-  taking_kept fd va len done row page h = record {
+  taken_from_kept : (start : ℕ) (bytes : List ℕ) (n : ℕ) → w.row ≡ v.row → SameTaken v w → HasTakenFrom v start bytes n →
+      HasTakenFrom w start bytes n
+  taken_from_kept start bytes n row page h = record {
+    entry = h.entry;
+    stands = ap (λ (r : EntryRow). r (page_number UTEMP)) row ∙ h.stands;
+    own_page = h.own_page;
+    same = λ i lt. ap (λ (l : List ℕ). slice_index l (start + i)) (page h.entry h.stands h.own_page) ∙ h.same i lt;
+  }
+
+  taking_kept : (fd va len start done : ℕ) → w.row ≡ v.row → SamePages v w → IsTaking v k b fd va len start done →
+      IsTaking w kernel_slot environment fd va len start done
+  taking_kept fd va len start done row page h = record {
     bytes = h.bytes;
     program = h.program;
-    wants = wants_kept v w row page.1 b environment refl fd va len h.bytes h.wants;
+    wants = wants_kept v w row page.1 b environment refl fd va len start h.bytes h.wants;
     many = h.many;
-    kept = taken_kept h.bytes done row page.0 h.kept;
+    kept = taken_from_kept start h.bytes done row page.0 h.kept;
     silent = h.silent;
     awake = h.awake;
   }
 
-  keeping_kept : (fd va len done word left : ℕ) → w.row ≡ v.row → SamePages v w → IsKeeping v k b fd va len done word left →
-      IsKeeping w kernel_slot environment fd va len done word left
-  keeping_kept fd va len done word left row page h = record {
+  keeping_kept : (fd va len start done word left : ℕ) → w.row ≡ v.row → SamePages v w → IsKeeping v k b fd va len start done word left →
+      IsKeeping w kernel_slot environment fd va len start done word left
+  keeping_kept fd va len start done word left row page h = record {
     bytes = h.bytes;
     is_in = in_kept _ _ h.is_in;
-    given = given_kept v w row page.1 fd va len h.given;
+    given = given_bytes_kept v w row page.1 fd va len start h.given;
     many = h.many;
     few = h.few;
     some = h.some;
@@ -387,7 +432,7 @@ module _ (v w : View) (k : Slot) (b : Born) (status : Status) (runs : ℕ) (memo
     word_is = h.word_is;
     small = h.small;
     allowed = ap (λ (r : EntryRow). refuses_next r (service.Write fd va len) (done + left - 1)) row ∙ h.allowed;
-    kept = taken_kept h.bytes done row page.0 h.kept;
+    kept = taken_from_kept start h.bytes done row page.0 h.kept;
   }
 
   printing_kept : (fd va len : ℕ) → w.row ≡ v.row → SamePages v w → IsPrinting v k b fd va len → IsPrinting w kernel_slot environment fd va len
@@ -399,29 +444,30 @@ module _ (v w : View) (k : Slot) (b : Born) (status : Status) (runs : ℕ) (memo
     kept = taken_kept h.bytes (length h.bytes) row page.0 h.kept;
   }
 
-  taking_path_kept : (path done : ℕ) → w.row ≡ v.row → SamePages v w → IsTakingPath v k b path done →
-      IsTakingPath w kernel_slot environment path done
-  taking_path_kept path done row page h = record {
+  taking_path_kept : (s : Service) (done : ℕ) → w.row ≡ v.row → SamePages v w → IsTakingPath v k b s done →
+      IsTakingPath w kernel_slot environment s done
+  taking_path_kept s done row page h = record {
     bytes = h.bytes;
     program = h.program;
-    wants = record { phase = h.wants.phase; no_end = h.wants.no_end; follows = h.wants.follows };
+    wants = record { takes = h.wants.takes; phase = h.wants.phase; no_end = h.wants.no_end; follows = h.wants.follows };
     many = h.many;
     kept = taken_kept h.bytes done row page.0 h.kept;
     silent = h.silent;
     awake = h.awake;
   }
 
-  gathering_path_kept : (c : Bool) (path done : ℕ) → w.row ≡ v.row → SamePages v w → IsGatheringPath c v k b path done →
-      IsGatheringPath c w kernel_slot environment path done
-  gathering_path_kept true path done row page h =
-      (taking_path_kept path done row page h.0, ap (λ (r : EntryRow). refuses_next r (service.Remove path) done) row ∙ h.1)
-  gathering_path_kept false path done row page h =
-      record { bytes = h.bytes; is_in = in_kept _ _ h.is_in; no_end = h.no_end; many = h.many; few = h.few; ends = h.ends }
+  gathering_path_kept : (c : Bool) (s : Service) (done : ℕ) → w.row ≡ v.row → SamePages v w → IsGatheringPath c v k b s done →
+      IsGatheringPath c w kernel_slot environment s done
+  gathering_path_kept true s done row page h =
+      (taking_path_kept s done row page h.0, ap (λ (r : EntryRow). refuses_next r s done) row ∙ h.1)
+  gathering_path_kept false s done row page h =
+      record { bytes = h.bytes; takes = h.takes; is_in = in_kept _ _ h.is_in; no_end = h.no_end; many = h.many; few = h.few; ends = h.ends }
 
-  keeping_path_kept : (path done word left : ℕ) → w.row ≡ v.row → SamePages v w → IsKeepingPath v k b path done word left →
-      IsKeepingPath w kernel_slot environment path done word left
-  keeping_path_kept path done word left row page h = record {
+  keeping_path_kept : (s : Service) (done word left : ℕ) → w.row ≡ v.row → SamePages v w → IsKeepingPath v k b s done word left →
+      IsKeepingPath w kernel_slot environment s done word left
+  keeping_path_kept s done word left row page h = record {
     bytes = h.bytes;
+    takes = h.takes;
     is_in = in_kept _ _ h.is_in;
     many = h.many;
     few = h.few;
@@ -430,12 +476,12 @@ module _ (v w : View) (k : Slot) (b : Born) (status : Status) (runs : ℕ) (memo
     word_is = h.word_is;
     small = h.small;
     no_end = h.no_end;
-    allowed = ap (λ (r : EntryRow). refuses_next r (service.Remove path) (done + left - 1)) row ∙ h.allowed;
+    allowed = ap (λ (r : EntryRow). refuses_next r s (done + left - 1)) row ∙ h.allowed;
     kept = taken_kept h.bytes done row page.0 h.kept;
   }
 
-  whole_path_kept : (path : ℕ) → w.row ≡ v.row → SamePages v w → HasWholePath v k b path → HasWholePath w kernel_slot environment path
-  whole_path_kept path row page h = record {
+  whole_path_kept : (s : Service) → w.row ≡ v.row → SamePages v w → HasWholePath v k b s → HasWholePath w kernel_slot environment s
+  whole_path_kept s row page h = record {
     bytes = h.bytes;
     is_in = in_kept _ _ h.is_in;
     few = h.few;
@@ -443,6 +489,200 @@ module _ (v w : View) (k : Slot) (b : Born) (status : Status) (runs : ℕ) (memo
     ended = h.ended;
     kept = taken_kept h.bytes _ row page.0 h.kept;
   }
+
+  -- a word of a request
+
+  word_at_kept : (at word : ℕ) → w.row ≡ v.row → SamePages v w → HasWordAt v at word → HasWordAt w at word
+  word_at_kept at word row page h = record {
+    entry = h.entry;
+    stands = ap (λ (r : EntryRow). r (page_number UTEMP)) row ∙ h.stands;
+    own_page = h.own_page;
+    word_is = ap (λ (l : List ℕ). word_at (slice_index l) at) (page.0 h.entry h.stands h.own_page) ∙ h.word_is;
+  }
+
+  -- a file is opened
+
+  lowest_kept : (fd : ℕ) → w.row ≡ v.row → IsLowestFree v.row fd → IsLowestFree w.row fd
+  lowest_kept fd row h = subst (λ (r : EntryRow). IsLowestFree r fd) (sym row) h
+
+  looking_for_kept : (s : Service) (fd : ℕ) → w.row ≡ v.row → ((r : ℕ) → v.tables r ≡ true → w.tables r ≡ true) → SamePages v w →
+      IsLookingForFree v k b s fd → IsLookingForFree w kernel_slot environment s fd
+  looking_for_kept s fd row tables page h = record {
+    whole = whole_path_kept s row page h.whole;
+    most = h.most;
+    lower = subst (λ (r : EntryRow). EachIsOpenBelow r fd) (sym row) h.lower;
+    table = tables (region_index FDTABLE) h.table;
+  }
+
+  found_free_kept : (s : Service) (fd : ℕ) → w.row ≡ v.row → SamePages v w → HasFoundFree v k b s fd → HasFoundFree w kernel_slot environment s fd
+  found_free_kept s fd row page h = record { whole = whole_path_kept s row page h.whole; lowest = lowest_kept fd row h.lowest }
+
+  tells_open_kept : (s : Service) (mode : ℕ) → w.row ≡ v.row → SamePages v w → TellsOpen v k b s mode → TellsOpen w kernel_slot environment s mode
+  tells_open_kept s mode row page h =
+      record { whole = whole_path_kept s row page h.whole; mode_told = word_at_kept REQUEST_MODE mode row page h.mode_told }
+
+  opened_kept : (s : Service) (fd : ℕ) → HasOpened k b s fd → HasOpened kernel_slot environment s fd
+  opened_kept s fd h = record {
+    regs = h.regs;
+    program = h.program;
+    registers = h.registers;
+    phase = h.phase;
+    awake = h.awake;
+    silent = h.silent;
+    small = h.small;
+  }
+
+  awaits_file_kept : (s : Service) (fd : ℕ) → w.row ≡ v.row → AwaitsFileOrHas v k b s fd → AwaitsFileOrHas w kernel_slot environment s fd
+  awaits_file_kept s fd row (awaits_file h) = awaits_file (record {
+    program = h.program;
+    phase = h.phase;
+    blocked = h.blocked;
+    rendezvous = h.rendezvous;
+    wanted = h.wanted;
+    destination = h.destination;
+    lowest = lowest_kept fd row h.lowest;
+  })
+  awaits_file_kept s fd row (has_opened h) = has_opened (opened_kept s fd h)
+
+  -- a request on a file that is open
+
+  abbrev of_file_kept : (s : Service) (stage : Stage) (fd : ℕ) → w.row ≡ v.row → SamePages v w → IsOfFileAt v k b s stage fd →
+      IsOfFileAt w kernel_slot environment s stage fd
+  of_file_kept s stage fd row page h =
+      record { is_in = in_kept _ _ h.is_in; below = h.below; file = file_kept v w row page.1 fd h.below h.file }
+
+  told_of : {s : Service} {stage : Stage} (fd : ℕ) → w.row ≡ v.row → SamePages v w → (h : IsOfFileAt v k b s stage fd) →
+      lasting_words (v.bytes h.file.entry.frame) ≡ lasting_words (w.bytes h.file.entry.frame)
+  told_of fd row page h = sym (told_kept v w row page.1 fd h.below h.file.entry h.file.stands)
+
+  all_bytes_kept : (va len : ℕ) (stage : Stage) → w.row ≡ v.row → SamePages v w → HasAllBytes v va len stage → HasAllBytes w va len stage
+  all_bytes_kept va len stage row page h = record {
+    bytes = h.bytes;
+    stage_is = h.stage_is;
+    buffer = h.buffer;
+    many = h.many;
+    kept = taken_from_kept REQUEST_BYTES h.bytes (length h.bytes) row page.0 h.kept;
+  }
+
+  for_request_kept : (s : Service) (stage : Stage) (mode : ℕ) → w.row ≡ v.row → SamePages v w → MayAskOf s mode → HasForRequest v s stage →
+      HasForRequest w s stage
+  for_request_kept (service.Seek fd offset) stage mode row page allowed h = h
+  for_request_kept (service.SetSize fd size) stage mode row page allowed h = h
+  for_request_kept (service.Read fd va len) stage mode row page allowed h = h
+  for_request_kept (service.Stat fd va) stage mode row page allowed h = h
+  for_request_kept (service.Write fd va len) stage mode row page allowed h = all_bytes_kept va len stage row page h
+  for_request_kept _ stage mode row page allowed h = absurd allowed
+
+  abbrev asks_of_file_kept : (s : Service) (fd : ℕ) → w.row ≡ v.row → SamePages v w → AsksOfFile v k b s fd → AsksOfFile w kernel_slot environment s fd
+  asks_of_file_kept s fd row page h = record {
+    stage = h.stage;
+    of_file = of_file_kept s h.stage fd row page h.of_file;
+    allowed = subst (λ (told : ℕ × ℕ × ℕ). MayAskOf s told.1) (told_of fd row page h.of_file) h.allowed;
+    has = for_request_kept s h.stage _ row page h.allowed h.has;
+  }
+
+  has_number_kept : (s : Service) (fd number : ℕ) → w.row ≡ v.row → SamePages v w → HasFileNumber v k b s fd number →
+      HasFileNumber w kernel_slot environment s fd number
+  has_number_kept s fd number row page h = record {
+    asks = asks_of_file_kept s fd row page h.asks;
+    number_is = h.number_is ∙ ap (λ (told : ℕ × ℕ × ℕ). told.2) (told_of fd row page h.asks.of_file);
+  }
+
+  number_told_kept : {s : Service} {stage : Stage} (fd : ℕ) → w.row ≡ v.row → SamePages v w → (h : IsOfFileAt v k b s stage fd) →
+      HasWordAt v REQUEST_FILE (number_of (v.bytes h.file.entry.frame)) → HasWordAt w REQUEST_FILE (number_of (w.bytes h.file.entry.frame))
+  number_told_kept fd row page h told =
+      subst (λ (words : ℕ × ℕ × ℕ). HasWordAt w REQUEST_FILE words.2) (told_of fd row page h) (word_at_kept REQUEST_FILE _ row page told)
+
+  tells_number_kept : (s : Service) (fd : ℕ) → w.row ≡ v.row → SamePages v w → TellsNumber v k b s fd → TellsNumber w kernel_slot environment s fd
+  tells_number_kept s fd row page h = record {
+    asks = asks_of_file_kept s fd row page h.asks;
+    number_told = number_told_kept fd row page h.asks.of_file h.number_told;
+  }
+
+  tells_of_file_kept : (s : Service) (fd : ℕ) → w.row ≡ v.row → SamePages v w → TellsOfFile v k b s fd → TellsOfFile w kernel_slot environment s fd
+  tells_of_file_kept s fd row page h = record {
+    asks = asks_of_file_kept s fd row page h.asks;
+    number_told = number_told_kept fd row page h.asks.of_file h.number_told;
+    count_told = word_at_kept REQUEST_COUNT (count_given s) row page h.count_told;
+  }
+
+  -- the bytes of a file
+
+  abbrev handing_kept : (s : Service) (done count : ℕ) → w.row ≡ v.row → SameTaken v w → HasBytes v k b s done count →
+      HasBytes w kernel_slot environment s done count
+  handing_kept s done count row page h = record {
+    hands = h.hands;
+    regs = h.regs;
+    program = h.program;
+    registers = h.registers;
+    bytes = h.bytes;
+    phase = h.phase;
+    many = h.many;
+    fewer = h.fewer;
+    most = h.most;
+    inside = h.inside;
+    small = h.small;
+    kept = taken_kept h.bytes count row page h.kept;
+    silent = h.silent;
+    awake = h.awake;
+  }
+
+  loading_kept : (s : Service) (done count : ℕ) → w.row ≡ v.row → SameTaken v w → IsLoadingBytes v k b s done count →
+      IsLoadingBytes w kernel_slot environment s done count
+  loading_kept s done count row page h = record {
+    has = handing_kept s done count row page h.has;
+    allowed = ap (λ (r : EntryRow). is_refused_by true (r (next_page s done))) row ∙ h.allowed;
+  }
+
+  rest_kept : (s : Service) (done count first : ℕ) → w.row ≡ v.row → SameTaken v w → IsLoadingRest v k b s done count first →
+      IsLoadingRest w kernel_slot environment s done count first
+  rest_kept s done count first row page h = record {
+    has = handing_kept s done count row page h.has;
+    allowed = ap (λ (r : EntryRow). is_refused_by true (r (next_page s done))) row ∙ h.allowed;
+    whole = h.whole;
+    apart = h.apart;
+    first_is = h.first_is;
+  }
+
+  putting_bytes_kept : (s : Service) (done count word : ℕ) → w.row ≡ v.row → SameTaken v w → IsPuttingBytes v k b s done count word →
+      IsPuttingBytes w kernel_slot environment s done count word
+  putting_bytes_kept s done count word row page h = record {
+    has = handing_kept s done count row page h.has;
+    allowed = ap (λ (r : EntryRow). is_refused_by true (r (next_page s done))) row ∙ h.allowed;
+    word_is = h.word_is;
+  }
+
+  counting_kept : (s : Service) (id : ℕ) → w.row ≡ v.row → SameTaken v w → IsCounting v k b s id → IsCounting w kernel_slot environment s id
+  counting_kept s id row page h = record { self = h.self; hands = h.hands; inside = h.inside; so = by_reply h.so }
+    where
+      by_reply : AwaitsOrHasBytes v k b s → AwaitsOrHasBytes w kernel_slot environment s
+      by_reply (awaits_bytes so) = awaits_bytes (record {
+        program = so.program;
+        phase = so.phase;
+        blocked = so.blocked;
+        rendezvous = so.rendezvous;
+        wanted = so.wanted;
+        destination = so.destination;
+      })
+      by_reply (has_bytes so) = has_bytes (record {
+        regs = so.regs;
+        program = so.program;
+        registers = so.registers;
+        bytes = so.bytes;
+        phase = so.phase;
+        awake = so.awake;
+        silent = so.silent;
+        small = so.small;
+        many = so.many;
+        small_bytes = so.small_bytes;
+        kept = taken_kept so.bytes _ row page so.kept;
+      })
+
+  -- who has them keeps pages in mind
+  hands_minds : (s : Service) → hands_back s ≡ true → (at : Step) → minds_page (place.InService s at) ≡ true
+  hands_minds (service.Read fd va len) hands at = refl
+  hands_minds (service.Stat fd va) hands at = refl
+  hands_minds _ hands at = absurd (let contradiction : false ≡ true = hands in cc)
 
   delivering_kept : (s : Service) (at : ℕ) (bytes : List ℕ) (answer : ℕ) → IsDelivering k b s at bytes answer →
       IsDelivering kernel_slot environment s at bytes answer
@@ -470,8 +710,9 @@ module _ (v w : View) (k : Slot) (b : Born) (status : Status) (runs : ℕ) (memo
       StandsBefore so v k b s done word → StandsBefore so_after w kernel_slot environment s done word
   before_kept so_too (service.Read fd va len) done word row page h = (delivering_kept _ _ _ _ h.0, so_too h.1)
   before_kept so_too (service.Stat fd va) done word row page h = (delivering_kept _ _ _ _ h.0, so_too h.1)
-  before_kept so_too (service.Write fd va len) done word row page h = (taking_kept fd va len done row page h.0, so_too h.1)
-  before_kept so_too (service.Remove path) done word row page h = (taking_path_kept path done row page h.0, so_too h.1)
+  before_kept so_too (service.Write fd va len) done word row page h = (taking_kept fd va len word done row page h.0, so_too h.1)
+  before_kept so_too (service.Remove path) done word row page h = (taking_path_kept (service.Remove path) done row page h.0, so_too h.1)
+  before_kept so_too (service.OpenFile path mode) done word row page h = (taking_path_kept (service.OpenFile path mode) done row page h.0, so_too h.1)
   before_kept so_too _ done word row page h = absurd h
 
   -- who stands before a byte of a buffer keeps it in mind
@@ -481,6 +722,7 @@ module _ (v w : View) (k : Slot) (b : Born) (status : Status) (runs : ℕ) (memo
   before_minds so (service.Stat fd va) at done word h = refl
   before_minds so (service.Write fd va len) at done word h = refl
   before_minds so (service.Remove path) at done word h = refl
+  before_minds so (service.OpenFile path mode) at done word h = refl
   before_minds so _ at done word h = absurd h
 
   device_minds : (s : Service) (at : Step) → StandsAtDevice v k b s (descriptor_given s) → minds_page (place.InService s at) ≡ true
@@ -505,6 +747,24 @@ module _ (v w : View) (k : Slot) (b : Born) (status : Status) (runs : ℕ) (memo
   step_kept s (step.Faulting done word) row tables taken h =
       let minds = before_minds _ s (step.Faulting done word) done word h in
       before_kept (λ so. ap (λ (r : EntryRow). refuses_next r s done) (row minds) ∙ so) s done word (row minds) (taken minds) h
+  step_kept s (step.CountingReply id) row tables taken h =
+      let minds = hands_minds s h.hands (step.CountingReply id) in counting_kept s id (row minds) (taken minds).0 h
+  step_kept s (step.FileRegion done count) row tables taken h =
+      let minds = hands_minds s h.hands (step.FileRegion done count) in handing_kept s done count (row minds) (taken minds).0 h
+  step_kept s (step.FileEntry done count) row tables taken h =
+      let minds = hands_minds s h.0.hands (step.FileEntry done count) in
+      (handing_kept s done count (row minds) (taken minds).0 h.0, tables minds (region_index (buffer_of s + done)) h.1)
+  step_kept s (step.LoadingBytes done count) row tables taken h =
+      let minds = hands_minds s h.has.hands (step.LoadingBytes done count) in loading_kept s done count (row minds) (taken minds).0 h
+  step_kept s (step.LoadingRest done count first) row tables taken h =
+      let minds = hands_minds s h.has.hands (step.LoadingRest done count first) in rest_kept s done count first (row minds) (taken minds).0 h
+  step_kept s (step.PuttingBytes done count word) row tables taken h =
+      let minds = hands_minds s h.has.hands (step.PuttingBytes done count word) in putting_bytes_kept s done count word (row minds) (taken minds).0 h
+  step_kept s (step.FileFaulting done count) row tables taken h =
+      let minds = hands_minds s h.0.hands (step.FileFaulting done count) in
+      (handing_kept s done count (row minds) (taken minds).0 h.0, ap (λ (r : EntryRow). refuses_next r s done) (row minds) ∙ h.1)
+  step_kept s (step.Returning answer) row tables taken h =
+      record { hands = h.hands; program = h.program; phase = h.phase; silent = h.silent; awake = h.awake }
   step_kept (service.Read fd va len) (step.Delivering done word) row tables taken h = putting_kept (service.Read fd va len) done word (row refl) h
   step_kept (service.Stat fd va) (step.Delivering done word) row tables taken h = putting_kept (service.Stat fd va) done word (row refl) h
   step_kept (service.Read fd va len) (step.DescriptorEntry at) row tables taken h = looking_up_kept _ at fd (tables refl) h
@@ -516,26 +776,106 @@ module _ (v w : View) (k : Slot) (b : Born) (status : Status) (runs : ℕ) (memo
       record { is_in = in_kept _ _ h.is_in; given = given_kept v w (row refl) (taken refl).1 fd va len h.given; some = h.some }
   step_kept (service.Write fd va len) step.TakingPage row tables taken h =
       (in_kept _ _ h.0, given_kept v w (row refl) (taken refl).1 fd va len h.1, h.2)
-  step_kept (service.Write fd va len) (step.Gathering done) row tables taken h = (
-    taking_kept fd va len done (row refl) (taken refl) h.0,
+  step_kept (service.Write fd va len) (step.GatheringBytes done start) row tables taken h = (
+    taking_kept fd va len start done (row refl) (taken refl) h.0,
     ap (λ (r : EntryRow). refuses_next r (service.Write fd va len) done) (row refl) ∙ h.1,
   )
-  step_kept (service.Write fd va len) (step.Keeping done word left) row tables taken h =
-      keeping_kept fd va len done word left (row refl) (taken refl) h
+  step_kept (service.Write fd va len) (step.KeepingBytes done word left start) row tables taken h =
+      keeping_kept fd va len start done word left (row refl) (taken refl) h
+  step_kept (service.Write fd va len) step.ReadingMode row tables taken h =
+      of_file_kept (service.Write fd va len) entered fd (row refl) (taken refl) h
+  step_kept (service.Write fd va len) step.TakingRequest row tables taken h =
+      (in_kept _ _ h.0, given_bytes_kept v w (row refl) (taken refl).1 fd va len REQUEST_BYTES h.1)
+  step_kept (service.Write fd va len) step.ReadingNumber row tables taken h =
+      asks_of_file_kept (service.Write fd va len) fd (row refl) (taken refl) h
+  step_kept (service.Write fd va len) (step.StoringNumber number) row tables taken h =
+      has_number_kept (service.Write fd va len) fd number (row refl) (taken refl) h
+  step_kept (service.Write fd va len) step.StoringCount row tables taken h =
+      tells_number_kept (service.Write fd va len) fd (row refl) (taken refl) h
+  step_kept (service.Write fd va len) step.Identifying row tables taken h =
+      tells_of_file_kept (service.Write fd va len) fd (row refl) (taken refl) h
+  step_kept (service.Write fd va len) (step.Asking id) row tables taken h =
+      (h.0, tells_of_file_kept (service.Write fd va len) fd (row refl) (taken refl) h.1)
+  step_kept (service.Write fd va len) (step.Pausing id) row tables taken h =
+      (h.0, tells_of_file_kept (service.Write fd va len) fd (row refl) (taken refl) h.1)
+  step_kept (service.Write fd va len) (step.Awaiting id) row tables taken h = (h.0, asked_kept (service.Write fd va len) h.1)
+  step_kept (service.Write fd va len) (step.Clearing id) row tables taken h = (h.0, awaits_kept (service.Write fd va len) h.1)
+  step_kept (service.Write fd va len) (step.ReadingReply id) row tables taken h = (h.0, reply_kept (service.Write fd va len) h.1)
   step_kept (service.Write fd va len) step.Printing row tables taken h = printing_kept fd va len (row refl) (taken refl) h
   step_kept (service.Write fd va len) step.Releasing row tables taken h =
       record { program = h.program; phase = h.phase; silent = h.silent; awake = h.awake }
   step_kept (service.Remove path) step.TakingPage row tables taken h = (in_kept _ _ h.0, h.1)
   step_kept (service.Remove path) (step.Gathering done) row tables taken h =
-      gathering_path_kept (may_follow path done) path done (row refl) (taken refl) h
+      gathering_path_kept (may_follow path done) (service.Remove path) done (row refl) (taken refl) h
   step_kept (service.Remove path) (step.Keeping done word left) row tables taken h =
-      keeping_path_kept path done word left (row refl) (taken refl) h
-  step_kept (service.Remove path) step.Identifying row tables taken h = whole_path_kept path (row refl) (taken refl) h
-  step_kept (service.Remove path) (step.Asking id) row tables taken h = (h.0, whole_path_kept path (row refl) (taken refl) h.1)
-  step_kept (service.Remove path) (step.Pausing id) row tables taken h = (h.0, whole_path_kept path (row refl) (taken refl) h.1)
+      keeping_path_kept (service.Remove path) done word left (row refl) (taken refl) h
+  step_kept (service.Remove path) step.Identifying row tables taken h = whole_path_kept (service.Remove path) (row refl) (taken refl) h
+  step_kept (service.Remove path) (step.Asking id) row tables taken h = (h.0, whole_path_kept (service.Remove path) (row refl) (taken refl) h.1)
+  step_kept (service.Remove path) (step.Pausing id) row tables taken h = (h.0, whole_path_kept (service.Remove path) (row refl) (taken refl) h.1)
   step_kept (service.Remove path) (step.Awaiting id) row tables taken h = (h.0, asked_kept (service.Remove path) h.1)
   step_kept (service.Remove path) (step.Clearing id) row tables taken h = (h.0, awaits_kept (service.Remove path) h.1)
   step_kept (service.Remove path) (step.ReadingReply id) row tables taken h = (h.0, reply_kept (service.Remove path) h.1)
+  step_kept (service.OpenFile path mode) step.TakingPage row tables taken h = (in_kept _ _ h.0, h.1, h.2)
+  step_kept (service.OpenFile path mode) (step.Gathering done) row tables taken h =
+      gathering_path_kept (may_follow path done) (service.OpenFile path mode) done (row refl) (taken refl) h
+  step_kept (service.OpenFile path mode) (step.Keeping done word left) row tables taken h =
+      keeping_path_kept (service.OpenFile path mode) done word left (row refl) (taken refl) h
+  step_kept (service.OpenFile path mode) step.FreeRegion row tables taken h = whole_path_kept (service.OpenFile path mode) (row refl) (taken refl) h
+  step_kept (service.OpenFile path mode) (step.FreeEntry fd) row tables taken h =
+      looking_for_kept (service.OpenFile path mode) fd (row refl) (tables refl) (taken refl) h
+  step_kept (service.OpenFile path mode) (step.StoringMode fd) row tables taken h = found_free_kept (service.OpenFile path mode) fd (row refl) (taken refl) h
+  step_kept (service.OpenFile path mode) (step.OpenIdentifying fd) row tables taken h =
+      (lowest_kept fd (row refl) h.0, tells_open_kept (service.OpenFile path mode) mode (row refl) (taken refl) h.1)
+  step_kept (service.OpenFile path mode) (step.OpenAsking id fd) row tables taken h =
+      (h.0, lowest_kept fd (row refl) h.1, tells_open_kept (service.OpenFile path mode) mode (row refl) (taken refl) h.2)
+  step_kept (service.OpenFile path mode) (step.OpenPausing id fd) row tables taken h =
+      (h.0, lowest_kept fd (row refl) h.1, tells_open_kept (service.OpenFile path mode) mode (row refl) (taken refl) h.2)
+  step_kept (service.OpenFile path mode) (step.OpenAwaiting id fd) row tables taken h =
+      (h.0, lowest_kept fd (row refl) h.1, asked_kept (service.OpenFile path mode) h.2)
+  step_kept (service.OpenFile path mode) (step.OpenClearing id fd) row tables taken h = (h.0, awaits_file_kept (service.OpenFile path mode) fd (row refl) h.1)
+  step_kept (service.OpenFile path mode) (step.ReadingOpened id fd) row tables taken h = (h.0, opened_kept (service.OpenFile path mode) fd h.1)
+  step_kept (service.Seek fd offset) step.TakingPage row tables taken h = asks_of_file_kept (service.Seek fd offset) fd (row refl) (taken refl) h
+  step_kept (service.Seek fd offset) step.ReadingNumber row tables taken h = asks_of_file_kept (service.Seek fd offset) fd (row refl) (taken refl) h
+  step_kept (service.Seek fd offset) (step.StoringNumber number) row tables taken h = has_number_kept (service.Seek fd offset) fd number (row refl) (taken refl) h
+  step_kept (service.Seek fd offset) step.StoringCount row tables taken h = tells_number_kept (service.Seek fd offset) fd (row refl) (taken refl) h
+  step_kept (service.Seek fd offset) step.Identifying row tables taken h = tells_of_file_kept (service.Seek fd offset) fd (row refl) (taken refl) h
+  step_kept (service.Seek fd offset) (step.Asking id) row tables taken h = (h.0, tells_of_file_kept (service.Seek fd offset) fd (row refl) (taken refl) h.1)
+  step_kept (service.Seek fd offset) (step.Pausing id) row tables taken h = (h.0, tells_of_file_kept (service.Seek fd offset) fd (row refl) (taken refl) h.1)
+  step_kept (service.Seek fd offset) (step.Awaiting id) row tables taken h = (h.0, asked_kept (service.Seek fd offset) h.1)
+  step_kept (service.Seek fd offset) (step.Clearing id) row tables taken h = (h.0, awaits_kept (service.Seek fd offset) h.1)
+  step_kept (service.Seek fd offset) (step.ReadingReply id) row tables taken h = (h.0, reply_kept (service.Seek fd offset) h.1)
+  step_kept (service.SetSize fd size) step.ReadingMode row tables taken h = of_file_kept (service.SetSize fd size) entered fd (row refl) (taken refl) h
+  step_kept (service.SetSize fd size) step.TakingPage row tables taken h = asks_of_file_kept (service.SetSize fd size) fd (row refl) (taken refl) h
+  step_kept (service.SetSize fd size) step.ReadingNumber row tables taken h = asks_of_file_kept (service.SetSize fd size) fd (row refl) (taken refl) h
+  step_kept (service.SetSize fd size) (step.StoringNumber number) row tables taken h = has_number_kept (service.SetSize fd size) fd number (row refl) (taken refl) h
+  step_kept (service.SetSize fd size) step.StoringCount row tables taken h = tells_number_kept (service.SetSize fd size) fd (row refl) (taken refl) h
+  step_kept (service.SetSize fd size) step.Identifying row tables taken h = tells_of_file_kept (service.SetSize fd size) fd (row refl) (taken refl) h
+  step_kept (service.SetSize fd size) (step.Asking id) row tables taken h = (h.0, tells_of_file_kept (service.SetSize fd size) fd (row refl) (taken refl) h.1)
+  step_kept (service.SetSize fd size) (step.Pausing id) row tables taken h = (h.0, tells_of_file_kept (service.SetSize fd size) fd (row refl) (taken refl) h.1)
+  step_kept (service.SetSize fd size) (step.Awaiting id) row tables taken h = (h.0, asked_kept (service.SetSize fd size) h.1)
+  step_kept (service.SetSize fd size) (step.Clearing id) row tables taken h = (h.0, awaits_kept (service.SetSize fd size) h.1)
+  step_kept (service.SetSize fd size) (step.ReadingReply id) row tables taken h = (h.0, reply_kept (service.SetSize fd size) h.1)
+  step_kept (service.Read fd va len) step.ReadingMode row tables taken h = of_file_kept (service.Read fd va len) entered fd (row refl) (taken refl) h
+  step_kept (service.Read fd va len) step.TakingPage row tables taken h = asks_of_file_kept (service.Read fd va len) fd (row refl) (taken refl) h
+  step_kept (service.Read fd va len) step.ReadingNumber row tables taken h = asks_of_file_kept (service.Read fd va len) fd (row refl) (taken refl) h
+  step_kept (service.Read fd va len) (step.StoringNumber number) row tables taken h = has_number_kept (service.Read fd va len) fd number (row refl) (taken refl) h
+  step_kept (service.Read fd va len) step.StoringCount row tables taken h = tells_number_kept (service.Read fd va len) fd (row refl) (taken refl) h
+  step_kept (service.Read fd va len) step.Identifying row tables taken h = tells_of_file_kept (service.Read fd va len) fd (row refl) (taken refl) h
+  step_kept (service.Read fd va len) (step.Asking id) row tables taken h = (h.0, tells_of_file_kept (service.Read fd va len) fd (row refl) (taken refl) h.1)
+  step_kept (service.Read fd va len) (step.Pausing id) row tables taken h = (h.0, tells_of_file_kept (service.Read fd va len) fd (row refl) (taken refl) h.1)
+  step_kept (service.Read fd va len) (step.Awaiting id) row tables taken h = (h.0, asked_kept (service.Read fd va len) h.1, h.2)
+  step_kept (service.Read fd va len) (step.Clearing id) row tables taken h = (h.0, reply_kept (service.Read fd va len) h.1)
+  step_kept (service.Read fd va len) (step.ReadingReply id) row tables taken h = (h.0, reply_kept (service.Read fd va len) h.1)
+  step_kept (service.Stat fd va) step.TakingPage row tables taken h = asks_of_file_kept (service.Stat fd va) fd (row refl) (taken refl) h
+  step_kept (service.Stat fd va) step.ReadingNumber row tables taken h = asks_of_file_kept (service.Stat fd va) fd (row refl) (taken refl) h
+  step_kept (service.Stat fd va) (step.StoringNumber number) row tables taken h = has_number_kept (service.Stat fd va) fd number (row refl) (taken refl) h
+  step_kept (service.Stat fd va) step.StoringCount row tables taken h = tells_number_kept (service.Stat fd va) fd (row refl) (taken refl) h
+  step_kept (service.Stat fd va) step.Identifying row tables taken h = tells_of_file_kept (service.Stat fd va) fd (row refl) (taken refl) h
+  step_kept (service.Stat fd va) (step.Asking id) row tables taken h = (h.0, tells_of_file_kept (service.Stat fd va) fd (row refl) (taken refl) h.1)
+  step_kept (service.Stat fd va) (step.Pausing id) row tables taken h = (h.0, tells_of_file_kept (service.Stat fd va) fd (row refl) (taken refl) h.1)
+  step_kept (service.Stat fd va) (step.Awaiting id) row tables taken h = (h.0, asked_kept (service.Stat fd va) h.1, h.2)
+  step_kept (service.Stat fd va) (step.Clearing id) row tables taken h = (h.0, reply_kept (service.Stat fd va) h.1)
+  step_kept (service.Stat fd va) (step.ReadingReply id) row tables taken h = (h.0, reply_kept (service.Stat fd va) h.1)
   step_kept (service.Wait id) (step.Trying perm) row tables taken h = waiting_kept id h
   step_kept (service.Wait id) (step.Pausing perm) row tables taken h = waiting_kept id h
   step_kept (service.Send id value va) (step.Trying perm) row tables taken h = trying_kept id value va perm (row refl) h
@@ -575,11 +915,31 @@ module _ (v w : View) (k : Slot) (b : Born) (status : Status) (runs : ℕ) (memo
       (in_kept _ _ h.0, duplicating_kept old new (row refl) h.1, tables refl (region_index FDTABLE) h.2, ap (λ (r : EntryRow). r (descriptor_page new)) (row refl) ∙ h.3)
   step_kept _ _ row tables taken h = absurd h
 
-  beneath_kept : (regs : Regs) → w.row ≡ v.row → StandsBeneath v.row (record k { registers = regs }) b →
-      StandsBeneath w.row (record kernel_slot { registers = regs }) environment
-  beneath_kept regs row (at_program h) =
+  beneath_kept : (regs : Regs) → w.row ≡ v.row → SameTaken v w → StandsBeneath v (record k { registers = regs }) b →
+      StandsBeneath w (record kernel_slot { registers = regs }) environment
+  beneath_kept regs row page (at_program h) =
       at_program (record { program = h.program; phase = h.phase; words = h.words; silent = h.silent; awake = h.awake })
-  beneath_kept regs row (in_delivery s done word at h) = in_delivery s done word at (
+  beneath_kept regs row page (in_handing s done count word at h) = in_handing s done count word at (record {
+    has = record {
+      hands = h.has.hands;
+      regs = h.has.regs;
+      program = h.has.program;
+      registers = h.has.registers;
+      bytes = h.has.bytes;
+      phase = h.has.phase;
+      many = h.has.many;
+      fewer = h.has.fewer;
+      most = h.has.most;
+      inside = h.has.inside;
+      small = h.has.small;
+      kept = taken_kept h.has.bytes count row page h.has.kept;
+      silent = h.has.silent;
+      awake = h.has.awake;
+    };
+    allowed = ap (λ (r : EntryRow). is_refused_by true (r (next_page s done))) row ∙ h.allowed;
+    word_is = h.word_is;
+  })
+  beneath_kept regs row page (in_delivery s done word at h) = in_delivery s done word at (
     beneath_delivery s done word h.0,
     subst (λ (r : EntryRow). is_refused_by true (r (next_page s done)) ≡ false) (sym row) h.1,
   )
@@ -595,12 +955,13 @@ module _ (v w : View) (k : Slot) (b : Born) (status : Status) (runs : ℕ) (memo
   way_kept : ViewAlike v w → (h : HandlerStep) (fault : PageFault) (regs : Regs) → CopiesOrEnds h v k b fault regs →
       CopiesOrEnds h w kernel_slot environment fault regs
   way_kept same h fault regs (copies way) = copies (record {
-    beneath = beneath_kept regs same.row way.beneath;
+    beneath = beneath_kept regs same.row (same.bytes (page_number UTEMP)) way.beneath;
     error = way.error;
     inside = way.inside;
     at = copies_kept v w same h fault.va way.at;
   })
   way_kept same h fault regs (ends way) = ends (record {
+    eax = way.eax;
     program = way.program;
     stopped = stopped_kept v w same.row same.devices b environment refl (is_write fault.error) fault.va regs.eip way.stopped;
     silent = way.silent;
@@ -665,7 +1026,7 @@ pub record SeenAlike (names after : Names) (s t : SpacesState) (d : ℕ) : Type 
   pub bytes : (p : ℕ) (x : Entry) → rows_of s d p ≡ Some x → is_shared x.perm ≡ false → t.pages x.frame ≡ s.pages x.frame
   pub named_so : (p : ℕ) (x : Entry) → rows_of s d p ≡ Some x → is_shared x.perm ≡ true → after.name x.frame ≡ names.name x.frame
   pub devices : (p : ℕ) (x : Entry) → is_descriptor p ≡ true → rows_of s d p ≡ Some x → is_shared x.perm ≡ true →
-      device_of (t.pages x.frame) ≡ device_of (s.pages x.frame)
+      lasting_words (t.pages x.frame) ≡ lasting_words (s.pages x.frame)
   pub regions : (r : ℕ) → is_some (t.regions d r) ≡ is_some (s.regions d r)
 
 pub view_alike : {names after : Names} {s t : SpacesState} {d : ℕ} → SeenAlike names after s t d → ViewAlike (view_of s d) (view_of t d)
@@ -673,9 +1034,9 @@ view_alike {s = s} {t = t} {d = d} h =
     record { row = h.rows; bytes = h.bytes; devices = λ p x descriptor is. by_sharing p x descriptor is (is_shared x.perm) refl }
   where
     by_sharing : (p : ℕ) (x : Entry) → is_descriptor p ≡ true → rows_of s d p ≡ Some x → (c : Bool) → is_shared x.perm ≡ c →
-        device_of (t.pages x.frame) ≡ device_of (s.pages x.frame)
+        lasting_words (t.pages x.frame) ≡ lasting_words (s.pages x.frame)
     by_sharing p x descriptor is true shared_page = h.devices p x descriptor is shared_page
-    by_sharing p x descriptor is false own_page = ap device_of (h.bytes p x is own_page)
+    by_sharing p x descriptor is false own_page = ap lasting_words (h.bytes p x is own_page)
 
 -- the page by an entry whose frame has the same bytes, or the same name
 pub page_alike : (names after : Names) (bytes bytes_after : ℕ → List ℕ) (x : Entry) →
@@ -806,7 +1167,7 @@ pub other_stands : (names after : Names) (s t : SpacesState) (k : Slot) (slot : 
     ((p : ℕ) (x : Entry) → rows_of s k.directory p ≡ Some x → is_shared x.perm ≡ false → t.pages x.frame ≡ s.pages x.frame) →
     ((p : ℕ) (x : Entry) → rows_of s k.directory p ≡ Some x → is_shared x.perm ≡ true → after.name x.frame ≡ names.name x.frame) →
     ((p : ℕ) (x : Entry) → is_descriptor p ≡ true → rows_of s k.directory p ≡ Some x → is_shared x.perm ≡ true →
-    device_of (t.pages x.frame) ≡ device_of (s.pages x.frame)) →
+    lasting_words (t.pages x.frame) ≡ lasting_words (s.pages x.frame)) →
     ((r : ℕ) → is_some (t.regions k.directory r) ≡ is_some (s.regions k.directory r)) → StandsForSlot after t k slot
 other_stands names after s t k slot h rows bytes named_so devices regions =
     slot_stands names after s t k slot h

@@ -1,5 +1,6 @@
 -- What is left of one space where pages of other spaces are mapped, removed and touched, where those of one other space, the home, are written,
--- and where other spaces are made and destroyed: its entries with all their bits, its regions, and the bytes of its pages which home has not.
+-- and where other spaces are made and destroyed: its entries with all their bits, its regions, and the bytes of its pages which home has not,
+-- or has as pages of descriptors alone, to which it does not write.
 use Rattle.std.proofs.Common.{◌≡◌, ◌≢◌, ◌∙◌, ◌==◌, ◌/◌, ◌%◌, ◌^◌, ◌+◌, ℕ, zero, suc, Bool, true, false, List, [], ◌∷◌, refl, sym, ap, subst, arith}
 use Rattle.std.specs.Prelude.{nat_lt, Option, Some, None, Result, Ok, Err, if◌then◌else◌}
 use Rattle.std.specs.Option.{option_map}
@@ -20,15 +21,16 @@ use Rattle.jos_base.specs.UserMemory.{with_entry_bits, with_bits, touched, touch
 use Rattle.jos_base.specs.Windows.{walked, entry_above, read_only, table_index}
 use Rattle.jos_base.specs.Words.{page_number, page_offset}
 use Rattle.lib_os.specs.InOrder.{HasOneUse, AreFree}
+use Rattle.lib_os.specs.Rows.{is_descriptor}
 use Rattle.lib_os.proofs.UsesFound.{framed}
 use Rattle.jos_base.proofs.Counts.{page_count-some}
 use Rattle.jos_base.proofs.Maps.{upd-other}
 use Rattle.jos_base.proofs.Puts.{put-other, put-alike, put-holds}
 use Rattle.jos_base.proofs.Uses.{page_or_directory, page_or_table}
 
--- none of the pages of a space has this frame
+-- none of the pages of a space has this frame, but those of descriptors
 abbrev pub IsNoPage : ℕ → SpacesState → ℕ → Type 0
-IsNoPage d s f = (p : ℕ) (e : Entry) → s.entries d p ≡ Some e → e.frame ≢ f
+IsNoPage d s f = (p : ℕ) (e : Entry) → is_descriptor p ≡ false → s.entries d p ≡ Some e → e.frame ≢ f
 
 -- a space has its entries, its regions and the bytes of its pages which home has not
 pub record SpaceLeft (home d : ℕ) (s t : SpacesState) : Type 0 where
@@ -257,12 +259,12 @@ module _ (home d : ℕ) (s : SpacesState) (h : HasOneUse s) where
 
   -- ---- home is written
 
-  -- none of its pages is one of those that are left
+  -- none of its pages but those of descriptors is one of those that are left
   pub record IsBesidePages (t : SpacesState) : Type 0 where
-    pub none : (p : ℕ) (e : Entry) → t.entries home p ≡ Some e → IsNoneLeft home d s e.frame
+    pub none : (p : ℕ) (e : Entry) → is_descriptor p ≡ false → t.entries home p ≡ Some e → IsNoneLeft home d s e.frame
 
   pub begins_beside : IsBesidePages s
-  begins_beside = record { none = λ p e there q x stands lacks same. lacks p e there (sym same) }
+  begins_beside = record { none = λ p e other there q x stands lacks same. lacks p e other there (sym same) }
 
   marked_frame : (bits : ℕ) (o : Option Entry) → frame_of (entry_marked bits o) ≡ frame_of o
   marked_frame bits None = refl
@@ -271,9 +273,9 @@ module _ (home d : ℕ) (s : SpacesState) (h : HasOneUse s) where
   -- the same frames stand in it
   alike_beside : (t u : SpacesState) → ((p : ℕ) → frame_of (u.entries home p) ≡ frame_of (t.entries home p)) → IsBesidePages t → IsBesidePages u
   alike_beside t u same k = record {
-    none = λ p e is.
+    none = λ p e other is.
         let x = framed (t.entries home p) e.frame (sym (same p) ∙ ap frame_of is) in
-        subst (λ (f : ℕ). IsNoneLeft home d s f) x.2 (k.none p x.0 x.1);
+        subst (λ (f : ℕ). IsNoneLeft home d s f) x.2 (k.none p x.0 other x.1);
   }
 
   bits_frames : (t : SpacesState) (n : ℕ) (a : Access) (p : ℕ) → frame_of ((with_bits t home n a).entries home p) ≡ frame_of (t.entries home p)
@@ -313,9 +315,10 @@ module _ (home d : ℕ) (s : SpacesState) (h : HasOneUse s) where
       by_test true test some = (e, refl, let same : e.frame ≡ at.frame = cc in same, test)
       by_test false test refused = absurd cc
 
-  pub written_none : (t : SpacesState) (va : ℕ) (at : FrameOffset) → IsBesidePages t → reach_in t home va Write ≡ Ok at → IsNoneLeft home d s at.frame
+  pub written_none : (t : SpacesState) (va : ℕ) (at : FrameOffset) → is_descriptor (page_number va) ≡ false → IsBesidePages t →
+      reach_in t home va Write ≡ Ok at → IsNoneLeft home d s at.frame
   unfolding walked
-  written_none t va at k is =
+  written_none t va at other k is =
       let leads = reach_leads (walked t home (page_number va)) va Write at is in
       subst (λ (f : ℕ). IsNoneLeft home d s f) leads.2 (by_place leads.0 leads.3 (nat_lt n page_limit) leads.1)
     where
@@ -331,15 +334,16 @@ module _ (home d : ℕ) (s : SpacesState) (h : HasOneUse s) where
       by_place : (e : Entry) → allows e.perm Write ≡ true → (below : Bool) →
           (if below then t.entries home n else option_map read_only (entry_above t home (n / NPTENTRIES) (n % NPTENTRIES))) ≡ Some e →
           IsNoneLeft home d s e.frame
-      by_place e allowed true stands = k.none n e stands
+      by_place e allowed true stands = k.none n e other stands
       by_place e allowed false stands = by_window e allowed (entry_above t home (n / NPTENTRIES) (n % NPTENTRIES)) stands
 
-  pub stored_left : (t : SpacesState) (va byte : ℕ) → IsBesidePages t → SpaceLeft home d s t → SpaceLeft home d s (stored_byte t home va byte)
+  pub stored_left : (t : SpacesState) (va byte : ℕ) → is_descriptor (page_number va) ≡ false → IsBesidePages t → SpaceLeft home d s t →
+      SpaceLeft home d s (stored_byte t home va byte)
   unfolding stored_byte
-  stored_left t va byte beside k = by_outcome (reach_in t home va Write) refl
+  stored_left t va byte other beside k = by_outcome (reach_in t home va Write) refl
     where
       by_outcome : (r : Result FrameOffset PageFault) → reach_in t home va Write ≡ r → SpaceLeft home d s (with_byte_at t byte r)
-      by_outcome (Ok location) at = bytes_left t location.frame _ (written_none t va location beside at) k
+      by_outcome (Ok location) at = bytes_left t location.frame _ (written_none t va location other beside at) k
       by_outcome (Err fault) at = k
 
   pub stored_beside : (t : SpacesState) (va byte : ℕ) → IsBesidePages t → IsBesidePages (stored_byte t home va byte)

@@ -13,7 +13,7 @@ use Rattle.jos_base.specs.KernelState.{KernelState, HasSpaces, slot_at, with_slo
 use Rattle.jos_base.specs.SpacesState.{SpacesState, directories}
 use Rattle.lib_os.specs.AbstractState.{AbstractState, Born, AbstractSlot, free, unborn, born, serving, is_live, with_born, with_printed, TablePlace, Server, leaving, idle, looking, busy, acted}
 use Rattle.lib_os.specs.InOrder.{HasOneUse, IsInOrder}
-use Rattle.lib_os.specs.DescriptorPages.{device_of, place_page}
+use Rattle.lib_os.specs.DescriptorPages.{lasting_words, place_page}
 use Rattle.lib_os.specs.Rows.{server_row, Names, Rows, EntryRow, rows_of, counted, logical, logical_by, is_clients}
 use Rattle.lib_os.specs.StandsFor.{StandsFor, StandsForSlot, StandsForBorn, IsStatusFor, IsTabled, HasChildren, borne_in, HasServer, StandsForServer, IsServerStatus, things_in}
 use Rattle.lib_os.specs.declared.place.Place.{Place}
@@ -232,7 +232,6 @@ slot_changed {names = names} {s = s} {a = a} h n b at k after directory settles 
       beside = rows.beside;
       first = upd-other a.slots n (born after) 0 (born_not_first h n b at) ∙ h.first;
       server = server_same (upd-other s.environments.slots n k 0 (born_not_first h n b at)) h.server;
-      consoles = h.consoles;
       input = h.input;
       last = h.last;
       turns = h.turns;
@@ -259,7 +258,6 @@ slot_replaced {names = names} {s = s} {a = a} h n b at k directory settles count
       free_slots = h.free_slots;
       first = h.first;
       server = server_same (upd-other s.environments.slots n k 0 (born_not_first h n b at)) h.server;
-      consoles = h.consoles;
       input = h.input;
       last = h.last;
       turns = h.turns;
@@ -336,7 +334,6 @@ server_set {names = names} {s = s} {a = a} h k server directory settles so has =
       free_slots = h.free_slots;
       first = h.first;
       server = server_same (upd-at s.environments.slots 0 k) has;
-      consoles = h.consoles;
       input = h.input;
       last = h.last;
       turns = h.turns;
@@ -364,7 +361,6 @@ printed_stands h bytes = record {
   free_slots = h.free_slots;
   first = h.first;
   server = h.server;
-  consoles = h.consoles;
   input = h.input;
   last = h.last;
   turns = h.turns;
@@ -406,7 +402,6 @@ turn_begun_stands {names = names} {s = s} {a = a} h n b at awake none =
       free_slots = h.free_slots;
       first = h.first;
       server = server_same (upd-other s.environments.slots n k 0 (born_not_first h n b at)) h.server;
-      consoles = h.consoles;
       input = h.input;
       last = refl;
       turns = ap (λ (t : ℕ). t + 1) h.turns;
@@ -503,7 +498,7 @@ quiet_alike names quiet d = record {
   rows = ap (λ (r : Rows). r d) quiet.rows;
   bytes = λ p x at own_page. ap (λ (pages : ℕ → List ℕ). pages x.frame) quiet.pages;
   named_so = λ p x at shared_page. refl;
-  devices = λ p x descriptor at shared_page. ap (λ (pages : ℕ → List ℕ). device_of (pages x.frame)) quiet.pages;
+  devices = λ p x descriptor at shared_page. ap (λ (pages : ℕ → List ℕ). lasting_words (pages x.frame)) quiet.pages;
   regions = quiet.regions d;
 }
 
@@ -528,7 +523,6 @@ quiet_stands {names = names} {s = s} {a = a} {sp = sp} h quiet in_order =
       free_slots = h.free_slots;
       first = h.first;
       server = server_alike (quiet_alike names quiet (slot_at s 0).directory) h.server;
-      consoles = h.consoles;
       input = h.input;
       last = h.last;
       turns = h.turns;
@@ -560,7 +554,6 @@ own_moves {names = names} {after = after} {s = s} {a = a} h n b at sp k c shared
   free_slots = h.free_slots;
   first = upd-other a.slots n (born c) 0 (born_not_first h n b at) ∙ h.first;
   server = server_same (upd-other s.environments.slots n k 0 (born_not_first h n b at)) (server_alike (servers_seen h n b at others) h.server);
-  consoles = h.consoles;
   input = h.input;
   last = h.last;
   turns = h.turns;
@@ -591,7 +584,6 @@ space_moves {names = names} {after = after} {s = s} {a = a} h n b at sp c shared
   free_slots = h.free_slots;
   first = upd-other a.slots n (born c) 0 (born_not_first h n b at) ∙ h.first;
   server = server_alike (servers_seen h n b at others) h.server;
-  consoles = h.consoles;
   input = h.input;
   last = h.last;
   turns = h.turns;

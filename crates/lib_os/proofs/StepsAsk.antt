@@ -1,6 +1,6 @@
 -- What comes of a step of an environment for the others, the slots that are given and the server: first its services, then
 -- an instruction. The walk is that of Others.
-use Rattle.std.proofs.Common.{◌≡◌, ◌≢◌, ◌∙◌, ℕ, ◌+◌, ◌%◌, ◌^◌, Bool, true, false, List, [], ◌∷◌, ◌++◌}
+use Rattle.std.proofs.Common.{◌≡◌, ◌≢◌, ◌∙◌, ℕ, ◌+◌, ◌%◌, ◌^◌, Bool, true, false, List, [], ◌∷◌, ◌++◌, ◌==◌, ◌||◌}
 use Rattle.std.proofs.Common.{refl, sym, ap, subst, Result, Ok, Err, if◌then◌else◌}
 use Rattle.std.proofs.lemmas.Option.{same_Some}
 use Rattle.std.specs.Prelude.{Option, Some, None, IfSome, take, drop, length, codes, ⊤}
@@ -18,6 +18,8 @@ use Rattle.jos_cpu.proofs.Through.{step_through}
 use Rattle.fs_layout.specs.FileTree.{remove_path}
 use Rattle.fs_layout.specs.declared.numbers.TheConstants.{FTYPE_REG}
 use Rattle.fs_layout.specs.FileActs.{stat_bytes}
+use Rattle.jos_base.specs.Below.{some_below}
+use Rattle.lib_os.specs.declared.numbers.TheConstants.{DESCRIPTORS}
 use Rattle.lib_os.specs.declared.service.Service.{Service}
 use Rattle.lib_os.specs.declared.service.Service.TheVariants as service
 use Rattle.lib_os.specs.AbstractState.{AbstractState, Born, Page, own, named, AbstractSlot, Object, file, terminal, read_end}
@@ -31,9 +33,10 @@ use Rattle.lib_os.specs.GuestStep.{guest_step}
 use Rattle.lib_os.specs.Answers.{stored_into, all_stored, delivered_so_far, bytes_gathered, bytes_stored, bytes_delivered}
 use Rattle.lib_os.specs.Answers.{handed_back}
 use Rattle.lib_os.specs.MemoryServices.{printed, cputs, wait, page_new, page_drop}
-use Rattle.lib_os.specs.AbstractMessages.{receive, Receiver, waiting_in, with_sent, woken, sent, takes, sent_to_waiting}
+use Rattle.lib_os.specs.AbstractMessages.{receive, Receiver, page_kind, waiting_in, with_sent, woken, sent, takes, sent_to_waiting}
 use Rattle.lib_os.specs.AbstractMessages.{sent_to, send}
-use Rattle.lib_os.specs.Descriptors.{close, dup_onto, dup, pipe_on, exit_by, object_of, lowest_open, lowest_free}
+use Rattle.lib_os.specs.AbstractMemory.{with_page}
+use Rattle.lib_os.specs.Descriptors.{holds_in, is_name, close, dup_onto, dup, pipe_on, exit_by, object_of, lowest_open, lowest_free}
 use Rattle.lib_os.specs.Descriptors.{next_free}
 use Rattle.lib_os.specs.AbstractPipes.{read_over, read_from_pipe, write_pipe}
 use Rattle.lib_os.specs.FileServer.{request_begun, request_taken, ask}
@@ -62,6 +65,28 @@ kind slot = record { asks = is_asking slot; borne = borne_by slot; vacant = is_v
 abbrev pub kind_in : Phase → Kind
 kind_in phase = record { asks = has_asked phase; borne = bears_in phase; vacant = false; being_made = false }
 
+-- A slot is for the others what another was, and has the same descriptors; of who has asked the file server it has all.
+pub record SeenAs (now was : AbstractSlot) : Type 0 where
+  pub alike : kind now ≡ kind was
+  pub holds : holds_in (born_in now) ≡ holds_in (born_in was)
+  pub asker : is_asking was ≡ true → now ≡ was
+
+pub same_seen : (slot : AbstractSlot) → SeenAs slot slot
+same_seen slot = record { alike = refl; holds = refl; asker = λ is. refl }
+
+pub seen_other : (slots : ℕ → AbstractSlot) (n : ℕ) (slot : AbstractSlot) (m : ℕ) → m ≢ n → SeenAs (upd slots n slot m) (slots m)
+seen_other slots n slot m ne = subst (λ (s : AbstractSlot). SeenAs s (slots m)) (sym (upd-other slots n slot m ne)) (same_seen (slots m))
+
+-- who is sent a page has the descriptors that it had
+sent_holds : (o : Born) (w : Receiver) (va sender : ℕ) (page : Option Page) → (with_sent o w va sender page).0.descriptors ≡ o.descriptors
+sent_holds o w va sender None = refl
+sent_holds o w va sender (Some page) = by_test ((va == 0) || (w.va == 0))
+  where
+    by_test : (t : Bool) →
+        (if◌then◌else◌ {A = Born × ℕ} t (o, 0) (with_page o w.va page, page_kind page)).0.descriptors ≡ o.descriptors
+    by_test true = refl
+    by_test false = refl
+
 nothing : ⊤
 nothing = record {}
 
@@ -75,9 +100,9 @@ waiting_kind (in_service s stage) w is = absurd (cc)
 -- ---- what comes of a step
 
 module _ (a : AbstractState) (n : ℕ) where
-  -- all slots but n are for the others as they were
+  -- all slots but n are for the others as they were, and who has asked has all that it had
   abbrev pub Others : (ℕ → AbstractSlot) → Type 0
-  Others slots = (m : ℕ) → m ≢ n → kind (slots m) ≡ kind (a.slots m)
+  Others slots = (m : ℕ) → m ≢ n → SeenAs (slots m) (a.slots m)
 
   -- of slot n: an environment is there that bears nobody, or it is as it was
   pub data Own (k : Kind) : Type 0 where
@@ -121,10 +146,10 @@ module _ (a : AbstractState) (n : ℕ) where
   -- ---- what the steps are made of
 
   same_left : Left a
-  same_left = record { others = λ m ne. refl; itself = as_before refl; free_are = refl; server_is = refl }
+  same_left = record { others = λ m ne. same_seen (a.slots m); itself = as_before refl; free_are = refl; server_is = refl }
 
   others_set : (slots : ℕ → AbstractSlot) (slot : AbstractSlot) → Others slots → Others (upd slots n slot)
-  others_set slots slot h m ne = ap (λ (s : AbstractSlot). kind s) (upd-other slots n slot m ne) ∙ h m ne
+  others_set slots slot h m ne = subst (λ (s : AbstractSlot). SeenAs s (a.slots m)) (sym (upd-other slots n slot m ne)) (h m ne)
 
   -- an environment stands in slot n
   set_own : (x : AbstractState) (b : Born) → Left x → Own (kind_in b.phase) → Left (with_born x n b)
@@ -451,8 +476,12 @@ module _ (a : AbstractState) (n : ℕ) where
 
         reached : Left (with_born a target receiver)
         reached = record {
-          others = upd-all (λ (m : ℕ) (slot : AbstractSlot). m ≢ n → kind slot ≡ kind (a.slots m)) a.slots target (born receiver)
-              (λ ne. sym was) (λ m other ne. refl);
+          others = upd-all (λ (m : ℕ) (slot : AbstractSlot). m ≢ n → SeenAs slot (a.slots m)) a.slots target (born receiver)
+              (λ ne. record {
+                alike = sym was;
+                holds = (λ i name. some_below DESCRIPTORS (λ fd. is_name (sent_holds o w va b.id (page_at b va) i fd) name)) ∙ ap holds_in (sym is);
+                asker = λ asked_one. let contradiction : false ≡ true = sym (ap (λ (k : Kind). k.asks) was) ∙ asked_one in cc;
+              }) (λ m other ne. same_seen (a.slots m));
           itself = upd-all (λ (m : ℕ) (slot : AbstractSlot). m ≡ n → Own (kind slot)) a.slots target (born receiver)
               (λ same. none _) (λ m other same. as_before (ap (λ (k : ℕ). kind (a.slots k)) same)) n refl;
           free_are = refl;

@@ -16,23 +16,24 @@ use Rattle.lib_os.specs.declared.service.Service.{Service}
 use Rattle.lib_os.specs.declared.service.Service.TheVariants as service
 use Rattle.lib_os.specs.AbstractMemory.{page_allows, page_at}
 use Rattle.lib_os.specs.AbstractRun.{abs_step}
-use Rattle.lib_os.specs.AbstractState.{AbstractState, Born, Stage, born, delivering, gathering, guest, terminal}
+use Rattle.lib_os.specs.AbstractState.{AbstractState, Born, Object, Stage, born, delivering, gathering, guest, replied}
 use Rattle.lib_os.specs.Answers.{bytes_gathered, ended_at}
 use Rattle.lib_os.specs.Descriptors.{object_of}
 use Rattle.lib_os.specs.Fence.{is_buffer, is_inside}
-use Rattle.lib_os.specs.FileServices.{remove_asked, remove_step, write_step, write_with}
+use Rattle.lib_os.specs.FileServices.{is_only_for_reading, write_length, write_step, write_with}
 use Rattle.lib_os.specs.GuestStep.{ends_with}
 use Rattle.lib_os.specs.LibraryCall.{library_step}
 use Rattle.lib_os.specs.Places.{place_of}
 use Rattle.lib_os.specs.Rows.{EntryRow, IsUsers, Names, is_cow, rows_of}
 use Rattle.lib_os.specs.StandsFor.{StandsFor, view_of}
-use Rattle.lib_os.specs.StandsInHandler.{HasNoEnd, IsStoppedAt, is_refused_by, marked, may_follow, reading, removing, stage_with, telling, wanted_of, writing}
+use Rattle.lib_os.specs.StandsInHandler.{HasNoEnd, IsStoppedAt, is_refused_by, marked, may_follow, reading, stage_with, telling, wanted_from, writing}
+use Rattle.lib_os.specs.StandsInHandler.{buffer_of, handing, hands_back, following, takes_path}
 use Rattle.lib_os.proofs.BytesRead.{user_allows, user_lost, users_inside}
-use Rattle.lib_os.proofs.DeviceLooks.{names_console}
+use Rattle.lib_os.proofs.DeviceLooks.{IsWritten, begins_written}
 use Rattle.lib_os.proofs.FaultEnds.{access_of, access_refused, faulted_step}
 use Rattle.lib_os.proofs.Fences.{inside_below, inside_number}
 use Rattle.lib_os.proofs.Logical.{inside_programs, is_plain, plain_unborne}
-use Rattle.lib_os.proofs.Paths.{path_gathers}
+use Rattle.lib_os.proofs.Paths.{next_asked, path_gathers, path_stepped}
 use Rattle.lib_os.proofs.Serving.{service_step}
 
 -- ---- an access that a page refuses
@@ -90,72 +91,87 @@ module _ (a : AbstractState) (n : ℕ) (b : Born) (regs : Regs) (va : ℕ) where
   unfolding library_step
   stat_ends fd buffer bytes answer off = rw off refl
 
+  -- or are to be put there, and none of them is put
+  handing_ends : (call : Service) (bytes : List ℕ) (answer : ℕ) → hands_back call ≡ true → 0 < length bytes → va ≡ buffer_of call →
+      page_allows (page_at b va) Write ≡ false → library_step a n b regs call (replied bytes answer) ≡ Some ended
+  unfolding library_step
+  handing_ends call [] answer hands some there off = absurd (omega (arith, some))
+  handing_ends (service.Read fd buffer len) (byte ∷ rest) answer hands some there off = rw (sym there, off) refl
+  handing_ends (service.Stat fd buffer) (byte ∷ rest) answer hands some there off = rw (sym there, off) refl
+  handing_ends _ (byte ∷ rest) answer hands some there off = absurd (let contradiction : false ≡ true = hands in cc)
+
   -- more are to be taken
-  gathering_ends : (call : Service) (fd buffer wanted : ℕ) (bytes : List ℕ) → nat_lt (length bytes) wanted ≡ true →
+  gathering_ends : (call : Service) (fd buffer wanted : ℕ) (bytes : List ℕ) (object : Object) → nat_lt (length bytes) wanted ≡ true →
       (buffer + length bytes) % 2 ^ 32 ≡ va → page_allows (page_at b va) Read ≡ false →
-      write_with a n b regs call fd buffer wanted bytes terminal ≡ Some ended
-  gathering_ends call fd buffer wanted bytes more there off =
+      write_with a n b regs call fd buffer wanted bytes object ≡ Some ended
+  gathering_ends call fd buffer wanted bytes object more there off =
       let stage : List ℕ → Stage = λ taken. gathering (bytes ++ taken) in
       let taken : (at : ℕ) → Option AbstractState = λ at. Some (bytes_gathered a n b regs call at (wanted - length bytes) stage) in
       rw more (ap taken there ∙ rw off refl)
 
-  write_ends : (fd buffer len : ℕ) (bytes : List ℕ) → object_of a b fd ≡ Some terminal → is_buffer buffer (wanted_of len) ≡ true →
-      length bytes < wanted_of len → va ≡ buffer + length bytes → is_inside va ≡ true → page_allows (page_at b va) Read ≡ false →
+  write_ends : (fd buffer len start : ℕ) (bytes : List ℕ) → IsWritten a b fd len start → is_buffer buffer (wanted_from start len) ≡ true →
+      length bytes < wanted_from start len → va ≡ buffer + length bytes → is_inside va ≡ true → page_allows (page_at b va) Read ≡ false →
       library_step a n b regs (service.Write fd buffer len) (stage_with bytes) ≡ Some ended
   unfolding library_step
-  write_ends fd buffer len bytes object given fewer there inside off = by_bytes bytes fewer there
+  write_ends fd buffer len start bytes it given fewer there inside off = by_bytes bytes fewer there
     where
+      is : object_of a b fd ≡ Some it.object
+      is = it.is
+
+      reading : is_only_for_reading it.object ≡ false
+      reading = it.not_reading
+
+      long : write_length it.object len ≡ wanted_from start len
+      long = it.long
+
       small : (bytes : List ℕ) → va ≡ buffer + length bytes → (buffer + length bytes) % 2 ^ 32 ≡ va
       small bytes there = let below = inside_below va inside in omega (arith, below, there)
 
-      by_bytes : (bytes : List ℕ) → length bytes < wanted_of len → va ≡ buffer + length bytes →
+      by_bytes : (bytes : List ℕ) → length bytes < wanted_from start len → va ≡ buffer + length bytes →
           write_step a n b regs (service.Write fd buffer len) fd buffer len (stage_with bytes) ≡ Some ended
       by_bytes [] fewer there =
-          rw (object, given)
-          (gathering_ends (service.Write fd buffer len) fd buffer (wanted_of len) [] (grind (arith, nat_tests)) (small [] there) off)
+          rw (is, reading, long, given)
+          (gathering_ends (service.Write fd buffer len) fd buffer (wanted_from start len) [] it.object (grind (arith, nat_tests)) (small [] there) off)
       by_bytes (byte ∷ rest) fewer there =
-          rw object
-          (gathering_ends (service.Write fd buffer len) fd buffer (wanted_of len) (byte ∷ rest) (grind (arith, nat_tests)) (small (byte ∷ rest) there) off)
+          rw (is, long)
+          (gathering_ends (service.Write fd buffer len) fd buffer (wanted_from start len) (byte ∷ rest) it.object (grind (arith, nat_tests)) (small (byte ∷ rest) there) off)
 
-  remove_ends : (path : ℕ) (bytes : List ℕ) → HasNoEnd bytes → may_follow path (length bytes) ≡ true → va ≡ path + length bytes →
-      page_allows (page_at b va) Read ≡ false → library_step a n b regs (service.Remove path) (stage_with bytes) ≡ Some ended
-  unfolding library_step
-  remove_ends path bytes none follows there off = by_bytes bytes none follows there
+  path_stops : (call : Service) → takes_path call ≡ true → (bytes : List ℕ) → HasNoEnd bytes → may_follow (buffer_of call) (length bytes) ≡ true →
+      va ≡ buffer_of call + length bytes → page_allows (page_at b va) Read ≡ false → library_step a n b regs call (stage_with bytes) ≡ Some ended
+  path_stops call takes bytes none follows there off =
+      path_stepped a n b regs call takes bytes
+      ∙ path_gathers a n b regs call (buffer_of call) bytes (next_asked a n b regs call) none follows
+      ∙ ap (λ (x : AbstractState). Some x) ends
     where
-      ends : (bytes : List ℕ) → va ≡ path + length bytes → (stage : List ℕ → Stage) →
-          bytes_gathered a n b regs (service.Remove path) (path + length bytes) (MAXPATHLEN - length bytes) stage ≡ ended
-      ends bytes there stage =
-          ap (λ (at : ℕ). bytes_gathered a n b regs (service.Remove path) at (MAXPATHLEN - length bytes) stage) (sym there) ∙ rw off refl
-
-      by_bytes : (bytes : List ℕ) → HasNoEnd bytes → may_follow path (length bytes) ≡ true → va ≡ path + length bytes →
-          remove_step a n b regs (service.Remove path) path (stage_with bytes) ≡ Some ended
-      by_bytes [] none follows there =
-          path_gathers a n b regs (service.Remove path) path [] (remove_asked a n b (service.Remove path)) none follows
-          ∙ ap (λ (x : AbstractState). Some x) (ends [] there (λ more. gathering ([] ++ more)))
-      by_bytes (byte ∷ rest) none follows there =
-          path_gathers a n b regs (service.Remove path) path (byte ∷ rest) (remove_asked a n b (service.Remove path)) none follows
-          ∙ ap (λ (x : AbstractState). Some x) (ends (byte ∷ rest) there (λ more. gathering ((byte ∷ rest) ++ more)))
+      ends : bytes_gathered a n b regs call (buffer_of call + length bytes) (MAXPATHLEN - length bytes) (λ more. gathering (bytes ++ more)) ≡ ended
+      ends =
+          ap (λ (at : ℕ). bytes_gathered a n b regs call at (MAXPATHLEN - length bytes) (λ more. gathering (bytes ++ more))) (sym there) ∙ rw off refl
 
 module _ {names : Names} {s : KernelState} {a : AbstractState} (h : StandsFor names s a) (n : ℕ) (b : Born) (at : a.slots n ≡ born b) where
-  pub stopped_step : is_plain (place_of (slot_at s n)) ≡ true → (write : Bool) (va : ℕ) (regs : Regs) → b.program ≡ guest regs → b.blocked ≡ false →
+  pub stopped_step : is_plain (place_of (slot_at s n)) ≡ true → (write : Bool) (va : ℕ) (regs : Regs) (eax : ℕ) →
+      b.program ≡ guest (record regs { eax = eax }) → b.blocked ≡ false →
       is_inside va ≡ true → is_refused_by write (rows_of s.spaces (slot_at s n).directory (page_number va)) ≡ true →
       IsStoppedAt write (view_of s.spaces (slot_at s n).directory) b va regs.eip → abs_step a n ≡ Some (ends_with a n b (line.UserFault va regs.eip))
-  stopped_step plain write va regs program awake inside refused (marked phase) = faulted_step a n b regs va regs.eip at awake program phase
-  stopped_step plain write va regs program awake inside refused (reading fd buffer len bytes answer writes phase more) =
-      service_step a n b regs (service.Read fd buffer len) (delivering va bytes answer) at program phase awake
-      ∙ read_ends a n b regs va fd buffer len bytes answer
+  stopped_step plain write va regs eax program awake inside refused (marked phase) = faulted_step a n b (record regs { eax = eax }) va regs.eip at awake program phase
+  stopped_step plain write va regs eax program awake inside refused (reading fd buffer len bytes answer writes phase more) =
+      service_step a n b (record regs { eax = eax }) (service.Read fd buffer len) (delivering va bytes answer) at program phase awake
+      ∙ read_ends a n b (record regs { eax = eax }) va fd buffer len bytes answer
       (ap (λ (w : Bool). page_allows (page_at b va) (access_of w)) (sym writes) ∙ page_refuses h n b at write va inside refused)
-  stopped_step plain write va regs program awake inside refused (telling fd buffer bytes answer writes phase more) =
-      service_step a n b regs (service.Stat fd buffer) (delivering va bytes answer) at program phase awake
-      ∙ stat_ends a n b regs va fd buffer bytes answer
+  stopped_step plain write va regs eax program awake inside refused (telling fd buffer bytes answer writes phase more) =
+      service_step a n b (record regs { eax = eax }) (service.Stat fd buffer) (delivering va bytes answer) at program phase awake
+      ∙ stat_ends a n b (record regs { eax = eax }) va fd buffer bytes answer
       (ap (λ (w : Bool). page_allows (page_at b va) (access_of w)) (sym writes) ∙ page_refuses h n b at write va inside refused)
-  stopped_step plain write va regs program awake inside refused (writing fd buffer len bytes reads wants there) =
-      service_step a n b regs (service.Write fd buffer len) (stage_with bytes) at program wants.phase awake
-      ∙ write_ends a n b regs va fd buffer len bytes
-      (names_console h n b at (plain_unborne (place_of (slot_at s n)) plain) fd wants.given.below wants.given.console) wants.given.buffer
+  stopped_step plain write va regs eax program awake inside refused (handing call bytes answer writes hands phase some there) =
+      service_step a n b (record regs { eax = eax }) call (replied bytes answer) at program phase awake
+      ∙ handing_ends a n b (record regs { eax = eax }) va call bytes answer hands some there
+      (ap (λ (w : Bool). page_allows (page_at b va) (access_of w)) (sym writes) ∙ page_refuses h n b at write va inside refused)
+  stopped_step plain write va regs eax program awake inside refused (writing fd buffer len start bytes reads wants there) =
+      service_step a n b (record regs { eax = eax }) (service.Write fd buffer len) (stage_with bytes) at program wants.phase awake
+      ∙ write_ends a n b (record regs { eax = eax }) va fd buffer len start bytes
+      (begins_written h n b at (plain_unborne (place_of (slot_at s n)) plain) fd len start wants.given.below wants.given.begins) wants.given.buffer
       wants.fewer there inside
       (ap (λ (w : Bool). page_allows (page_at b va) (access_of w)) (sym reads) ∙ page_refuses h n b at write va inside refused)
-  stopped_step plain write va regs program awake inside refused (removing path bytes reads wants there) =
-      service_step a n b regs (service.Remove path) (stage_with bytes) at program wants.phase awake
-      ∙ remove_ends a n b regs va path bytes wants.no_end wants.follows there
+  stopped_step plain write va regs eax program awake inside refused (following call bytes reads wants there) =
+      service_step a n b (record regs { eax = eax }) call (stage_with bytes) at program wants.phase awake
+      ∙ path_stops a n b (record regs { eax = eax }) va call wants.takes bytes wants.no_end wants.follows there
       (ap (λ (w : Bool). page_allows (page_at b va) (access_of w)) (sym reads) ∙ page_refuses h n b at write va inside refused)

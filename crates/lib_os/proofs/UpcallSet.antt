@@ -88,6 +88,7 @@ module _ {names : Names} {s : KernelState} {a : AbstractState} (h : StandsFor na
 
     ends_there : Ends to view after v.b v.at.fault v.at.regs
     ends_there = record {
+      eax = way.eax;
       program = way.program;
       stopped = way.stopped;
       silent = way.silent;

@@ -1,11 +1,13 @@
 -- Who waits for a message, waits in both systems: a receiver in its service, and nobody else. One that is waited for by the
 -- kernel's words is taken by the abstract system, and the other way round.
-use Rattle.std.proofs.Common.{◌≡◌, ◌≢◌, ◌∙◌, ◌⊎◌, inl, inr, ◌≤◌, ◌%◌, ◌==◌, ◌&&◌, ◌||◌, ℕ, Bool, true, false, Option, Some, None}
+use Rattle.std.proofs.Common.{◌≡◌, ◌≢◌, ◌∙◌, ◌⊎◌, inl, inr, ◌≤◌, ◌%◌, ◌==◌, ◌&&◌, ◌||◌, ℕ, Bool, true, false, Option, Some, None, List, ◌<◌, ◌+◌, ◌*◌}
+use Rattle.std.proofs.Common.{[], ◌∷◌}
 use Rattle.std.proofs.Common.{refl, sym, ap, subst, arith, if◌then◌else◌}
 use Rattle.std.specs.Prelude.{nat_lt}
 use Rattle.std.proofs.lemmas.Bool.Decides.{nat_tests}
 use Rattle.jos_base.specs.declared.memory.PageFault.{PageFault}
-use Rattle.jos_base.specs.declared.numbers.TheConstants.{FIRST_ENV_ID, NENV, UTEMP, UTOP}
+use Rattle.jos_base.specs.declared.numbers.TheConstants.{FDTABLE, FIRST_ENV_ID, NENV, PGSIZE, UTEMP, UTOP}
+use Rattle.lib_os.specs.declared.numbers.TheConstants.{DESCRIPTORS}
 use Rattle.jos_base.specs.declared.registers.Regs.{Regs}
 use Rattle.jos_base.specs.Environments.{Slot}
 use Rattle.jos_base.specs.KernelState.{KernelState, slot_at}
@@ -18,18 +20,21 @@ use Rattle.lib_os.specs.declared.place.Step.{Step}
 use Rattle.lib_os.specs.declared.place.Step.TheVariants as step
 use Rattle.lib_os.specs.declared.service.Service.{Service}
 use Rattle.lib_os.specs.declared.service.Service.TheVariants as service
-use Rattle.lib_os.specs.AbstractState.{AbstractState, Born, born, Phase, entered}
+use Rattle.lib_os.specs.AbstractState.{AbstractState, Born, born, Phase, Stage, awaiting, entered, gathering}
 use Rattle.lib_os.specs.AbstractMessages.{Receiver, waiting_at, waiting_in, takes, sent, sent_to_waiting}
 use Rattle.lib_os.specs.Fence.{in_fence, is_page_inside}
 use Rattle.lib_os.specs.LibraryPages.{View}
 use Rattle.lib_os.specs.Places.{place_of}
-use Rattle.lib_os.specs.Rows.{EntryRow, Names, is_programs}
+use Rattle.lib_os.specs.Rows.{Names, is_programs}
+use Rattle.lib_os.specs.AbstractState.{in_service, replied}
+use Rattle.lib_os.specs.StandsFor.{AwaitsOrHasBytes, IsCounting, awaits_bytes, has_bytes}
+use Rattle.lib_os.specs.StandsInHandler.{HasBytes, answer_behind, buffer_of, handing, hands_back, in_handing, stage_behind}
 use Rattle.lib_os.specs.StandsFor.{StandsFor, StandsAt, StandsAtStep, view_of, IsIn, IsReceiving, HasReceived, IsBearing}
-use Rattle.lib_os.specs.StandsFor.{AwaitsOrHas, awaits, has_reply}
+use Rattle.lib_os.specs.StandsFor.{AwaitsFileOrHas, AwaitsOrHas, HasWholePath, awaits, awaits_file, has_opened, has_reply}
 use Rattle.lib_os.specs.StandsFor.{WaitsOrHas, waits, has, destination_of, StandsAtDevice, StandsBefore, IsTaking, descriptor_given}
 use Rattle.lib_os.specs.StandsInHandler.{CopiesOrEnds, copies, ends, StandsDelivering, StandsBeneath, at_program, in_delivery}
-use Rattle.lib_os.specs.StandsFor.{IsGatheringPath, IsTakingPath}
-use Rattle.lib_os.specs.StandsInHandler.{IsStoppedAt, marked, may_follow, reading, removing, telling, writing}
+use Rattle.lib_os.specs.StandsFor.{AsksOfFile, IsGatheringPath, IsTakingPath}
+use Rattle.lib_os.specs.StandsInHandler.{IsStoppedAt, marked, may_follow, reading, telling, writing, following, stage_with}
 use Rattle.lib_os.proofs.Logical.{page_inside_programs}
 use Rattle.lib_os.proofs.SlotsStand.{born_at, born_live}
 use Rattle.lib_os.proofs.StatesStand.{born_not_first}
@@ -48,6 +53,7 @@ pub record Waits (p : Place) (k : Slot) (c : Born) : Type 0 where
 pub data IsDeaf (r : Rendezvous) : Type 0 where
   quiet : r.receiving ≡ false → IsDeaf r
   for_server : r.receiving ≡ true → r.wanted ≡ FIRST_ENV_ID → r.destination ≡ UTOP → IsDeaf r
+  for_file : r.receiving ≡ true → r.wanted ≡ FIRST_ENV_ID → (fd : ℕ) → fd < DESCRIPTORS → r.destination ≡ FDTABLE + PGSIZE * fd → IsDeaf r
 
 -- It waits in neither system.
 pub record WaitsNot (k : Slot) (c : Born) : Type 0 where
@@ -55,18 +61,30 @@ pub record WaitsNot (k : Slot) (c : Born) : Type 0 where
   pub nowhere : waiting_in c.phase ≡ None
 
 -- it takes nothing of another
-none_taken : (r : Rendezvous) → IsDeaf r → (sender : ℕ) → sender ≢ FIRST_ENV_ID → accepts r sender ≡ false
-none_taken r (quiet is) sender other = λ i. is i && ((r.wanted == 0) || (r.wanted == sender))
-none_taken r (for_server receiving wanted page) sender other =
+by_server : (r : Rendezvous) → r.receiving ≡ true → r.wanted ≡ FIRST_ENV_ID → (sender : ℕ) → sender ≢ FIRST_ENV_ID → accepts r sender ≡ false
+by_server r receiving wanted sender other =
     (λ i. receiving i && ((wanted i == 0) || (wanted i == sender))) ∙ by_test (FIRST_ENV_ID == sender) refl
   where
     by_test : (t : Bool) → (FIRST_ENV_ID == sender) ≡ t → (true && ((FIRST_ENV_ID == 0) || t)) ≡ false
     by_test true is = absurd (other (grind (arith, nat_tests)))
     by_test false is = refl
 
+none_taken : (r : Rendezvous) → IsDeaf r → (sender : ℕ) → sender ≢ FIRST_ENV_ID → accepts r sender ≡ false
+none_taken r (quiet is) sender other = λ i. is i && ((r.wanted == 0) || (r.wanted == sender))
+none_taken r (for_server receiving wanted page) sender other = by_server r receiving wanted sender other
+none_taken r (for_file receiving wanted fd below page) sender other = by_server r receiving wanted sender other
+
 entered_only : (s : Service) → waiting_at s entered ≡ None
 entered_only (service.Receive va from) = refl
 entered_only _ = refl
+
+gathering_only : (s : Service) (bytes : List ℕ) → waiting_at s (gathering bytes) ≡ None
+gathering_only (service.Receive va from) bytes = refl
+gathering_only _ bytes = refl
+
+staged_only : (s : Service) (bytes : List ℕ) → waiting_at s (stage_with bytes) ≡ None
+staged_only s [] = entered_only s
+staged_only s (byte ∷ rest) = gathering_only s (byte ∷ rest)
 
 in_silence : {k : Slot} {c : Born} (s : Service) → IsIn k c s entered → WaitsNot k c
 in_silence s h = record { deaf = quiet h.silent; nowhere = ap (λ (p : Phase). waiting_in p) h.phase ∙ entered_only s }
@@ -83,26 +101,81 @@ delivers (service.Read fd va len) done word h = record { deaf = quiet h.silent; 
 delivers (service.Stat fd va) done word h = record { deaf = quiet h.silent; nowhere = ap (λ (p : Phase). waiting_in p) h.phase }
 delivers _ done word h = absurd h
 
-takes_bytes : {v : View} {k : Slot} {c : Born} (fd va len done : ℕ) → IsTaking v k c fd va len done → WaitsNot k c
-takes_bytes fd va len done h = record { deaf = quiet h.silent; nowhere = ap (λ (p : Phase). waiting_in p) h.wants.phase }
+takes_bytes : {v : View} {k : Slot} {c : Born} (fd va len start done : ℕ) → IsTaking v k c fd va len start done → WaitsNot k c
+takes_bytes fd va len start done h = record { deaf = quiet h.silent; nowhere = ap (λ (p : Phase). waiting_in p) h.wants.phase }
 
-takes_path : {v : View} {k : Slot} {c : Born} (path done : ℕ) → IsTakingPath v k c path done → WaitsNot k c
-takes_path path done h = record { deaf = quiet h.silent; nowhere = ap (λ (p : Phase). waiting_in p) h.wants.phase }
+takes_path : {v : View} {k : Slot} {c : Born} (s : Service) (done : ℕ) → IsTakingPath v k c s done → WaitsNot k c
+takes_path s done h = record { deaf = quiet h.silent; nowhere = ap (λ (p : Phase). waiting_in p) h.wants.phase ∙ staged_only s h.bytes }
 
-gathers_bytes : (v : View) {k : Slot} {c : Born} (t : Bool) (path done : ℕ) → IsGatheringPath t v k c path done → WaitsNot k c
-gathers_bytes v true path done h = takes_path path done h.0
-gathers_bytes v false path done h = record { deaf = quiet h.is_in.silent; nowhere = ap (λ (p : Phase). waiting_in p) h.is_in.phase }
+gathers_bytes : (v : View) {k : Slot} {c : Born} (t : Bool) (s : Service) (done : ℕ) → IsGatheringPath t v k c s done → WaitsNot k c
+gathers_bytes v true s done h = takes_path s done h.0
+gathers_bytes v false s done h =
+    record { deaf = quiet h.is_in.silent; nowhere = ap (λ (p : Phase). waiting_in p) h.is_in.phase ∙ staged_only s h.bytes }
+
+-- its page has a path
+has_path : {v : View} {k : Slot} {c : Born} {s : Service} → HasWholePath v k c s → WaitsNot k c
+has_path {s = s} h =
+    record { deaf = quiet h.is_in.silent; nowhere = ap (λ (p : Phase). waiting_in p) h.is_in.phase ∙ gathering_only s h.bytes }
 
 before_byte : (so : Type 0) (v : View) {k : Slot} {c : Born} (s : Service) (done word : ℕ) → StandsBefore so v k c s done word → WaitsNot k c
 before_byte so v (service.Read fd va len) done word h = delivers (service.Read fd va len) done word h.0
 before_byte so v (service.Stat fd va) done word h = delivers (service.Stat fd va) done word h.0
-before_byte so v (service.Write fd va len) done word h = takes_bytes fd va len done h.0
-before_byte so v (service.Remove path) done word h = takes_path path done h.0
+before_byte so v (service.Write fd va len) done word h = takes_bytes fd va len word done h.0
+before_byte so v (service.Remove path) done word h = takes_path (service.Remove path) done h.0
+before_byte so v (service.OpenFile path mode) done word h = takes_path (service.OpenFile path mode) done h.0
 before_byte so v _ done word h = absurd h
+
+-- it is about to ask of a file
+asks_silent : {v : View} {k : Slot} {c : Born} (s : Service) (fd : ℕ) → AsksOfFile v k c s fd → WaitsNot k c
+asks_silent (service.Seek of offset) fd h =
+    record { deaf = quiet h.of_file.is_in.silent; nowhere = ap (λ (p : Phase). waiting_in p) h.of_file.is_in.phase }
+asks_silent (service.SetSize of size) fd h =
+    record { deaf = quiet h.of_file.is_in.silent; nowhere = ap (λ (p : Phase). waiting_in p) h.of_file.is_in.phase }
+asks_silent (service.Write of va len) fd h =
+    record { deaf = quiet h.of_file.is_in.silent; nowhere = ap (λ (p : Phase). waiting_in p) h.of_file.is_in.phase }
+asks_silent (service.Read of va len) fd h =
+    record { deaf = quiet h.of_file.is_in.silent; nowhere = ap (λ (p : Phase). waiting_in p) h.of_file.is_in.phase }
+asks_silent (service.Stat of va) fd h =
+    record { deaf = quiet h.of_file.is_in.silent; nowhere = ap (λ (p : Phase). waiting_in p) h.of_file.is_in.phase }
+asks_silent _ fd h = absurd h.allowed
+
+-- it has asked that, and waits for the reply, or has it
+asks_or_waits : {k : Slot} {c : Born} (s : Service) (at : Step) → waiting_at s awaiting ≡ None →
+    ((stage : Stage) → waiting_at s stage ≡ None) → AwaitsOrHas k c s → WaitsNot k c ⊎ Waits (place.InService s at) k c
+asks_or_waits s at none each (awaits so) =
+    inl (record { deaf = for_server so.rendezvous so.wanted so.destination; nowhere = ap (λ (p : Phase). waiting_in p) so.phase ∙ none })
+asks_or_waits s at none each (has_reply so) = inl (record { deaf = quiet so.silent; nowhere = ap (λ (p : Phase). waiting_in p) so.phase ∙ each _ })
 
 at_device : (v : View) {k : Slot} {c : Born} (s : Service) (o : Option ℕ) → StandsAtDevice v k c s o → WaitsNot k c
 at_device v s None h = absurd h
 at_device v s (Some fd) h = in_silence s h.is_in
+
+-- it has bytes of a file
+handing_nowhere : (s : Service) (va : ℕ) (bytes : List ℕ) (answer done : ℕ) → hands_back s ≡ true →
+    waiting_in (in_service s (stage_behind va bytes answer done)) ≡ None
+handing_nowhere (service.Read fd at len) va bytes answer done hands = refl
+handing_nowhere (service.Stat fd at) va bytes answer done hands = refl
+handing_nowhere _ va bytes answer done hands = absurd (let contradiction : false ≡ true = hands in cc)
+
+hands_bytes : {v : View} {k : Slot} {c : Born} (s : Service) (done count : ℕ) → HasBytes v k c s done count → WaitsNot k c
+hands_bytes s done count h = record {
+  deaf = quiet h.silent;
+  nowhere = ap (λ (p : Phase). waiting_in p) h.phase ∙ handing_nowhere s (buffer_of s) h.bytes (answer_behind s count) done h.hands;
+}
+
+counts_bytes : (v : View) (k : Slot) (c : Born) (s : Service) (id : ℕ) → IsCounting v k c s id → WaitsNot k c
+counts_bytes v k c s id h = by_service s h.hands h.so
+  where
+    by_service : (s : Service) → hands_back s ≡ true → AwaitsOrHasBytes v k c s → WaitsNot k c
+    by_service (service.Read fd va len) hands (awaits_bytes so) =
+        record { deaf = for_server so.rendezvous so.wanted so.destination; nowhere = ap (λ (p : Phase). waiting_in p) so.phase }
+    by_service (service.Stat fd va) hands (awaits_bytes so) =
+        record { deaf = for_server so.rendezvous so.wanted so.destination; nowhere = ap (λ (p : Phase). waiting_in p) so.phase }
+    by_service (service.Read fd va len) hands (has_bytes so) =
+        record { deaf = quiet so.silent; nowhere = ap (λ (p : Phase). waiting_in p) so.phase }
+    by_service (service.Stat fd va) hands (has_bytes so) =
+        record { deaf = quiet so.silent; nowhere = ap (λ (p : Phase). waiting_in p) so.phase }
+    by_service _ hands so = absurd (let contradiction : false ≡ true = hands in cc)
 
 at_step : (v : View) (k : Slot) (c : Born) (s : Service) (stands : Step) → StandsAtStep v k c s stands →
     WaitsNot k c ⊎ Waits (place.InService s stands) k c
@@ -111,6 +184,14 @@ at_step v k c s step.ReadingDevice h = inl (at_device v s (descriptor_given s) h
 at_step v k c s (step.BufferRegion done word) h = inl (before_byte _ v s done word h)
 at_step v k c s (step.BufferEntry done word) h = inl (before_byte _ v s done word h)
 at_step v k c s (step.Faulting done word) h = inl (before_byte _ v s done word h)
+at_step v k c s (step.CountingReply id) h = inl (counts_bytes v k c s id h)
+at_step v k c s (step.FileRegion done count) h = inl (hands_bytes s done count h)
+at_step v k c s (step.FileEntry done count) h = inl (hands_bytes s done count h.0)
+at_step v k c s (step.LoadingBytes done count) h = inl (hands_bytes s done count h.has)
+at_step v k c s (step.LoadingRest done count first) h = inl (hands_bytes s done count h.has)
+at_step v k c s (step.PuttingBytes done count word) h = inl (hands_bytes s done count h.has)
+at_step v k c s (step.FileFaulting done count) h = inl (hands_bytes s done count h.0)
+at_step v k c s (step.Returning answer) h = inl (record { deaf = quiet h.silent; nowhere = ap (λ (p : Phase). waiting_in p) h.phase })
 at_step v k c (service.Read fd va len) (step.Delivering done word) h = inl (delivers (service.Read fd va len) done word h.0)
 at_step v k c (service.Stat fd va) (step.Delivering done word) h = inl (delivers (service.Stat fd va) done word h.0)
 at_step v k c (service.Read fd va len) (step.DescriptorEntry at) h = inl (in_silence _ h.is_in)
@@ -120,14 +201,27 @@ at_step v k c (service.Stat fd va) (step.DescriptorEntry at) h = inl (in_silence
 at_step v k c (service.SetSize fd size) (step.DescriptorEntry at) h = inl (in_silence _ h.is_in)
 at_step v k c (service.Read fd va len) step.Getting h = inl (in_silence _ h.is_in)
 at_step v k c (service.Write fd va len) step.TakingPage h = inl (in_silence _ h.0)
-at_step v k c (service.Write fd va len) (step.Gathering done) h = inl (takes_bytes fd va len done h.0)
-at_step v k c (service.Write fd va len) (step.Keeping done word left) h =
+at_step v k c (service.Write fd va len) (step.GatheringBytes done start) h = inl (takes_bytes fd va len start done h.0)
+at_step v k c (service.Write fd va len) (step.KeepingBytes done word left start) h =
     inl (record { deaf = quiet h.is_in.silent; nowhere = ap (λ (p : Phase). waiting_in p) h.is_in.phase })
 at_step v k c (service.Write fd va len) step.Printing h =
     inl (record { deaf = quiet h.is_in.silent; nowhere = ap (λ (p : Phase). waiting_in p) h.is_in.phase })
 at_step v k c (service.Write fd va len) step.Releasing h = inl (record { deaf = quiet h.silent; nowhere = ap (λ (p : Phase). waiting_in p) h.phase })
+at_step v k c (service.Write fd va len) step.ReadingMode h = inl (in_silence _ h.is_in)
+at_step v k c (service.Write fd va len) step.TakingRequest h = inl (in_silence _ h.0)
+at_step v k c (service.Write fd va len) step.ReadingNumber h = inl (asks_silent _ fd h)
+at_step v k c (service.Write fd va len) (step.StoringNumber number) h = inl (asks_silent _ fd h.asks)
+at_step v k c (service.Write fd va len) step.StoringCount h = inl (asks_silent _ fd h.asks)
+at_step v k c (service.Write fd va len) step.Identifying h = inl (asks_silent _ fd h.asks)
+at_step v k c (service.Write fd va len) (step.Asking id) h = inl (asks_silent _ fd h.1.asks)
+at_step v k c (service.Write fd va len) (step.Pausing id) h = inl (asks_silent _ fd h.1.asks)
+at_step v k c (service.Write fd va len) (step.Awaiting id) h =
+    inl (record { deaf = quiet h.1.silent; nowhere = ap (λ (p : Phase). waiting_in p) h.1.phase })
+at_step v k c (service.Write fd va len) (step.Clearing id) h = asks_or_waits (service.Write fd va len) (step.Clearing id) refl (λ stage. refl) h.1
+at_step v k c (service.Write fd va len) (step.ReadingReply id) h =
+    inl (record { deaf = quiet h.1.silent; nowhere = ap (λ (p : Phase). waiting_in p) h.1.phase })
 at_step v k c (service.Remove path) step.TakingPage h = inl (in_silence _ h.0)
-at_step v k c (service.Remove path) (step.Gathering done) h = inl (gathers_bytes v (may_follow path done) path done h)
+at_step v k c (service.Remove path) (step.Gathering done) h = inl (gathers_bytes v (may_follow path done) (service.Remove path) done h)
 at_step v k c (service.Remove path) (step.Keeping done word left) h =
     inl (record { deaf = quiet h.is_in.silent; nowhere = ap (λ (p : Phase). waiting_in p) h.is_in.phase })
 at_step v k c (service.Remove path) step.Identifying h =
@@ -144,6 +238,86 @@ at_step v k c (service.Remove path) (step.Clearing id) h = by_reply h.1
     by_reply (awaits so) = inl (record { deaf = for_server so.rendezvous so.wanted so.destination; nowhere = ap (λ (p : Phase). waiting_in p) so.phase })
     by_reply (has_reply so) = inl (record { deaf = quiet so.silent; nowhere = ap (λ (p : Phase). waiting_in p) so.phase })
 at_step v k c (service.Remove path) (step.ReadingReply id) h =
+    inl (record { deaf = quiet h.1.silent; nowhere = ap (λ (p : Phase). waiting_in p) h.1.phase })
+at_step v k c (service.OpenFile path mode) step.TakingPage h = inl (in_silence _ h.0)
+at_step v k c (service.OpenFile path mode) (step.Gathering done) h = inl (gathers_bytes v (may_follow path done) (service.OpenFile path mode) done h)
+at_step v k c (service.OpenFile path mode) (step.Keeping done word left) h =
+    inl (record { deaf = quiet h.is_in.silent; nowhere = ap (λ (p : Phase). waiting_in p) h.is_in.phase })
+at_step v k c (service.OpenFile path mode) step.FreeRegion h = inl (has_path h)
+at_step v k c (service.OpenFile path mode) (step.FreeEntry fd) h = inl (has_path h.whole)
+at_step v k c (service.OpenFile path mode) (step.StoringMode fd) h = inl (has_path h.whole)
+at_step v k c (service.OpenFile path mode) (step.OpenIdentifying fd) h = inl (has_path h.1.whole)
+at_step v k c (service.OpenFile path mode) (step.OpenAsking id fd) h = inl (has_path h.2.whole)
+at_step v k c (service.OpenFile path mode) (step.OpenPausing id fd) h = inl (has_path h.2.whole)
+at_step v k c (service.OpenFile path mode) (step.OpenAwaiting id fd) h =
+    inl (record { deaf = quiet h.2.silent; nowhere = ap (λ (p : Phase). waiting_in p) h.2.phase })
+at_step v k c (service.OpenFile path mode) (step.OpenClearing id fd) h = by_reply h.1
+  where
+    by_reply : AwaitsFileOrHas v k c (service.OpenFile path mode) fd → WaitsNot k c ⊎ Waits (place.InService (service.OpenFile path mode) (step.OpenClearing id fd)) k c
+    by_reply (awaits_file so) =
+        inl (record { deaf = for_file so.rendezvous so.wanted fd so.lowest.below so.destination; nowhere = ap (λ (p : Phase). waiting_in p) so.phase })
+    by_reply (has_opened so) = inl (record { deaf = quiet so.silent; nowhere = ap (λ (p : Phase). waiting_in p) so.phase })
+at_step v k c (service.OpenFile path mode) (step.ReadingOpened id fd) h =
+    inl (record { deaf = quiet h.1.silent; nowhere = ap (λ (p : Phase). waiting_in p) h.1.phase })
+at_step v k c (service.Seek fd offset) step.TakingPage h = inl (asks_silent _ fd h)
+at_step v k c (service.Seek fd offset) step.ReadingNumber h = inl (asks_silent _ fd h)
+at_step v k c (service.Seek fd offset) (step.StoringNumber number) h = inl (asks_silent _ fd h.asks)
+at_step v k c (service.Seek fd offset) step.StoringCount h = inl (asks_silent _ fd h.asks)
+at_step v k c (service.Seek fd offset) step.Identifying h = inl (asks_silent _ fd h.asks)
+at_step v k c (service.Seek fd offset) (step.Asking id) h = inl (asks_silent _ fd h.1.asks)
+at_step v k c (service.Seek fd offset) (step.Pausing id) h = inl (asks_silent _ fd h.1.asks)
+at_step v k c (service.Seek fd offset) (step.Awaiting id) h =
+    inl (record { deaf = quiet h.1.silent; nowhere = ap (λ (p : Phase). waiting_in p) h.1.phase })
+at_step v k c (service.Seek fd offset) (step.Clearing id) h = by_reply h.1
+  where
+    by_reply : AwaitsOrHas k c (service.Seek fd offset) → WaitsNot k c ⊎ Waits (place.InService (service.Seek fd offset) (step.Clearing id)) k c
+    by_reply (awaits so) = inl (record { deaf = for_server so.rendezvous so.wanted so.destination; nowhere = ap (λ (p : Phase). waiting_in p) so.phase })
+    by_reply (has_reply so) = inl (record { deaf = quiet so.silent; nowhere = ap (λ (p : Phase). waiting_in p) so.phase })
+at_step v k c (service.Seek fd offset) (step.ReadingReply id) h =
+    inl (record { deaf = quiet h.1.silent; nowhere = ap (λ (p : Phase). waiting_in p) h.1.phase })
+at_step v k c (service.SetSize fd size) step.ReadingMode h = inl (in_silence _ h.is_in)
+at_step v k c (service.SetSize fd size) step.TakingPage h = inl (asks_silent _ fd h)
+at_step v k c (service.SetSize fd size) step.ReadingNumber h = inl (asks_silent _ fd h)
+at_step v k c (service.SetSize fd size) (step.StoringNumber number) h = inl (asks_silent _ fd h.asks)
+at_step v k c (service.SetSize fd size) step.StoringCount h = inl (asks_silent _ fd h.asks)
+at_step v k c (service.SetSize fd size) step.Identifying h = inl (asks_silent _ fd h.asks)
+at_step v k c (service.SetSize fd size) (step.Asking id) h = inl (asks_silent _ fd h.1.asks)
+at_step v k c (service.SetSize fd size) (step.Pausing id) h = inl (asks_silent _ fd h.1.asks)
+at_step v k c (service.SetSize fd size) (step.Awaiting id) h =
+    inl (record { deaf = quiet h.1.silent; nowhere = ap (λ (p : Phase). waiting_in p) h.1.phase })
+at_step v k c (service.SetSize fd size) (step.Clearing id) h = by_reply h.1
+  where
+    by_reply : AwaitsOrHas k c (service.SetSize fd size) → WaitsNot k c ⊎ Waits (place.InService (service.SetSize fd size) (step.Clearing id)) k c
+    by_reply (awaits so) = inl (record { deaf = for_server so.rendezvous so.wanted so.destination; nowhere = ap (λ (p : Phase). waiting_in p) so.phase })
+    by_reply (has_reply so) = inl (record { deaf = quiet so.silent; nowhere = ap (λ (p : Phase). waiting_in p) so.phase })
+at_step v k c (service.SetSize fd size) (step.ReadingReply id) h =
+    inl (record { deaf = quiet h.1.silent; nowhere = ap (λ (p : Phase). waiting_in p) h.1.phase })
+at_step v k c (service.Read fd va len) step.ReadingMode h = inl (in_silence _ h.is_in)
+at_step v k c (service.Read fd va len) step.TakingPage h = inl (asks_silent _ fd h)
+at_step v k c (service.Read fd va len) step.ReadingNumber h = inl (asks_silent _ fd h)
+at_step v k c (service.Read fd va len) (step.StoringNumber number) h = inl (asks_silent _ fd h.asks)
+at_step v k c (service.Read fd va len) step.StoringCount h = inl (asks_silent _ fd h.asks)
+at_step v k c (service.Read fd va len) step.Identifying h = inl (asks_silent _ fd h.asks)
+at_step v k c (service.Read fd va len) (step.Asking id) h = inl (asks_silent _ fd h.1.asks)
+at_step v k c (service.Read fd va len) (step.Pausing id) h = inl (asks_silent _ fd h.1.asks)
+at_step v k c (service.Read fd va len) (step.Awaiting id) h =
+    inl (record { deaf = quiet h.1.silent; nowhere = ap (λ (p : Phase). waiting_in p) h.1.phase })
+at_step v k c (service.Read fd va len) (step.Clearing id) h =
+    inl (record { deaf = quiet h.1.silent; nowhere = ap (λ (p : Phase). waiting_in p) h.1.phase })
+at_step v k c (service.Read fd va len) (step.ReadingReply id) h =
+    inl (record { deaf = quiet h.1.silent; nowhere = ap (λ (p : Phase). waiting_in p) h.1.phase })
+at_step v k c (service.Stat fd va) step.TakingPage h = inl (asks_silent _ fd h)
+at_step v k c (service.Stat fd va) step.ReadingNumber h = inl (asks_silent _ fd h)
+at_step v k c (service.Stat fd va) (step.StoringNumber number) h = inl (asks_silent _ fd h.asks)
+at_step v k c (service.Stat fd va) step.StoringCount h = inl (asks_silent _ fd h.asks)
+at_step v k c (service.Stat fd va) step.Identifying h = inl (asks_silent _ fd h.asks)
+at_step v k c (service.Stat fd va) (step.Asking id) h = inl (asks_silent _ fd h.1.asks)
+at_step v k c (service.Stat fd va) (step.Pausing id) h = inl (asks_silent _ fd h.1.asks)
+at_step v k c (service.Stat fd va) (step.Awaiting id) h =
+    inl (record { deaf = quiet h.1.silent; nowhere = ap (λ (p : Phase). waiting_in p) h.1.phase })
+at_step v k c (service.Stat fd va) (step.Clearing id) h =
+    inl (record { deaf = quiet h.1.silent; nowhere = ap (λ (p : Phase). waiting_in p) h.1.phase })
+at_step v k c (service.Stat fd va) (step.ReadingReply id) h =
     inl (record { deaf = quiet h.1.silent; nowhere = ap (λ (p : Phase). waiting_in p) h.1.phase })
 at_step v k c (service.Wait id) (step.Trying perm) h = inl (in_silence _ h.is_in)
 at_step v k c (service.Wait id) (step.Pausing perm) h = inl (in_silence _ h.is_in)
@@ -187,16 +361,23 @@ at_step v k c (service.Dup old new) step.MappingDescriptor h = inl (in_silence _
 at_step v k c _ _ h = absurd h
 
 -- its page is copied, or it is on the way to its end
-beneath_handler : {row : EntryRow} {k : Slot} {c : Born} → StandsBeneath row k c → WaitsNot k c
+beneath_handler : {v : View} {k : Slot} {c : Born} → StandsBeneath v k c → WaitsNot k c
 beneath_handler (at_program h) = record { deaf = quiet h.silent; nowhere = ap (λ (p : Phase). waiting_in p) h.phase }
 beneath_handler (in_delivery s done word at h) = delivers s done word h.0
+beneath_handler (in_handing s done count word at h) = hands_bytes s done count h.has
 
 stopped_nowhere : {write : Bool} {v : View} {c : Born} {va ip : ℕ} → IsStoppedAt write v c va ip → waiting_in c.phase ≡ None
 stopped_nowhere (marked phase) = ap (λ (p : Phase). waiting_in p) phase
 stopped_nowhere (reading fd buffer len bytes answer writes phase some) = ap (λ (p : Phase). waiting_in p) phase
 stopped_nowhere (telling fd buffer bytes answer writes phase some) = ap (λ (p : Phase). waiting_in p) phase
-stopped_nowhere (writing fd buffer len bytes reads wants there) = ap (λ (p : Phase). waiting_in p) wants.phase
-stopped_nowhere (removing path bytes reads wants there) = ap (λ (p : Phase). waiting_in p) wants.phase
+stopped_nowhere (handing s bytes answer writes hands phase some there) = ap (λ (p : Phase). waiting_in p) phase ∙ by_service s hands
+  where
+    by_service : (s : Service) → hands_back s ≡ true → waiting_in (in_service s (replied bytes answer)) ≡ None
+    by_service (service.Read fd at len) hands = refl
+    by_service (service.Stat fd at) hands = refl
+    by_service _ hands = absurd (let contradiction : false ≡ true = hands in cc)
+stopped_nowhere (writing fd buffer len start bytes reads wants there) = ap (λ (p : Phase). waiting_in p) wants.phase
+stopped_nowhere (following s bytes reads wants there) = ap (λ (p : Phase). waiting_in p) wants.phase ∙ staged_only s bytes
 
 in_handler : (stands : HandlerStep) (v : View) {k : Slot} {c : Born} (fault : PageFault) (regs : Regs) →
     CopiesOrEnds stands v k c fault regs → WaitsNot k c
@@ -304,10 +485,11 @@ comes_apart p v k c h sender taken wanted = by_case (waits_or_not p v k c h)
     nowhere : k.rendezvous.destination ≡ UTOP → ⊥
     nowhere is = let contradiction : false ≡ true = sym (ap (λ (va : ℕ). nat_lt va UTOP) is) ∙ wanted in cc
 
-    by_deaf : IsDeaf k.rendezvous → ⊥
+    by_deaf : IsDeaf k.rendezvous → page_number k.rendezvous.destination ≢ page_number UTEMP
     by_deaf (quiet is) =
-        let contradiction : false ≡ true = sym (λ i. is i && ((k.rendezvous.wanted == 0) || (k.rendezvous.wanted == sender))) ∙ taken in cc
-    by_deaf (for_server receiving only none) = nowhere none
+        absurd (let contradiction : false ≡ true = sym (λ i. is i && ((k.rendezvous.wanted == 0) || (k.rendezvous.wanted == sender))) ∙ taken in cc)
+    by_deaf (for_server receiving only none) = absurd (nowhere none)
+    by_deaf (for_file receiving only fd below there) = λ same. omega (arith, same, there)
 
     by_page : (va : ℕ) (t : Bool) → (va == 0) ≡ t → k.rendezvous.destination ≡ (if t then UTOP else va) → (t || is_page_inside va) ≡ true →
         page_number k.rendezvous.destination ≢ page_number UTEMP
@@ -316,5 +498,5 @@ comes_apart p v k c h sender taken wanted = by_case (waits_or_not p v k c h)
         subst (λ (x : ℕ). page_number x ≢ page_number UTEMP) (sym is) (programs_apart (page_number va) (page_inside_programs va page))
 
     by_case : WaitsNot k c ⊎ Waits p k c → page_number k.rendezvous.destination ≢ page_number UTEMP
-    by_case (inl off) = absurd (by_deaf off.deaf)
+    by_case (inl off) = by_deaf off.deaf
     by_case (inr x) = by_page x.w.va (x.w.va == 0) refl x.so.destination x.so.page

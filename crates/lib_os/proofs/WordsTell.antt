@@ -62,6 +62,30 @@ place_at regs number at outside =
     by_step (step.ReadingReply id) some back = rw (outside, some, back) refl
     by_step step.Identifying some back = rw (outside, some, back) refl
     by_step (step.Clearing id) some back = rw (outside, some, back) refl
+    by_step step.ReadingMode some back = rw (outside, some, back) refl
+    by_step step.ReadingNumber some back = rw (outside, some, back) refl
+    by_step (step.StoringNumber number) some back = rw (outside, some, back) refl
+    by_step step.StoringCount some back = rw (outside, some, back) refl
+    by_step step.TakingRequest some back = rw (outside, some, back) refl
+    by_step (step.GatheringBytes done start) some back = rw (outside, some, back) refl
+    by_step (step.KeepingBytes done word left start) some back = rw (outside, some, back) refl
+    by_step (step.CountingReply id) some back = rw (outside, some, back) refl
+    by_step (step.FileRegion done count) some back = rw (outside, some, back) refl
+    by_step (step.FileEntry done count) some back = rw (outside, some, back) refl
+    by_step (step.LoadingBytes done count) some back = rw (outside, some, back) refl
+    by_step (step.LoadingRest done count first) some back = rw (outside, some, back) refl
+    by_step (step.PuttingBytes done count word) some back = rw (outside, some, back) refl
+    by_step (step.FileFaulting done count) some back = rw (outside, some, back) refl
+    by_step (step.Returning answer) some back = rw (outside, some, back) refl
+    by_step step.FreeRegion some back = rw (outside, some, back) refl
+    by_step (step.FreeEntry fd) some back = rw (outside, some, back) refl
+    by_step (step.StoringMode fd) some back = rw (outside, some, back) refl
+    by_step (step.OpenIdentifying fd) some back = rw (outside, some, back) refl
+    by_step (step.OpenAsking id fd) some back = rw (outside, some, back) refl
+    by_step (step.OpenPausing id fd) some back = rw (outside, some, back) refl
+    by_step (step.OpenAwaiting id fd) some back = rw (outside, some, back) refl
+    by_step (step.OpenClearing id fd) some back = rw (outside, some, back) refl
+    by_step (step.ReadingOpened id fd) some back = rw (outside, some, back) refl
 
 -- ---- the handler's registers
 

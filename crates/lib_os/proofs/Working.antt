@@ -1,15 +1,16 @@
 -- Whether a service keeps a page at UTEMP is told by the words that are kept for it, wherever its environment stands: at the service, and
 -- in the handler of page faults above it.
-use Rattle.std.proofs.Common.{◌≡◌, ◌≢◌, ◌∙◌, ◌==◌, ◌&&◌, ◌+◌, ◌-◌, ℕ, Bool, true, false, List, refl, sym, ap, arith, if◌then◌else◌}
+use Rattle.std.proofs.Common.{◌≡◌, ◌≢◌, ◌∙◌, ◌==◌, ◌&&◌, ◌||◌, ◌+◌, ◌-◌, ℕ, Bool, true, false, List, refl, sym, ap, arith, if◌then◌else◌}
 use Rattle.std.proofs.lemmas.Bool.Decides.{nat_tests}
 use Rattle.jos_base.specs.declared.registers.Regs.{Regs}
 use Rattle.jos_base.specs.Environments.{Slot}
-use Rattle.lib_os.specs.declared.numbers.TheConstants.{SERVICE_REMOVE, SERVICE_WRITE}
+use Rattle.lib_os.specs.declared.numbers.TheConstants.{SERVICE_READ, SERVICE_REMOVE, SERVICE_SEEK, SERVICE_SET_SIZE, SERVICE_STAT, SERVICE_WRITE}
+use Rattle.lib_os.specs.declared.numbers.TheConstants.{SERVICE_OPEN_FILE}
 use Rattle.lib_os.specs.declared.place.Place.TheVariants as place
 use Rattle.lib_os.specs.declared.place.Step.{Step}
 use Rattle.lib_os.specs.declared.service.Service.{Service}
 use Rattle.lib_os.specs.declared.service.Service.TheVariants as service
-use Rattle.lib_os.specs.LibraryPages.{has_working, keeps_page, keeps_page_beneath, keeps_path}
+use Rattle.lib_os.specs.LibraryPages.{asks_of_files, has_working, keeps_page, keeps_page_beneath, keeps_path, keeps_request}
 use Rattle.lib_os.specs.Places.{place_in_words, place_of, service_word, step_in}
 use Rattle.lib_os.specs.Services.{is_built, named_service, service_of}
 use Rattle.lib_os.proofs.Numbered.{number_of, numbered}
@@ -17,7 +18,10 @@ use Rattle.lib_os.proofs.WordsTell.{by_esp}
 
 -- whether one is kept, by a number and a step
 abbrev kept_by : ℕ → Step → Bool
-kept_by number at = if number == SERVICE_WRITE then keeps_page at else (number == SERVICE_REMOVE) && keeps_path at
+kept_by number at =
+    if number == SERVICE_WRITE then keeps_page at
+    else if (number == SERVICE_REMOVE) || (number == SERVICE_OPEN_FILE) then keeps_path at
+    else asks_of_files number && keeps_request at
 
 -- a service keeps one by its number and its step
 by_number : (s : Service) (at : Step) (words : List ℕ) → has_working (place.InService s at) words ≡ kept_by (number_of s) at
@@ -68,7 +72,9 @@ working_is regs words =
     at_guest none =
         let write : (service_word words == SERVICE_WRITE + 1) ≡ false = grind (arith, nat_tests) in
         let remove : (service_word words == SERVICE_REMOVE + 1) ≡ false = grind (arith, nat_tests) in
-        sym (λ i. if write i then keeps_page (step_in words) else remove i && keeps_path (step_in words))
+        let opens : (service_word words == SERVICE_OPEN_FILE + 1) ≡ false = grind (arith, nat_tests) in
+        let files : asks_of_files (service_word words - 1) ≡ false = grind (arith, nat_tests) in
+        sym (λ i. if write i then keeps_page (step_in words) else if remove i || opens i then keeps_path (step_in words) else files i && keeps_request (step_in words))
 
     in_service : (service_word words == 0) ≡ false →
         has_working (place.InService (service_of (record regs { eax = service_word words - 1 })) (step_in words)) words ≡ keeps_page_beneath words
@@ -76,10 +82,17 @@ working_is regs words =
         let r : Regs = record regs { eax = service_word words - 1 } in
         let write : (service_word words - 1 == SERVICE_WRITE) ≡ (service_word words == SERVICE_WRITE + 1) = grind (arith, nat_tests) in
         let remove : (service_word words - 1 == SERVICE_REMOVE) ≡ (service_word words == SERVICE_REMOVE + 1) = grind (arith, nat_tests) in
+        let opens : (service_word words - 1 == SERVICE_OPEN_FILE) ≡ (service_word words == SERVICE_OPEN_FILE + 1) = grind (arith, nat_tests) in
+        let opens_is = named_so SERVICE_OPEN_FILE refl refl r ∙ opens in
+        let seek_is = named_so SERVICE_SEEK refl refl r in
+        let set_size_is = named_so SERVICE_SET_SIZE refl refl r in
+        let read_is = named_so SERVICE_READ refl refl r in
+        let stat_is = named_so SERVICE_STAT refl refl r in
         let write_is = named_so SERVICE_WRITE refl refl r ∙ write in
         let remove_is = named_so SERVICE_REMOVE refl refl r ∙ remove in
         by_number (service_of r) (step_in words) words
-        ∙ (λ i. if write_is i then keeps_page (step_in words) else remove_is i && keeps_path (step_in words))
+        ∙ (λ i. if write_is i then keeps_page (step_in words) else if remove_is i || opens_is i then keeps_path (step_in words)
+        else (seek_is i || set_size_is i || read_is i || stat_is i) && keeps_request (step_in words))
 
 -- So it is the same whatever the registers.
 pub words_work : (k : Slot) (regs : Regs) → has_working (place_of k) k.extra ≡ has_working (place_of (record k { registers = regs })) k.extra

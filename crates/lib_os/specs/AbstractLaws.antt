@@ -81,6 +81,8 @@ pub record LeavesFiles (a after : AbstractState) : Type 0 where
   pub names : a.next_name ≤ after.next_name
   pub objects : (name : ℕ) → name < a.next_name → after.objects name ≡ a.objects name
   pub held : (name : ℕ) → is_held after name ≡ true → (is_held a name ≡ true) ⊎ IsNewName a after name
+  -- a page is made under a new name alone
+  pub pages : (name : ℕ) → (name < a.next_name) ⊎ (after.next_name ≤ name) → a.shared name ≡ [] → after.shared name ≡ []
 
 -- The server is as it was, or the environment in slot n has asked it while it was idle.
 pub data AsksOrLeaves (a after : AbstractState) (n : ℕ) : Type 0 where
@@ -157,10 +159,28 @@ pub record AreGivenApart (slots : ℕ → AbstractSlot) (free_slots : List ℕ) 
   pub children : (n child : ℕ) → borne_by (slots n) ≡ Some child → is_unborn (slots child) ≡ true
   pub parents : (n m child : ℕ) → borne_by (slots n) ≡ Some child → borne_by (slots m) ≡ Some child → n ≡ m
 
+-- what the server has opened, and not given yet
+abbrev pub opened_by : Server → Option ℕ
+opened_by (acted client answer bytes object) = object
+opened_by _ = None
+
+-- no page has the name, and no environment a descriptor for it
+pub record IsNobodys (a : AbstractState) (name : ℕ) : Type 0 where
+  pub old : name < a.next_name
+  pub page : a.shared name ≡ []
+  pub held : is_held a name ≡ false
+
+-- Names are given in order, to pages as to objects, and what the server has opened is nobody's until its reply.
+pub record OpensNobodys (a : AbstractState) : Type 0 where
+  pub pages : (name : ℕ) → a.next_name ≤ name → a.shared name ≡ []
+  pub held : (name : ℕ) → is_held a name ≡ true → name < a.next_name
+  pub opened : (name : ℕ) → opened_by a.server ≡ Some name → IsNobodys a name
+
 -- Whom the server serves has asked it, and has no reply yet.
 pub record ServesWhoAsked (a : AbstractState) : Type 0 where
   pub asked : (client : ℕ) → client_served a.server ≡ Some client → (client < NENV) × (is_asking (a.slots client) ≡ true)
   pub given : AreGivenApart a.slots a.free_slots
+  pub opens : OpensNobodys a
 
 -- It stays so, whatever slot makes a step.
 abbrev pub ServedClientsStay : Type 0

@@ -21,6 +21,10 @@ mode_of bytes = word_at (slice_index bytes) FD_MODE
 abbrev pub number_of : List ℕ → ℕ
 number_of bytes = word_at (slice_index bytes) FD_FILE
 
+-- what it tells that stays as long as it is open, which is all but a file's offset
+abbrev pub lasting_words : List ℕ → ℕ × ℕ × ℕ
+lasting_words bytes = (device_of bytes, mode_of bytes, number_of bytes)
+
 -- the page of a place of the table of open files
 abbrev pub place_page : ℕ → ℕ
 place_page k = page_number FDTABLE + k

@@ -24,6 +24,7 @@ pub mod BlockCache
 pub mod LibraryPages
 pub mod StandsInHandler
 pub mod StandsFor
+pub mod AskedFor
 pub mod LibrarySteps
 pub mod Need
 pub mod StandingLaws

@@ -10,7 +10,8 @@ use Rattle.jos_base.specs.Reach.{Entry}
 use Rattle.jos_base.specs.SystemCalls.{has_write}
 use Rattle.jos_base.specs.TrapFrames.{frame_bytes, frame_size}
 use Rattle.jos_base.specs.Words.{page_number}
-use Rattle.lib_os.specs.declared.numbers.TheConstants.{PFTEMP, SERVICE_REMOVE, SERVICE_WRITE, UXSTACK}
+use Rattle.lib_os.specs.declared.numbers.TheConstants.{PFTEMP, SERVICE_READ, SERVICE_REMOVE, SERVICE_SEEK, SERVICE_SET_SIZE, SERVICE_STAT}
+use Rattle.lib_os.specs.declared.numbers.TheConstants.{SERVICE_WRITE, UXSTACK, SERVICE_OPEN_FILE}
 use Rattle.lib_os.specs.declared.place.HandlerStep.TheVariants as handler
 use Rattle.lib_os.specs.declared.place.Place.{Place}
 use Rattle.lib_os.specs.declared.place.Place.TheVariants as place
@@ -55,18 +56,27 @@ has_copy (place.InHandler (handler.MappingOver va)) = true
 has_copy (place.InHandler (handler.Unmapping va)) = true
 has_copy _ = false
 
--- write has a page at UTEMP in which it keeps the bytes of its buffer, from when it has taken it until it gives it back
+-- write has a page at UTEMP in which it keeps the bytes of its buffer, from when it has taken it until it gives it back; of a file that tells
+-- its request
 abbrev pub keeps_page : Step → Bool
 keeps_page (step.BufferRegion done word) = true
 keeps_page (step.BufferEntry done word) = true
-keeps_page (step.Gathering done) = true
-keeps_page (step.Keeping done word left) = true
+keeps_page (step.GatheringBytes done start) = true
+keeps_page (step.KeepingBytes done word left start) = true
 keeps_page step.Printing = true
 keeps_page step.Releasing = true
 keeps_page (step.Faulting done word) = true
+keeps_page step.ReadingNumber = true
+keeps_page (step.StoringNumber number) = true
+keeps_page step.StoringCount = true
+keeps_page step.Identifying = true
+keeps_page (step.Asking id) = true
+keeps_page (step.Pausing id) = true
+keeps_page (step.Awaiting id) = true
+keeps_page (step.Clearing id) = true
 keeps_page _ = false
 
--- so has remove with its path, from when it has taken the page until it gives it back, behind the reply or where it refuses
+-- so have remove and open_file with their paths, from when they have taken the page until they give it back, behind the reply or where they refuse
 abbrev pub keeps_path : Step → Bool
 keeps_path (step.BufferRegion done word) = true
 keeps_path (step.BufferEntry done word) = true
@@ -78,18 +88,57 @@ keeps_path (step.Asking id) = true
 keeps_path (step.Pausing id) = true
 keeps_path (step.Awaiting id) = true
 keeps_path (step.Clearing id) = true
+keeps_path step.FreeRegion = true
+keeps_path (step.FreeEntry fd) = true
+keeps_path (step.StoringMode fd) = true
+keeps_path (step.OpenIdentifying fd) = true
+keeps_path (step.OpenAsking id fd) = true
+keeps_path (step.OpenPausing id fd) = true
+keeps_path (step.OpenAwaiting id fd) = true
+keeps_path (step.OpenClearing id fd) = true
 keeps_path _ = false
 
--- the same beneath the handler of page faults, by the words that are kept for the service
+-- and seek, set_size, read and stat with what they ask, from when they have taken the page until they give it back, behind the reply; read and
+-- stat have the bytes of the reply there
+abbrev pub keeps_request : Step → Bool
+keeps_request step.ReadingNumber = true
+keeps_request (step.StoringNumber number) = true
+keeps_request step.StoringCount = true
+keeps_request step.Identifying = true
+keeps_request (step.Asking id) = true
+keeps_request (step.Pausing id) = true
+keeps_request (step.Awaiting id) = true
+keeps_request (step.Clearing id) = true
+keeps_request (step.CountingReply id) = true
+keeps_request (step.FileRegion done count) = true
+keeps_request (step.FileEntry done count) = true
+keeps_request (step.LoadingBytes done count) = true
+keeps_request (step.LoadingRest done count first) = true
+keeps_request (step.PuttingBytes done count word) = true
+keeps_request (step.FileFaulting done count) = true
+keeps_request (step.Returning answer) = true
+keeps_request _ = false
+
+-- these services, by their numbers
+abbrev pub asks_of_files : ℕ → Bool
+asks_of_files number = (number == SERVICE_SEEK) || (number == SERVICE_SET_SIZE) || (number == SERVICE_READ) || (number == SERVICE_STAT)
+
+-- the same by the words that are kept for the service, as beneath the handler of page faults
 abbrev pub keeps_page_beneath : List ℕ → Bool
 keeps_page_beneath words =
     if service_word words == SERVICE_WRITE + 1 then keeps_page (step_in words)
-    else (service_word words == SERVICE_REMOVE + 1) && keeps_path (step_in words)
+    else if (service_word words == SERVICE_REMOVE + 1) || (service_word words == SERVICE_OPEN_FILE + 1) then keeps_path (step_in words)
+    else asks_of_files (service_word words - 1) && keeps_request (step_in words)
 
 -- there is such a page
 abbrev pub has_working : Place → List ℕ → Bool
 has_working (place.InService (service.Write fd va len) at) words = keeps_page at
 has_working (place.InService (service.Remove path) at) words = keeps_path at
+has_working (place.InService (service.OpenFile path mode) at) words = keeps_path at
+has_working (place.InService (service.Seek fd offset) at) words = keeps_request at
+has_working (place.InService (service.SetSize fd size) at) words = keeps_request at
+has_working (place.InService (service.Read fd va len) at) words = keeps_request at
+has_working (place.InService (service.Stat fd va) at) words = keeps_request at
 has_working (place.InHandler at) words = keeps_page_beneath words
 has_working _ words = false
 
@@ -104,6 +153,13 @@ pub record LibraryPages (at : Place) (words : List ℕ) (row : EntryRow) : Type 
   pub no_working : has_working at words ≡ false → row (page_number UTEMP) ≡ None
   pub none : (p : ℕ) → is_programs p ≡ false → is_descriptor p ≡ false → p ≢ page_number UXSTACK → p ≢ page_number PFTEMP →
       p ≢ page_number UTEMP → row p ≡ None
+
+-- The page at UTEMP has the first n of these bytes.
+pub record HasTaken (v : View) (bytes : List ℕ) (n : ℕ) : Type 0 where
+  pub entry : Entry
+  pub stands : v.row (page_number UTEMP) ≡ Some entry
+  pub own_page : is_shared entry.perm ≡ false
+  pub same : (i : ℕ) → i < n → slice_index (v.bytes entry.frame) i ≡ slice_index bytes i
 
 -- ---- the frame of a page fault
 

@@ -20,7 +20,8 @@ use Rattle.lib_os.specs.declared.user_os.Stop.{Stop}
 use Rattle.lib_os.specs.declared.user_os.Stop.TheVariants as stop
 use Rattle.lib_os.specs.declared.progress.Progress.{Progress}
 use Rattle.lib_os.specs.declared.progress.Progress.TheVariants as progress
-use Rattle.lib_os.specs.declared.numbers.TheConstants.{DESCRIPTORS, FSREQ_REMOVE, FSREQ_SYNC, PAGE_WORDS, REQUEST, SHORT_QUANTUM}
+use Rattle.lib_os.specs.declared.numbers.TheConstants.{DESCRIPTORS, FSREQ_REMOVE, FSREQ_SEEK, FSREQ_SET_SIZE, FSREQ_SYNC, FSREQ_WRITE, PAGE_WORDS}
+use Rattle.lib_os.specs.declared.numbers.TheConstants.{REQUEST, SHORT_QUANTUM, FSREQ_READ, FSREQ_STAT, FSREQ_OPEN}
 use Rattle.lib_os.specs.declared.place.HandlerStep.{HandlerStep}
 use Rattle.lib_os.specs.declared.place.HandlerStep.TheVariants as handler
 use Rattle.lib_os.specs.declared.place.Place.{Place}
@@ -34,7 +35,7 @@ use Rattle.lib_os.specs.AbstractRun.{abs_step, may_wait}
 use Rattle.lib_os.specs.InOrder.{IsInOrder}
 use Rattle.lib_os.specs.Need.{EachHasUse, count_below}
 use Rattle.lib_os.specs.Places.{place_of}
-use Rattle.lib_os.specs.Rows.{Names, EntryRow, rows_of, is_cow}
+use Rattle.lib_os.specs.Rows.{Names, EntryRow, rows_of, is_cow, is_descriptor}
 use Rattle.lib_os.specs.StandsFor.{AwaitsRequest, StandsFor}
 use Rattle.lib_os.specs.UserCalls.{Output, Prints, PrintsPart}
 
@@ -85,6 +86,12 @@ is_pausing (place.InService (service.Wait id) (step.Pausing perm)) = true
 is_pausing (place.InService (service.Send id value va) (step.Pausing perm)) = true
 is_pausing (place.InService service.Sync (step.Pausing id)) = true
 is_pausing (place.InService (service.Remove path) (step.Pausing id)) = true
+is_pausing (place.InService (service.Write fd va len) (step.Pausing id)) = true
+is_pausing (place.InService (service.OpenFile path mode) (step.OpenPausing id fd)) = true
+is_pausing (place.InService (service.Seek fd offset) (step.Pausing id)) = true
+is_pausing (place.InService (service.SetSize fd size) (step.Pausing id)) = true
+is_pausing (place.InService (service.Read fd va len) (step.Pausing id)) = true
+is_pausing (place.InService (service.Stat fd va) (step.Pausing id)) = true
 is_pausing _ = false
 
 -- What a step leaves, whatever it stands for: the last turn and the number of turns, and how many frames there are; where
@@ -109,8 +116,9 @@ frames_asked number =
 
 -- How many frames a step may take from the list, by where its environment stands: fork takes one for the child's directory, one for a
 -- table of the child's with each page that it maps there, and two for the child's stack; the handler takes two for a page and its table;
--- write, remove and page_new take as many, and a message or a request that is tried one, for a table of the page that goes with it. A page that is
--- mapped over another takes none, since its table is there; a step of a program takes none, and so does each other step.
+-- write, remove, open_file, seek, set_size, read, stat and page_new take as many, and a message or a request that is tried one, for a table of
+-- the page that goes with it. A page that is mapped over another takes none, since its table is there; a step of a program takes none, and so does each
+-- other step.
 abbrev pub frames_at : Place → ℕ
 frames_at (place.InService (service.PageNew va flags) at) = 2
 frames_at (place.InService (service.Send id value va) (step.Trying perm)) = 1
@@ -118,10 +126,22 @@ frames_at (place.InService (service.Wait id) (step.Trying perm)) = 1
 frames_at (place.InService service.Sync (step.Asking id)) = 1
 frames_at (place.InService (service.Remove path) (step.Asking id)) = 1
 frames_at (place.InService (service.Remove path) step.TakingPage) = 2
+frames_at (place.InService (service.OpenFile path mode) (step.OpenAsking id fd)) = 1
+frames_at (place.InService (service.OpenFile path mode) step.TakingPage) = 2
+frames_at (place.InService (service.Seek fd offset) (step.Asking id)) = 1
+frames_at (place.InService (service.Seek fd offset) step.TakingPage) = 2
+frames_at (place.InService (service.SetSize fd size) (step.Asking id)) = 1
+frames_at (place.InService (service.SetSize fd size) step.TakingPage) = 2
+frames_at (place.InService (service.Read fd va len) (step.Asking id)) = 1
+frames_at (place.InService (service.Read fd va len) step.TakingPage) = 2
+frames_at (place.InService (service.Stat fd va) (step.Asking id)) = 1
+frames_at (place.InService (service.Stat fd va) step.TakingPage) = 2
 frames_at (place.InService service.Fork step.Entered) = 1
 frames_at (place.InService service.Fork (step.MapChild id page perm)) = 1
 frames_at (place.InService service.Fork (step.ChildStack id)) = 2
 frames_at (place.InService (service.Write fd va len) step.TakingPage) = 2
+frames_at (place.InService (service.Write fd va len) step.TakingRequest) = 2
+frames_at (place.InService (service.Write fd va len) (step.Asking id)) = 1
 frames_at (place.InHandler (handler.Taking va)) = 2
 frames_at _ = 0
 
@@ -187,12 +207,16 @@ steps_left step.TargetEntry = 4
 steps_left (step.DroppingDescriptor fd) = 3
 steps_left step.MappingDescriptor = 2
 steps_left step.Ending = 1
-steps_left step.ReadingDevice = most_copy_steps + 2074
+steps_left step.ReadingDevice = most_copy_steps + 2075
+steps_left step.ReadingMode = most_copy_steps + 2074
 steps_left step.TakingPage = most_copy_steps + 2073
+steps_left step.TakingRequest = most_copy_steps + 2073
 steps_left (step.Keeping done word left) = most_copy_steps + 2073 + left
+steps_left (step.KeepingBytes done word left start) = most_copy_steps + 2073 + left
 steps_left (step.BufferRegion done word) = most_copy_steps + 2072
 steps_left (step.BufferEntry done word) = most_copy_steps + 2071
 steps_left (step.Gathering done) = 4
+steps_left (step.GatheringBytes done start) = 4
 steps_left step.Printing = 3
 steps_left step.Getting = 3
 steps_left (step.Delivering done word) = 5
@@ -201,8 +225,28 @@ steps_left step.Releasing = 1
 steps_left (step.Asking id) = 6
 steps_left (step.Awaiting id) = 2
 steps_left (step.ReadingReply id) = 1
+steps_left step.ReadingNumber = 10
+steps_left (step.StoringNumber number) = 9
+steps_left step.StoringCount = 8
 steps_left step.Identifying = 7
 steps_left (step.Clearing id) = 2
+steps_left (step.CountingReply id) = most_copy_steps + 2073
+steps_left (step.FileRegion done count) = most_copy_steps + 2072
+steps_left (step.FileEntry done count) = most_copy_steps + 2071
+steps_left (step.LoadingBytes done count) = most_copy_steps + 7
+steps_left (step.LoadingRest done count first) = most_copy_steps + 6
+steps_left (step.PuttingBytes done count word) = 5
+steps_left (step.FileFaulting done count) = 2070
+steps_left (step.Returning answer) = 1
+steps_left step.FreeRegion = 50
+steps_left (step.FreeEntry fd) = 9 + (DESCRIPTORS - fd)
+steps_left (step.StoringMode fd) = 8
+steps_left (step.OpenIdentifying fd) = 7
+steps_left (step.OpenAsking id fd) = 6
+steps_left (step.OpenPausing id fd) = 7
+steps_left (step.OpenAwaiting id fd) = 2
+steps_left (step.OpenClearing id fd) = 2
+steps_left (step.ReadingOpened id fd) = 1
 
 -- those behind which pages are copied: read and stat put their bytes into the program's memory, an access raises the fault that ends the
 -- environment, and the program goes on
@@ -210,6 +254,9 @@ abbrev pub counts_copies : Step → Bool
 counts_copies (step.Delivering done word) = true
 counts_copies (step.Faulting done word) = true
 counts_copies step.Releasing = true
+counts_copies (step.PuttingBytes done count word) = true
+counts_copies (step.FileFaulting done count) = true
+counts_copies (step.Returning answer) = true
 counts_copies _ = false
 
 -- The same of the handler of page faults, for one fault, with those of a service beneath it: a page is loaded and stored word by word.
@@ -291,9 +338,9 @@ KeepsWorking n before after =
     (m : ℕ) (b : Born) → m ≢ n → a.slots m ≡ born b → is_live (slot_at after m) ≡ true →
     rows_of after.spaces (slot_at after m).directory (page_number UTEMP) ≡ rows_of before.spaces (slot_at before m).directory (page_number UTEMP)
 
--- none of the pages of the environment in slot n has this frame
+-- none of the pages of the environment in slot n has this frame, but those of its descriptors, to which it never writes
 abbrev pub LacksFrame : KernelState → ℕ → ℕ → Type 0
-LacksFrame s n f = (p : ℕ) (e : Entry) → s.spaces.entries (slot_at s n).directory p ≡ Some e → e.frame ≢ f
+LacksFrame s n f = (p : ℕ) (e : Entry) → is_descriptor p ≡ false → s.spaces.entries (slot_at s n).directory p ≡ Some e → e.frame ≢ f
 
 -- What is left to the file server by a step of the environment in slot n: it stands where it stood, in the same space, and its pages which that
 -- environment has not hold what they held.
@@ -327,19 +374,35 @@ pub record GivesPage (n : ℕ) (before after : KernelState) : Type 0 where
   pub spaces : inserted before.spaces (slot_at before 0).directory (page_number REQUEST) (record { frame = entry.frame; perm = request_perm })
       ≡ Some after.spaces
 
+-- With it the word of a request comes.
+abbrev pub BringsWithPage : ℕ → ℕ → KernelState → KernelState → Type 0
+BringsWithPage word n before after =
+    (slot_at after 0 ≡ with_message_in (slot_at before 0) (slot_at before n).id word request_perm) × GivesPage n before after
+
 -- What comes to the server by a service that asks it: the word of its request, and a page or none; ⊥ for one that doesn't ask.
 abbrev pub BringsRequest : Service → ℕ → KernelState → KernelState → Type 0
 BringsRequest service.Sync n before after =
     (slot_at after 0 ≡ with_word (slot_at before 0) (slot_at before n).id FSREQ_SYNC) × (after.spaces ≡ before.spaces)
-BringsRequest (service.Remove path) n before after =
-    (slot_at after 0 ≡ with_message_in (slot_at before 0) (slot_at before n).id FSREQ_REMOVE request_perm) × GivesPage n before after
+BringsRequest (service.Remove path) n before after = BringsWithPage FSREQ_REMOVE n before after
+BringsRequest (service.OpenFile path mode) n before after = BringsWithPage FSREQ_OPEN n before after
+BringsRequest (service.Seek fd offset) n before after = BringsWithPage FSREQ_SEEK n before after
+BringsRequest (service.SetSize fd size) n before after = BringsWithPage FSREQ_SET_SIZE n before after
+BringsRequest (service.Write fd va len) n before after = BringsWithPage FSREQ_WRITE n before after
+BringsRequest (service.Read fd va len) n before after = BringsWithPage FSREQ_READ n before after
+BringsRequest (service.Stat fd va) n before after = BringsWithPage FSREQ_STAT n before after
 BringsRequest _ n before after = ⊥
+
+-- the step at which it asks, with its id; open_file has its descriptor beside
+abbrev pub asking_step : Service → ℕ → ℕ → Step
+asking_step (service.OpenFile path mode) id fd = step.OpenAsking id fd
+asking_step _ id fd = step.Asking id
 
 -- The environment in slot n has asked the server, which waited: its request has come.
 pub record AsksServer (n : ℕ) (before after : KernelState) : Type 0 where
   pub by_service : Service
   pub id : ℕ
-  pub at : place_of (slot_at before n) ≡ place.InService by_service (step.Asking id)
+  pub fd : ℕ
+  pub at : place_of (slot_at before n) ≡ place.InService by_service (asking_step by_service id fd)
   pub waited : AwaitsRequest (slot_at before 0)
   pub brings : BringsRequest by_service n before after
 

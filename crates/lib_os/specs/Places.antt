@@ -1,6 +1,6 @@
 -- Where an environment stands between two steps, as it is spelled in its registers and in the twelve words that it keeps
 -- for the library. Of these the first is 0 where no service runs, and else the service's number and 1; the second tells how
--- far the service is, and the next three what it has found out. What the program gave stands in its registers, which
+-- far the service is, and the next four what it has found out. What the program gave stands in its registers, which
 -- nobody changes until the service answers, but for EAX. Where ESP lies on the stack of the handler of page faults, that runs:
 -- EIP tells how far it is, and the other registers what it has found out, since the frame of the fault keeps those of the
 -- program; the words are left as they are. (The form is this system's own.)
@@ -28,7 +28,12 @@ use Rattle.lib_os.specs.declared.numbers.TheConstants.{STEP_TARGET_ENTRY, STEP_D
 use Rattle.lib_os.specs.declared.numbers.TheConstants.{STEP_READING_DEVICE, STEP_BUFFER_REGION, STEP_BUFFER_ENTRY, STEP_TAKING_PAGE}
 use Rattle.lib_os.specs.declared.numbers.TheConstants.{STEP_GATHERING, STEP_KEEPING, STEP_PRINTING, STEP_RELEASING, STEP_GETTING}
 use Rattle.lib_os.specs.declared.numbers.TheConstants.{STEP_DELIVERING, STEP_FAULTING, STEP_ASKING, STEP_AWAITING, STEP_READING_REPLY}
-use Rattle.lib_os.specs.declared.numbers.TheConstants.{STEP_IDENTIFYING, STEP_CLEARING}
+use Rattle.lib_os.specs.declared.numbers.TheConstants.{STEP_IDENTIFYING, STEP_CLEARING, STEP_READING_MODE, STEP_READING_NUMBER}
+use Rattle.lib_os.specs.declared.numbers.TheConstants.{STEP_STORING_NUMBER, STEP_STORING_COUNT, STEP_TAKING_REQUEST, STEP_GATHERING_BYTES}
+use Rattle.lib_os.specs.declared.numbers.TheConstants.{STEP_KEEPING_BYTES, STEP_COUNTING_REPLY, STEP_FILE_REGION, STEP_FILE_ENTRY, STEP_LOADING_BYTES}
+use Rattle.lib_os.specs.declared.numbers.TheConstants.{STEP_LOADING_REST, STEP_PUTTING_BYTES, STEP_FILE_FAULTING, STEP_RETURNING, STEP_FREE_REGION}
+use Rattle.lib_os.specs.declared.numbers.TheConstants.{STEP_FREE_ENTRY, STEP_STORING_MODE, STEP_OPEN_IDENTIFYING, STEP_OPEN_ASKING, STEP_OPEN_PAUSING}
+use Rattle.lib_os.specs.declared.numbers.TheConstants.{STEP_OPEN_AWAITING, STEP_OPEN_CLEARING, STEP_READING_OPENED}
 use Rattle.lib_os.specs.Services.{service_of}
 
 -- ---- places
@@ -49,6 +54,45 @@ second_word words = get_or words 3 0
 abbrev pub third_word : List ℕ → ℕ
 third_word words = get_or words 4 0
 
+abbrev pub fourth_word : List ℕ → ℕ
+fourth_word words = get_or words 5 0
+
+-- how far a service is that asks the file server, from there on; or fork, where it undoes what it did
+abbrev pub request_step_in : List ℕ → Step
+request_step_in words =
+    let n = step_word words in
+    if n == STEP_ASKING then step.Asking (first_word words)
+    else if n == STEP_AWAITING then step.Awaiting (first_word words)
+    else if n == STEP_READING_REPLY then step.ReadingReply (first_word words)
+    else if n == STEP_IDENTIFYING then step.Identifying
+    else if n == STEP_CLEARING then step.Clearing (first_word words)
+    else if n == STEP_READING_MODE then step.ReadingMode
+    else if n == STEP_READING_NUMBER then step.ReadingNumber
+    else if n == STEP_STORING_NUMBER then step.StoringNumber (first_word words)
+    else if n == STEP_STORING_COUNT then step.StoringCount
+    else if n == STEP_TAKING_REQUEST then step.TakingRequest
+    else if n == STEP_GATHERING_BYTES then step.GatheringBytes (first_word words) (second_word words)
+    else if n == STEP_KEEPING_BYTES then step.KeepingBytes (first_word words) (second_word words) (third_word words) (fourth_word words)
+    else if n == STEP_COUNTING_REPLY then step.CountingReply (first_word words)
+    else if n == STEP_FILE_REGION then step.FileRegion (first_word words) (second_word words)
+    else if n == STEP_FILE_ENTRY then step.FileEntry (first_word words) (second_word words)
+    else if n == STEP_LOADING_BYTES then step.LoadingBytes (first_word words) (second_word words)
+    else if n == STEP_LOADING_REST then step.LoadingRest (first_word words) (second_word words) (third_word words)
+    else if n == STEP_PUTTING_BYTES then step.PuttingBytes (first_word words) (second_word words) (third_word words)
+    else if n == STEP_FILE_FAULTING then step.FileFaulting (first_word words) (second_word words)
+    else if n == STEP_RETURNING then step.Returning (first_word words)
+    else if n == STEP_FREE_REGION then step.FreeRegion
+    else if n == STEP_FREE_ENTRY then step.FreeEntry (first_word words)
+    else if n == STEP_STORING_MODE then step.StoringMode (first_word words)
+    else if n == STEP_OPEN_IDENTIFYING then step.OpenIdentifying (first_word words)
+    else if n == STEP_OPEN_ASKING then step.OpenAsking (first_word words) (second_word words)
+    else if n == STEP_OPEN_PAUSING then step.OpenPausing (first_word words) (second_word words)
+    else if n == STEP_OPEN_AWAITING then step.OpenAwaiting (first_word words) (second_word words)
+    else if n == STEP_OPEN_CLEARING then step.OpenClearing (first_word words) (second_word words)
+    else if n == STEP_READING_OPENED then step.ReadingOpened (first_word words) (second_word words)
+    else step.Undoing (first_word words) (second_word words)
+
+-- how far a service is
 unfoldable pub step_in : List ℕ → Step
 step_in words =
     let n = step_word words in
@@ -84,12 +128,7 @@ step_in words =
     else if n == STEP_GETTING then step.Getting
     else if n == STEP_DELIVERING then step.Delivering (first_word words) (second_word words)
     else if n == STEP_FAULTING then step.Faulting (first_word words) (second_word words)
-    else if n == STEP_ASKING then step.Asking (first_word words)
-    else if n == STEP_AWAITING then step.Awaiting (first_word words)
-    else if n == STEP_READING_REPLY then step.ReadingReply (first_word words)
-    else if n == STEP_IDENTIFYING then step.Identifying
-    else if n == STEP_CLEARING then step.Clearing (first_word words)
-    else step.Undoing (first_word words) (second_word words)
+    else request_step_in words
 
 -- ESP lies on the stack of the handler of page faults
 abbrev pub is_handlers : ℕ → Bool
@@ -165,6 +204,31 @@ words_at number (step.Awaiting id) = place_words number STEP_AWAITING id 0 0
 words_at number (step.ReadingReply id) = place_words number STEP_READING_REPLY id 0 0
 words_at number step.Identifying = place_words number STEP_IDENTIFYING 0 0 0
 words_at number (step.Clearing id) = place_words number STEP_CLEARING id 0 0
+words_at number step.ReadingMode = place_words number STEP_READING_MODE 0 0 0
+words_at number step.ReadingNumber = place_words number STEP_READING_NUMBER 0 0 0
+words_at number (step.StoringNumber kept) = place_words number STEP_STORING_NUMBER kept 0 0
+words_at number step.StoringCount = place_words number STEP_STORING_COUNT 0 0 0
+words_at number step.TakingRequest = place_words number STEP_TAKING_REQUEST 0 0 0
+words_at number (step.GatheringBytes done start) = place_words number STEP_GATHERING_BYTES done start 0
+words_at number (step.KeepingBytes done word left start) =
+    (number + 1) ∷ STEP_KEEPING_BYTES ∷ done ∷ word ∷ left ∷ start ∷ 0 ∷ 0 ∷ 0 ∷ 0 ∷ 0 ∷ 0 ∷ []
+words_at number (step.CountingReply id) = place_words number STEP_COUNTING_REPLY id 0 0
+words_at number (step.FileRegion done count) = place_words number STEP_FILE_REGION done count 0
+words_at number (step.FileEntry done count) = place_words number STEP_FILE_ENTRY done count 0
+words_at number (step.LoadingBytes done count) = place_words number STEP_LOADING_BYTES done count 0
+words_at number (step.LoadingRest done count first) = place_words number STEP_LOADING_REST done count first
+words_at number (step.PuttingBytes done count word) = place_words number STEP_PUTTING_BYTES done count word
+words_at number (step.FileFaulting done count) = place_words number STEP_FILE_FAULTING done count 0
+words_at number (step.Returning answer) = place_words number STEP_RETURNING answer 0 0
+words_at number step.FreeRegion = place_words number STEP_FREE_REGION 0 0 0
+words_at number (step.FreeEntry fd) = place_words number STEP_FREE_ENTRY fd 0 0
+words_at number (step.StoringMode fd) = place_words number STEP_STORING_MODE fd 0 0
+words_at number (step.OpenIdentifying fd) = place_words number STEP_OPEN_IDENTIFYING fd 0 0
+words_at number (step.OpenAsking id fd) = place_words number STEP_OPEN_ASKING id fd 0
+words_at number (step.OpenPausing id fd) = place_words number STEP_OPEN_PAUSING id fd 0
+words_at number (step.OpenAwaiting id fd) = place_words number STEP_OPEN_AWAITING id fd 0
+words_at number (step.OpenClearing id fd) = place_words number STEP_OPEN_CLEARING id fd 0
+words_at number (step.ReadingOpened id fd) = place_words number STEP_READING_OPENED id fd 0
 
 -- the words with which a program's INT 0x40 leaves it; all numbers that name no service are kept as one
 abbrev pub words_entered : Regs → List ℕ

@@ -1,6 +1,6 @@
 -- Which service a program asks for by INT 0x40. Its number stands in EAX, what it is given in EDX, ECX and EBX, in this
 -- order, and it answers in EAX. (The numbers are this system's own.)
-use Rattle.std.specs.Prelude.{ℕ, ◌==◌, ◌&&◌, ◌||◌, nat_le, Bool, true, false, if◌then◌else◌}
+use Rattle.std.specs.Prelude.{ℕ, ◌==◌, nat_le, Bool, true, false, if◌then◌else◌}
 use Rattle.jos_base.specs.declared.registers.Regs.{Regs}
 use Rattle.lib_os.specs.declared.numbers.TheConstants.{SERVICE_EXIT, SERVICE_CPUTS, SERVICE_GETID, SERVICE_YIELD}
 use Rattle.lib_os.specs.declared.numbers.TheConstants.{SERVICE_FORK, SERVICE_WAIT, SERVICE_PAGE_NEW, SERVICE_PAGE_DROP}
@@ -47,10 +47,9 @@ last_services r =
 unfoldable pub named_service : Regs → Service
 named_service r = first_services r (last_services r)
 
--- The numbers that name a service so far: that which opens a file, and those on pipes and on programs, are not built yet.
+-- The numbers that name a service so far: those on pipes and on programs are not built yet.
 abbrev pub is_built : ℕ → Bool
-is_built number =
-    nat_le number SERVICE_RECEIVE || (nat_le SERVICE_CLOSE number && nat_le number SERVICE_DUP)
+is_built number = nat_le number SERVICE_DUP
 
 unfoldable pub service_of : Regs → Service
 service_of r = if is_built r.eax then named_service r else service.Unknown
@@ -67,6 +66,7 @@ is_built_service (service.PageNew va flags) = true
 is_built_service (service.PageDrop va) = true
 is_built_service (service.Send id value va) = true
 is_built_service (service.Receive va from) = true
+is_built_service (service.OpenFile path mode) = true
 is_built_service (service.Close fd) = true
 is_built_service (service.Read fd va len) = true
 is_built_service (service.Write fd va len) = true

@@ -1,7 +1,7 @@
 -- When a state of the kernel stands for a state of the abstract system. It is a conjunction of parts: one of each slot,
 -- with its registers, its place in a service and its pages; one of each frame, with the entries that name it; and one of
 -- what is there once. Nothing here speaks of steps. (That the library keeps this is what its steps promise, in
--- `LibrarySteps.antt`. As far as services are built: what a descriptor names is the console, and there are no files.)
+-- `LibrarySteps.antt`. As far as objects are built, what a descriptor names is a file that is open, or the console.)
 use Rattle.std.specs.Prelude.{◌≡◌, ◌≢◌, ◌<◌, ◌≤◌, ℕ, ◌+◌, ◌-◌, ◌*◌, ◌/◌, ◌%◌, ◌^◌, ◌==◌, ◌&&◌, ◌||◌, nat_le, nat_lt, not, Bool, true, false}
 use Rattle.std.specs.Prelude.{is_some, List, [], ◌∷◌, Option, Some, None}
 use Rattle.std.specs.Prelude.{length, take, drop, slice_index, if◌then◌else◌}
@@ -10,7 +10,7 @@ use Rattle.std.specs.List.{position_or_len}
 use Rattle.jos_base.specs.declared.environment.EnvType.TheVariants.{User, FileServer}
 use Rattle.jos_base.specs.declared.environment.Status.{Status}
 use Rattle.jos_base.specs.declared.environment.Status.TheVariants.{Runnable, Running, NotRunnable}
-use Rattle.jos_base.specs.declared.numbers.TheConstants.{FDTABLE, FIRST_ENV_ID, NENV, NPTENTRIES, USTACKTOP, UTEMP, UTOP}
+use Rattle.jos_base.specs.declared.numbers.TheConstants.{FDTABLE, FIRST_ENV_ID, NENV, NPTENTRIES, PGSIZE, USTACKTOP, UTEMP, UTOP}
 use Rattle.jos_base.specs.declared.registers.Regs.{Regs}
 use Rattle.jos_base.specs.Environments.{Slot, free_slot, no_extra, is_live, is_running}
 use Rattle.jos_base.specs.KernelState.{KernelState, slot_at}
@@ -19,8 +19,9 @@ use Rattle.jos_base.specs.Reach.{Entry}
 use Rattle.jos_base.specs.SpacesState.{SpacesState}
 use Rattle.jos_base.specs.SystemCalls.{has_write}
 use Rattle.jos_base.specs.TrapFrames.{user_flags}
-use Rattle.jos_base.specs.Words.{page_number}
-use Rattle.lib_os.specs.declared.numbers.TheConstants.{DESCRIPTORS, DISKMAP, MAXOPEN, OPEN_RECORDS, PGFAULT_UPCALL, REQUEST, UXSTACK}
+use Rattle.jos_base.specs.Words.{page_number, word_at}
+use Rattle.lib_os.specs.declared.numbers.TheConstants.{DESCRIPTORS, DISKMAP, MAXOPEN, OFFSET_MAX, OPEN_RECORDS, PGFAULT_UPCALL, REQUEST}
+use Rattle.lib_os.specs.declared.numbers.TheConstants.{REQUEST_BYTES, REQUEST_COUNT, REQUEST_FILE, UXSTACK, STAT_SIZE, REQUEST_MODE}
 use Rattle.fs_layout.specs.declared.numbers.TheConstants.{MAXBLOCKS, MAXPATHLEN}
 use Rattle.lib_os.specs.declared.place.HandlerStep.TheVariants as handler
 use Rattle.lib_os.specs.declared.place.Place.{Place}
@@ -29,22 +30,23 @@ use Rattle.lib_os.specs.declared.place.Step.{Step}
 use Rattle.lib_os.specs.declared.place.Step.TheVariants as step
 use Rattle.lib_os.specs.declared.service.Service.{Service}
 use Rattle.lib_os.specs.declared.service.Service.TheVariants as service
-use Rattle.lib_os.specs.AbstractState.{AbstractState, Born, AbstractSlot, free, unborn, born, serving, Server, idle, TablePlace, terminal}
+use Rattle.lib_os.specs.AbstractState.{AbstractState, Born, AbstractSlot, free, unborn, born, serving, Server, idle, TablePlace}
 use Rattle.lib_os.specs.AbstractState.{Stage, asked, awaiting, replied, bearing, entered, gathering, receiving, received, Message, guest, at_guest, in_service}
 use Rattle.lib_os.specs.AbstractMemory.{has_page_in}
 use Rattle.lib_os.specs.AbstractMessages.{is_page_or_none}
-use Rattle.lib_os.specs.DescriptorPages.{Things, place_page}
-use Rattle.lib_os.specs.Fence.{is_inside, is_page_inside, is_resident}
-use Rattle.lib_os.specs.FileServices.{is_nul}
+use Rattle.lib_os.specs.DescriptorPages.{Things, mode_of, number_of, place_page}
+use Rattle.lib_os.specs.Fence.{is_buffer, is_inside, is_page_inside, is_resident}
+use Rattle.lib_os.specs.FileServices.{is_nul, is_mode}
 use Rattle.lib_os.specs.InOrder.{IsInOrder}
-use Rattle.lib_os.specs.LibraryPages.{View, IsOwnWritable, LibraryPages, is_library_region, region_index}
+use Rattle.lib_os.specs.LibraryPages.{View, HasTaken, IsOwnWritable, LibraryPages, is_library_region, region_index}
 use Rattle.lib_os.specs.Places.{place_of, is_handlers, service_word}
 use Rattle.lib_os.specs.Rows.{EntryRow, Names, rows_of, page_seen, logical, is_programs, is_shared, may_write, cow_perm}
 use Rattle.lib_os.specs.Rows.{descriptor_page, descriptor_seen, is_descriptor}
 use Rattle.lib_os.specs.Rows.{AgreeWhereShared, AreBytes, AreNamed, AreBeside, AreUsers, IsUsers, AreWhole, server_row}
-use Rattle.lib_os.specs.StandsInHandler.{IsAtGuest, IsInHandler, IsGiven, WantsMore, StandsDelivering, StandsPutting, buffer_of, wanted_of}
-use Rattle.lib_os.specs.StandsInHandler.{is_refused_by, next_page}
-use Rattle.lib_os.specs.StandsInHandler.{HasNoEnd, WantsMoreOfPath, may_follow, stage_with}
+use Rattle.lib_os.specs.StandsInHandler.{IsAtGuest, IsFileOpen, IsInHandler, IsGiven, IsGivenBytes, WantsMore, StandsDelivering, StandsPutting}
+use Rattle.lib_os.specs.StandsInHandler.{buffer_of, wanted_of, is_refused_by, next_page, wanted_from, HasBytes, IsLoadingBytes, IsLoadingRest}
+use Rattle.lib_os.specs.StandsInHandler.{IsPuttingBytes, MayPut, handed_with, hands_back, HasNoEnd, WantsMoreOfPath, may_follow, stage_with}
+use Rattle.lib_os.specs.StandsInHandler.{takes_path}
 
 -- ---- an environment at its place
 
@@ -177,6 +179,32 @@ pub data AwaitsOrHas (k : Slot) (b : Born) (s : Service) : Type 0 where
   awaits : IsAwaiting k b s → AwaitsOrHas k b s
   has_reply : HasReply k b s → AwaitsOrHas k b s
 
+-- The reply of one to which bytes are handed back: the page at UTEMP has them.
+pub record HasBytesReply (v : View) (k : Slot) (b : Born) (s : Service) : Type 0 where
+  pub regs : Regs
+  pub program : b.program ≡ guest regs
+  pub registers : k.registers ≡ record regs { eax = 0 }
+  pub bytes : List ℕ
+  pub phase : b.phase ≡ in_service s (replied bytes k.rendezvous.value)
+  pub awake : b.blocked ≡ false
+  pub silent : k.rendezvous.receiving ≡ false
+  pub small : k.rendezvous.value < 2 ^ 32
+  pub many : length bytes ≡ handed_with s k.rendezvous.value
+  pub small_bytes : AreBytes bytes
+  pub kept : HasTaken v bytes (length bytes)
+
+-- Where it waits nothing is known of its page, into which the server puts the bytes.
+pub data AwaitsOrHasBytes (v : View) (k : Slot) (b : Born) (s : Service) : Type 0 where
+  awaits_bytes : IsAwaiting k b s → AwaitsOrHasBytes v k b s
+  has_bytes : HasBytesReply v k b s → AwaitsOrHasBytes v k b s
+
+-- it is about to count them, or waits, and its buffer lies in the fence
+pub record IsCounting (v : View) (k : Slot) (b : Born) (s : Service) (id : ℕ) : Type 0 where
+  pub self : id ≡ k.id
+  pub hands : hands_back s ≡ true
+  pub inside : MayPut s
+  pub so : AwaitsOrHasBytes v k b s
+
 -- ---- descriptors
 
 -- a descriptor is open
@@ -186,6 +214,16 @@ IsOpen row fd = is_some (row (descriptor_page fd)) ≡ true
 -- none below this one is
 abbrev pub NoneIsOpenBelow : EntryRow → ℕ → Type 0
 NoneIsOpenBelow row n = (fd : ℕ) → fd < n → row (descriptor_page fd) ≡ None
+
+-- each below this one is
+abbrev pub EachIsOpenBelow : EntryRow → ℕ → Type 0
+EachIsOpenBelow row n = (fd : ℕ) → fd < n → IsOpen row fd
+
+-- this one is the lowest that is not
+pub record IsLowestFree (row : EntryRow) (fd : ℕ) : Type 0 where
+  pub below : fd < DESCRIPTORS
+  pub vacant : row (descriptor_page fd) ≡ None
+  pub lower : EachIsOpenBelow row fd
 
 -- the region of the descriptors' pages has a table
 abbrev pub HasTable : View → Type 0
@@ -232,45 +270,46 @@ StandsAtDevice v k b s None = ⊥
 abbrev pub writes_buffer : Service → Bool
 writes_buffer (service.Write fd va len) = false
 writes_buffer (service.Remove path) = false
+writes_buffer (service.OpenFile path mode) = false
 writes_buffer _ = true
 
 -- the page of the next byte refuses it
 abbrev pub refuses_next : EntryRow → Service → ℕ → Bool
 refuses_next row s done = is_refused_by (writes_buffer s) (row (next_page s done))
 
--- The page at UTEMP has the first n of these bytes.
-pub record HasTaken (v : View) (bytes : List ℕ) (n : ℕ) : Type 0 where
+-- The page at UTEMP has the first n of these bytes from this place on.
+pub record HasTakenFrom (v : View) (start : ℕ) (bytes : List ℕ) (n : ℕ) : Type 0 where
   pub entry : Entry
   pub stands : v.row (page_number UTEMP) ≡ Some entry
   pub own_page : is_shared entry.perm ≡ false
-  pub same : (i : ℕ) → i < n → slice_index (v.bytes entry.frame) i ≡ slice_index bytes i
+  pub same : (i : ℕ) → i < n → slice_index (v.bytes entry.frame) (start + i) ≡ slice_index bytes i
 
 -- write has taken so many bytes, which its page has, and wants more
-pub record IsTaking (v : View) (k : Slot) (b : Born) (fd va len done : ℕ) : Type 0 where
+pub record IsTaking (v : View) (k : Slot) (b : Born) (fd va len start done : ℕ) : Type 0 where
   pub bytes : List ℕ
   pub program : b.program ≡ guest k.registers
-  pub wants : WantsMore v b fd va len bytes
+  pub wants : WantsMore v b fd va len start bytes
   pub many : length bytes ≡ done
-  pub kept : HasTaken v bytes done
+  pub kept : HasTakenFrom v start bytes done
   pub silent : k.rendezvous.receiving ≡ false
   pub awake : b.blocked ≡ false
 
 -- it has loaded the last so many of the bytes that it has taken, and its page has those before
-pub record IsKeeping (v : View) (k : Slot) (b : Born) (fd va len done word left : ℕ) : Type 0 where
+pub record IsKeeping (v : View) (k : Slot) (b : Born) (fd va len start done word left : ℕ) : Type 0 where
   pub bytes : List ℕ
   pub is_in : IsIn k b (service.Write fd va len) (gathering bytes)
-  pub given : IsGiven v fd va len
+  pub given : IsGivenBytes v fd va len start
   pub many : length bytes ≡ done + left
-  pub few : length bytes ≤ wanted_of len
+  pub few : length bytes ≤ wanted_from start len
   pub some : 0 < left
   pub last : left ≤ 4
   pub word_is : take left (to_le_bytes w32 word) ≡ drop done bytes
   pub small : AreBytes bytes
   -- the page of the last of them did not refuse it
   pub allowed : refuses_next v.row (service.Write fd va len) (done + left - 1) ≡ false
-  pub kept : HasTaken v bytes done
+  pub kept : HasTakenFrom v start bytes done
 
--- its page has all bytes
+-- its page has all bytes for the console
 pub record IsPrinting (v : View) (k : Slot) (b : Born) (fd va len : ℕ) : Type 0 where
   pub bytes : List ℕ
   pub is_in : IsIn k b (service.Write fd va len) (gathering bytes)
@@ -278,34 +317,36 @@ pub record IsPrinting (v : View) (k : Slot) (b : Born) (fd va len : ℕ) : Type 
   pub many : length bytes ≡ wanted_of len
   pub kept : HasTaken v bytes (length bytes)
 
--- remove has taken so many bytes of its path, which its page has, and wants more
-pub record IsTakingPath (v : View) (k : Slot) (b : Born) (path done : ℕ) : Type 0 where
+-- one that is given a path has taken so many bytes of it, which its page has, and wants more
+pub record IsTakingPath (v : View) (k : Slot) (b : Born) (s : Service) (done : ℕ) : Type 0 where
   pub bytes : List ℕ
   pub program : b.program ≡ guest k.registers
-  pub wants : WantsMoreOfPath b path bytes
+  pub wants : WantsMoreOfPath b s bytes
   pub many : length bytes ≡ done
   pub kept : HasTaken v bytes done
   pub silent : k.rendezvous.receiving ≡ false
   pub awake : b.blocked ≡ false
 
 -- it has taken so many, none of them the end, and may take no other
-pub record IsRefusingPath (k : Slot) (b : Born) (path done : ℕ) : Type 0 where
+pub record IsRefusingPath (k : Slot) (b : Born) (s : Service) (done : ℕ) : Type 0 where
   pub bytes : List ℕ
-  pub is_in : IsIn k b (service.Remove path) (stage_with bytes)
+  pub takes : takes_path s ≡ true
+  pub is_in : IsIn k b s (stage_with bytes)
   pub no_end : HasNoEnd bytes
   pub many : length bytes ≡ done
   pub few : done ≤ MAXPATHLEN
-  pub ends : may_follow path done ≡ false
+  pub ends : may_follow (buffer_of s) done ≡ false
 
 -- It is about to take the next, whose page doesn't refuse that, or to refuse its path, by whether another may follow.
-abbrev pub IsGatheringPath : Bool → View → Slot → Born → ℕ → ℕ → Type 0
-IsGatheringPath true v k b path done = IsTakingPath v k b path done × (refuses_next v.row (service.Remove path) done ≡ false)
-IsGatheringPath false v k b path done = IsRefusingPath k b path done
+abbrev pub IsGatheringPath : Bool → View → Slot → Born → Service → ℕ → Type 0
+IsGatheringPath true v k b s done = IsTakingPath v k b s done × (refuses_next v.row s done ≡ false)
+IsGatheringPath false v k b s done = IsRefusingPath k b s done
 
 -- It has loaded the last so many of the bytes that it has taken, and its page has those before, none of which is the end.
-pub record IsKeepingPath (v : View) (k : Slot) (b : Born) (path done word left : ℕ) : Type 0 where
+pub record IsKeepingPath (v : View) (k : Slot) (b : Born) (s : Service) (done word left : ℕ) : Type 0 where
   pub bytes : List ℕ
-  pub is_in : IsIn k b (service.Remove path) (gathering bytes)
+  pub takes : takes_path s ≡ true
+  pub is_in : IsIn k b s (gathering bytes)
   pub many : length bytes ≡ done + left
   pub few : length bytes ≤ MAXPATHLEN
   pub some : 0 < left
@@ -314,21 +355,164 @@ pub record IsKeepingPath (v : View) (k : Slot) (b : Born) (path done word left :
   pub small : AreBytes bytes
   pub no_end : done ≤ position_or_len is_nul bytes
   -- the page of the last of them did not refuse it
-  pub allowed : refuses_next v.row (service.Remove path) (done + left - 1) ≡ false
+  pub allowed : refuses_next v.row s (done + left - 1) ≡ false
   pub kept : HasTaken v bytes done
 
 -- The path is taken: its page has it, with its end.
-pub record HasWholePath (v : View) (k : Slot) (b : Born) (path : ℕ) : Type 0 where
+pub record HasWholePath (v : View) (k : Slot) (b : Born) (s : Service) : Type 0 where
   pub bytes : List ℕ
-  pub is_in : IsIn k b (service.Remove path) (gathering bytes)
+  pub is_in : IsIn k b s (gathering bytes)
   pub few : length bytes ≤ MAXPATHLEN
   pub small : AreBytes bytes
   pub ended : position_or_len is_nul bytes < length bytes
   pub kept : HasTaken v bytes (position_or_len is_nul bytes + 1)
 
+-- ---- a request on a file that is open
+
+-- the page at UTEMP has this word at this place
+pub record HasWordAt (v : View) (at word : ℕ) : Type 0 where
+  pub entry : Entry
+  pub stands : v.row (page_number UTEMP) ≡ Some entry
+  pub own_page : is_shared entry.perm ≡ false
+  pub word_is : word_at (slice_index (v.bytes entry.frame)) at ≡ word
+
+-- at a stage it is given a descriptor that names a file
+pub record IsOfFileAt (v : View) (k : Slot) (b : Born) (s : Service) (stage : Stage) (fd : ℕ) : Type 0 where
+  pub is_in : IsIn k b s stage
+  pub below : fd < DESCRIPTORS
+  pub file : IsFileOpen v fd
+
+-- of which it has asked nothing, and taken nothing for it
+abbrev pub IsOfFile : View → Slot → Born → Service → ℕ → Type 0
+IsOfFile v k b s fd = IsOfFileAt v k b s entered fd
+
+-- write has all bytes that it takes, which its page has behind what its request tells before
+pub record HasAllBytes (v : View) (va len : ℕ) (stage : Stage) : Type 0 where
+  pub bytes : List ℕ
+  pub stage_is : stage ≡ stage_with bytes
+  pub buffer : is_buffer va (wanted_from REQUEST_BYTES len) ≡ true
+  pub many : length bytes ≡ wanted_from REQUEST_BYTES len
+  pub kept : HasTakenFrom v REQUEST_BYTES bytes (length bytes)
+
+-- a service has what it takes for its request: the others take nothing
+abbrev pub HasForRequest : View → Service → Stage → Type 0
+HasForRequest v (service.Write fd va len) stage = HasAllBytes v va len stage
+HasForRequest v _ stage = stage ≡ entered
+
+-- what it asks of a file of this mode is not refused
+abbrev pub MayAskOf : Service → ℕ → Type 0
+MayAskOf (service.Seek fd offset) mode = offset ≤ OFFSET_MAX
+MayAskOf (service.SetSize fd size) mode = mode ≢ 0
+MayAskOf (service.Write fd va len) mode = mode ≢ 0
+MayAskOf (service.Read fd va len) mode = (mode ≢ 1) × (is_buffer va (wanted_of len) ≡ true)
+MayAskOf (service.Stat fd va) mode = is_buffer va STAT_SIZE ≡ true
+MayAskOf _ mode = ⊥
+
+-- and the offset, the size, or how many bytes it writes or wants, that goes with it; stat has none
+abbrev pub count_given : Service → ℕ
+count_given (service.Seek fd offset) = offset
+count_given (service.SetSize fd size) = size
+count_given (service.Write fd va len) = wanted_from REQUEST_BYTES len
+count_given (service.Read fd va len) = wanted_of len
+count_given _ = 0
+
+-- it is about to ask that of the file
+pub record AsksOfFile (v : View) (k : Slot) (b : Born) (s : Service) (fd : ℕ) : Type 0 where
+  pub stage : Stage
+  pub of_file : IsOfFileAt v k b s stage fd
+  pub allowed : MayAskOf s (mode_of (v.bytes of_file.file.entry.frame))
+  pub has : HasForRequest v s stage
+
+-- it has read the number of the file
+pub record HasFileNumber (v : View) (k : Slot) (b : Born) (s : Service) (fd number : ℕ) : Type 0 where
+  pub asks : AsksOfFile v k b s fd
+  pub number_is : number ≡ number_of (v.bytes asks.of_file.file.entry.frame)
+
+-- its page has the number
+pub record TellsNumber (v : View) (k : Slot) (b : Born) (s : Service) (fd : ℕ) : Type 0 where
+  pub asks : AsksOfFile v k b s fd
+  pub number_told : HasWordAt v REQUEST_FILE (number_of (v.bytes asks.of_file.file.entry.frame))
+
+-- and what goes with it
+pub record TellsOfFile (v : View) (k : Slot) (b : Born) (s : Service) (fd : ℕ) : Type 0 where
+  pub asks : AsksOfFile v k b s fd
+  pub number_told : HasWordAt v REQUEST_FILE (number_of (v.bytes asks.of_file.file.entry.frame))
+  pub count_told : HasWordAt v REQUEST_COUNT (count_given s)
+
+-- ---- a file is opened
+
+-- the page of open_file has its path, and it looks for a free descriptor, from this one on: all below are open
+pub record IsLookingForFree (v : View) (k : Slot) (b : Born) (s : Service) (fd : ℕ) : Type 0 where
+  pub whole : HasWholePath v k b s
+  pub most : fd ≤ DESCRIPTORS
+  pub lower : EachIsOpenBelow v.row fd
+  pub table : HasTable v
+
+-- it has found the lowest that is free
+pub record HasFoundFree (v : View) (k : Slot) (b : Born) (s : Service) (fd : ℕ) : Type 0 where
+  pub whole : HasWholePath v k b s
+  pub lowest : IsLowestFree v.row fd
+
+-- the page has the mode, too
+pub record TellsOpen (v : View) (k : Slot) (b : Born) (s : Service) (mode : ℕ) : Type 0 where
+  pub whole : HasWholePath v k b s
+  pub mode_told : HasWordAt v REQUEST_MODE mode
+
+-- It waits for the reply. A page that comes with it is put where that of its descriptor is.
+pub record IsAwaitingFile (v : View) (k : Slot) (b : Born) (s : Service) (fd : ℕ) : Type 0 where
+  pub program : b.program ≡ guest k.registers
+  pub phase : b.phase ≡ in_service s awaiting
+  pub blocked : b.blocked ≡ true
+  pub rendezvous : k.rendezvous.receiving ≡ true
+  pub wanted : k.rendezvous.wanted ≡ FIRST_ENV_ID
+  pub destination : k.rendezvous.destination ≡ FDTABLE + PGSIZE * fd
+  pub lowest : IsLowestFree v.row fd
+
+-- what is answered by the word of the reply: that is 0 where the file is open, by its descriptor, and else an error's number
+abbrev pub opened_answer : ℕ → ℕ → ℕ
+opened_answer value fd = if value == 0 then fd else value
+
+-- The reply has come: the kernel has set EAX to 0.
+pub record HasOpened (k : Slot) (b : Born) (s : Service) (fd : ℕ) : Type 0 where
+  pub regs : Regs
+  pub program : b.program ≡ guest regs
+  pub registers : k.registers ≡ record regs { eax = 0 }
+  pub phase : b.phase ≡ in_service s (replied [] (opened_answer k.rendezvous.value fd))
+  pub awake : b.blocked ≡ false
+  pub silent : k.rendezvous.receiving ≡ false
+  pub small : k.rendezvous.value < 2 ^ 32
+
+-- where it waits, or where the reply has come and is not read
+pub data AwaitsFileOrHas (v : View) (k : Slot) (b : Born) (s : Service) (fd : ℕ) : Type 0 where
+  awaits_file : IsAwaitingFile v k b s fd → AwaitsFileOrHas v k b s fd
+  has_opened : HasOpened k b s fd → AwaitsFileOrHas v k b s fd
+
+-- ---- requests
+
+-- the page of a service tells its request
+abbrev pub TellsRequest : View → Slot → Born → Service → Type 0
+TellsRequest v k b (service.Remove path) = HasWholePath v k b (service.Remove path)
+TellsRequest v k b (service.OpenFile path mode) = TellsOpen v k b (service.OpenFile path mode) mode
+TellsRequest v k b (service.Seek fd offset) = TellsOfFile v k b (service.Seek fd offset) fd
+TellsRequest v k b (service.SetSize fd size) = TellsOfFile v k b (service.SetSize fd size) fd
+TellsRequest v k b (service.Write fd va len) = TellsOfFile v k b (service.Write fd va len) fd
+TellsRequest v k b (service.Read fd va len) = TellsOfFile v k b (service.Read fd va len) fd
+TellsRequest v k b (service.Stat fd va) = TellsOfFile v k b (service.Stat fd va) fd
+TellsRequest v k b _ = ⊥
+
+-- ---- what is printed, and the bytes that are put
+
 -- they are printed, and the program goes on with the answer
 pub record HasPrinted (k : Slot) (b : Born) (len : ℕ) : Type 0 where
   pub program : b.program ≡ guest (record k.registers { eax = wanted_of len })
+  pub phase : b.phase ≡ at_guest
+  pub silent : k.rendezvous.receiving ≡ false
+  pub awake : b.blocked ≡ false
+
+-- the bytes of a file are put, and the program goes on with the answer
+pub record HasReturned (k : Slot) (b : Born) (s : Service) (answer : ℕ) : Type 0 where
+  pub hands : hands_back s ≡ true
+  pub program : b.program ≡ guest (record k.registers { eax = answer })
   pub phase : b.phase ≡ at_guest
   pub silent : k.rendezvous.receiving ≡ false
   pub awake : b.blocked ≡ false
@@ -343,8 +527,9 @@ pub record IsGetting (v : View) (k : Slot) (b : Born) (fd va len : ℕ) : Type 0
 abbrev pub StandsBefore : Type 0 → View → Slot → Born → Service → ℕ → ℕ → Type 0
 StandsBefore so v k b (service.Read fd va len) done word = StandsDelivering (service.Read fd va len) done word k b × so
 StandsBefore so v k b (service.Stat fd va) done word = StandsDelivering (service.Stat fd va) done word k b × so
-StandsBefore so v k b (service.Write fd va len) done word = IsTaking v k b fd va len done × so
-StandsBefore so v k b (service.Remove path) done word = IsTakingPath v k b path done × so
+StandsBefore so v k b (service.Write fd va len) done word = IsTaking v k b fd va len word done × so
+StandsBefore so v k b (service.Remove path) done word = IsTakingPath v k b (service.Remove path) done × so
+StandsBefore so v k b (service.OpenFile path mode) done word = IsTakingPath v k b (service.OpenFile path mode) done × so
 StandsBefore so v k b _ done word = ⊥
 
 -- ---- fork
@@ -384,6 +569,14 @@ StandsAtStep v k b s step.ReadingDevice = StandsAtDevice v k b s (descriptor_giv
 StandsAtStep v k b s (step.BufferRegion done word) = StandsBefore (Unit {0}) v k b s done word
 StandsAtStep v k b s (step.BufferEntry done word) = StandsBefore (v.tables (region_index (buffer_of s + done)) ≡ true) v k b s done word
 StandsAtStep v k b s (step.Faulting done word) = StandsBefore (refuses_next v.row s done ≡ true) v k b s done word
+StandsAtStep v k b s (step.CountingReply id) = IsCounting v k b s id
+StandsAtStep v k b s (step.FileRegion done count) = HasBytes v k b s done count
+StandsAtStep v k b s (step.FileEntry done count) = HasBytes v k b s done count × (v.tables (region_index (buffer_of s + done)) ≡ true)
+StandsAtStep v k b s (step.LoadingBytes done count) = IsLoadingBytes v k b s done count
+StandsAtStep v k b s (step.LoadingRest done count first) = IsLoadingRest v k b s done count first
+StandsAtStep v k b s (step.PuttingBytes done count word) = IsPuttingBytes v k b s done count word
+StandsAtStep v k b s (step.FileFaulting done count) = HasBytes v k b s done count × (refuses_next v.row s done ≡ true)
+StandsAtStep v k b s (step.Returning answer) = HasReturned k b s answer
 StandsAtStep v k b (service.Read fd va len) (step.Delivering done word) = StandsPutting v.row (service.Read fd va len) done word k b
 StandsAtStep v k b (service.Stat fd va) (step.Delivering done word) = StandsPutting v.row (service.Stat fd va) done word k b
 StandsAtStep v k b (service.Read fd va len) (step.DescriptorEntry at) = IsLookingUp v k b (service.Read fd va len) at fd
@@ -394,20 +587,93 @@ StandsAtStep v k b (service.SetSize fd size) (step.DescriptorEntry at) = IsLooki
 StandsAtStep v k b (service.Read fd va len) step.Getting = IsGetting v k b fd va len
 StandsAtStep v k b (service.Write fd va len) step.TakingPage =
     IsIn k b (service.Write fd va len) entered × IsGiven v fd va len × (0 < len)
-StandsAtStep v k b (service.Write fd va len) (step.Gathering done) =
-    IsTaking v k b fd va len done × (refuses_next v.row (service.Write fd va len) done ≡ false)
-StandsAtStep v k b (service.Write fd va len) (step.Keeping done word left) = IsKeeping v k b fd va len done word left
+StandsAtStep v k b (service.Write fd va len) (step.GatheringBytes done start) =
+    IsTaking v k b fd va len start done × (refuses_next v.row (service.Write fd va len) done ≡ false)
+StandsAtStep v k b (service.Write fd va len) (step.KeepingBytes done word left start) = IsKeeping v k b fd va len start done word left
 StandsAtStep v k b (service.Write fd va len) step.Printing = IsPrinting v k b fd va len
 StandsAtStep v k b (service.Write fd va len) step.Releasing = HasPrinted k b len
+StandsAtStep v k b (service.Write fd va len) step.ReadingMode = IsOfFile v k b (service.Write fd va len) fd
+StandsAtStep v k b (service.Write fd va len) step.TakingRequest =
+    IsIn k b (service.Write fd va len) entered × IsGivenBytes v fd va len REQUEST_BYTES
+StandsAtStep v k b (service.Write fd va len) step.ReadingNumber = AsksOfFile v k b (service.Write fd va len) fd
+StandsAtStep v k b (service.Write fd va len) (step.StoringNumber number) = HasFileNumber v k b (service.Write fd va len) fd number
+StandsAtStep v k b (service.Write fd va len) step.StoringCount = TellsNumber v k b (service.Write fd va len) fd
+StandsAtStep v k b (service.Write fd va len) step.Identifying = TellsOfFile v k b (service.Write fd va len) fd
+StandsAtStep v k b (service.Write fd va len) (step.Asking id) = (id ≡ k.id) × TellsOfFile v k b (service.Write fd va len) fd
+StandsAtStep v k b (service.Write fd va len) (step.Pausing id) = (id ≡ k.id) × TellsOfFile v k b (service.Write fd va len) fd
+StandsAtStep v k b (service.Write fd va len) (step.Awaiting id) = (id ≡ k.id) × HasAsked k b (service.Write fd va len)
+StandsAtStep v k b (service.Write fd va len) (step.Clearing id) = (id ≡ k.id) × AwaitsOrHas k b (service.Write fd va len)
+StandsAtStep v k b (service.Write fd va len) (step.ReadingReply id) = (id ≡ k.id) × HasReply k b (service.Write fd va len)
 StandsAtStep v k b (service.Remove path) step.TakingPage = IsIn k b (service.Remove path) entered × (is_inside path ≡ true)
-StandsAtStep v k b (service.Remove path) (step.Gathering done) = IsGatheringPath (may_follow path done) v k b path done
-StandsAtStep v k b (service.Remove path) (step.Keeping done word left) = IsKeepingPath v k b path done word left
-StandsAtStep v k b (service.Remove path) step.Identifying = HasWholePath v k b path
-StandsAtStep v k b (service.Remove path) (step.Asking id) = (id ≡ k.id) × HasWholePath v k b path
-StandsAtStep v k b (service.Remove path) (step.Pausing id) = (id ≡ k.id) × HasWholePath v k b path
+StandsAtStep v k b (service.Remove path) (step.Gathering done) = IsGatheringPath (may_follow path done) v k b (service.Remove path) done
+StandsAtStep v k b (service.Remove path) (step.Keeping done word left) = IsKeepingPath v k b (service.Remove path) done word left
+StandsAtStep v k b (service.Remove path) step.Identifying = HasWholePath v k b (service.Remove path)
+StandsAtStep v k b (service.Remove path) (step.Asking id) = (id ≡ k.id) × HasWholePath v k b (service.Remove path)
+StandsAtStep v k b (service.Remove path) (step.Pausing id) = (id ≡ k.id) × HasWholePath v k b (service.Remove path)
 StandsAtStep v k b (service.Remove path) (step.Awaiting id) = (id ≡ k.id) × HasAsked k b (service.Remove path)
 StandsAtStep v k b (service.Remove path) (step.Clearing id) = (id ≡ k.id) × AwaitsOrHas k b (service.Remove path)
 StandsAtStep v k b (service.Remove path) (step.ReadingReply id) = (id ≡ k.id) × HasReply k b (service.Remove path)
+StandsAtStep v k b (service.OpenFile path mode) step.TakingPage =
+    IsIn k b (service.OpenFile path mode) entered × (is_mode mode ≡ true) × (is_inside path ≡ true)
+StandsAtStep v k b (service.OpenFile path mode) (step.Gathering done) =
+    IsGatheringPath (may_follow path done) v k b (service.OpenFile path mode) done
+StandsAtStep v k b (service.OpenFile path mode) (step.Keeping done word left) = IsKeepingPath v k b (service.OpenFile path mode) done word left
+StandsAtStep v k b (service.OpenFile path mode) step.FreeRegion = HasWholePath v k b (service.OpenFile path mode)
+StandsAtStep v k b (service.OpenFile path mode) (step.FreeEntry fd) = IsLookingForFree v k b (service.OpenFile path mode) fd
+StandsAtStep v k b (service.OpenFile path mode) (step.StoringMode fd) = HasFoundFree v k b (service.OpenFile path mode) fd
+StandsAtStep v k b (service.OpenFile path mode) (step.OpenIdentifying fd) =
+    IsLowestFree v.row fd × TellsOpen v k b (service.OpenFile path mode) mode
+StandsAtStep v k b (service.OpenFile path mode) (step.OpenAsking id fd) =
+    (id ≡ k.id) × IsLowestFree v.row fd × TellsOpen v k b (service.OpenFile path mode) mode
+StandsAtStep v k b (service.OpenFile path mode) (step.OpenPausing id fd) =
+    (id ≡ k.id) × IsLowestFree v.row fd × TellsOpen v k b (service.OpenFile path mode) mode
+StandsAtStep v k b (service.OpenFile path mode) (step.OpenAwaiting id fd) =
+    (id ≡ k.id) × IsLowestFree v.row fd × HasAsked k b (service.OpenFile path mode)
+StandsAtStep v k b (service.OpenFile path mode) (step.OpenClearing id fd) =
+    (id ≡ k.id) × AwaitsFileOrHas v k b (service.OpenFile path mode) fd
+StandsAtStep v k b (service.OpenFile path mode) (step.ReadingOpened id fd) = (id ≡ k.id) × HasOpened k b (service.OpenFile path mode) fd
+StandsAtStep v k b (service.Seek fd offset) step.TakingPage = AsksOfFile v k b (service.Seek fd offset) fd
+StandsAtStep v k b (service.Seek fd offset) step.ReadingNumber = AsksOfFile v k b (service.Seek fd offset) fd
+StandsAtStep v k b (service.Seek fd offset) (step.StoringNumber number) = HasFileNumber v k b (service.Seek fd offset) fd number
+StandsAtStep v k b (service.Seek fd offset) step.StoringCount = TellsNumber v k b (service.Seek fd offset) fd
+StandsAtStep v k b (service.Seek fd offset) step.Identifying = TellsOfFile v k b (service.Seek fd offset) fd
+StandsAtStep v k b (service.Seek fd offset) (step.Asking id) = (id ≡ k.id) × TellsOfFile v k b (service.Seek fd offset) fd
+StandsAtStep v k b (service.Seek fd offset) (step.Pausing id) = (id ≡ k.id) × TellsOfFile v k b (service.Seek fd offset) fd
+StandsAtStep v k b (service.Seek fd offset) (step.Awaiting id) = (id ≡ k.id) × HasAsked k b (service.Seek fd offset)
+StandsAtStep v k b (service.Seek fd offset) (step.Clearing id) = (id ≡ k.id) × AwaitsOrHas k b (service.Seek fd offset)
+StandsAtStep v k b (service.Seek fd offset) (step.ReadingReply id) = (id ≡ k.id) × HasReply k b (service.Seek fd offset)
+StandsAtStep v k b (service.SetSize fd size) step.ReadingMode = IsOfFile v k b (service.SetSize fd size) fd
+StandsAtStep v k b (service.SetSize fd size) step.TakingPage = AsksOfFile v k b (service.SetSize fd size) fd
+StandsAtStep v k b (service.SetSize fd size) step.ReadingNumber = AsksOfFile v k b (service.SetSize fd size) fd
+StandsAtStep v k b (service.SetSize fd size) (step.StoringNumber number) = HasFileNumber v k b (service.SetSize fd size) fd number
+StandsAtStep v k b (service.SetSize fd size) step.StoringCount = TellsNumber v k b (service.SetSize fd size) fd
+StandsAtStep v k b (service.SetSize fd size) step.Identifying = TellsOfFile v k b (service.SetSize fd size) fd
+StandsAtStep v k b (service.SetSize fd size) (step.Asking id) = (id ≡ k.id) × TellsOfFile v k b (service.SetSize fd size) fd
+StandsAtStep v k b (service.SetSize fd size) (step.Pausing id) = (id ≡ k.id) × TellsOfFile v k b (service.SetSize fd size) fd
+StandsAtStep v k b (service.SetSize fd size) (step.Awaiting id) = (id ≡ k.id) × HasAsked k b (service.SetSize fd size)
+StandsAtStep v k b (service.SetSize fd size) (step.Clearing id) = (id ≡ k.id) × AwaitsOrHas k b (service.SetSize fd size)
+StandsAtStep v k b (service.SetSize fd size) (step.ReadingReply id) = (id ≡ k.id) × HasReply k b (service.SetSize fd size)
+StandsAtStep v k b (service.Read fd va len) step.ReadingMode = IsOfFile v k b (service.Read fd va len) fd
+StandsAtStep v k b (service.Read fd va len) step.TakingPage = AsksOfFile v k b (service.Read fd va len) fd
+StandsAtStep v k b (service.Read fd va len) step.ReadingNumber = AsksOfFile v k b (service.Read fd va len) fd
+StandsAtStep v k b (service.Read fd va len) (step.StoringNumber number) = HasFileNumber v k b (service.Read fd va len) fd number
+StandsAtStep v k b (service.Read fd va len) step.StoringCount = TellsNumber v k b (service.Read fd va len) fd
+StandsAtStep v k b (service.Read fd va len) step.Identifying = TellsOfFile v k b (service.Read fd va len) fd
+StandsAtStep v k b (service.Read fd va len) (step.Asking id) = (id ≡ k.id) × TellsOfFile v k b (service.Read fd va len) fd
+StandsAtStep v k b (service.Read fd va len) (step.Pausing id) = (id ≡ k.id) × TellsOfFile v k b (service.Read fd va len) fd
+StandsAtStep v k b (service.Read fd va len) (step.Awaiting id) = (id ≡ k.id) × HasAsked k b (service.Read fd va len) × MayPut (service.Read fd va len)
+StandsAtStep v k b (service.Read fd va len) (step.Clearing id) = (id ≡ k.id) × HasReply k b (service.Read fd va len)
+StandsAtStep v k b (service.Read fd va len) (step.ReadingReply id) = (id ≡ k.id) × HasReply k b (service.Read fd va len)
+StandsAtStep v k b (service.Stat fd va) step.TakingPage = AsksOfFile v k b (service.Stat fd va) fd
+StandsAtStep v k b (service.Stat fd va) step.ReadingNumber = AsksOfFile v k b (service.Stat fd va) fd
+StandsAtStep v k b (service.Stat fd va) (step.StoringNumber number) = HasFileNumber v k b (service.Stat fd va) fd number
+StandsAtStep v k b (service.Stat fd va) step.StoringCount = TellsNumber v k b (service.Stat fd va) fd
+StandsAtStep v k b (service.Stat fd va) step.Identifying = TellsOfFile v k b (service.Stat fd va) fd
+StandsAtStep v k b (service.Stat fd va) (step.Asking id) = (id ≡ k.id) × TellsOfFile v k b (service.Stat fd va) fd
+StandsAtStep v k b (service.Stat fd va) (step.Pausing id) = (id ≡ k.id) × TellsOfFile v k b (service.Stat fd va) fd
+StandsAtStep v k b (service.Stat fd va) (step.Awaiting id) = (id ≡ k.id) × HasAsked k b (service.Stat fd va) × MayPut (service.Stat fd va)
+StandsAtStep v k b (service.Stat fd va) (step.Clearing id) = (id ≡ k.id) × HasReply k b (service.Stat fd va)
+StandsAtStep v k b (service.Stat fd va) (step.ReadingReply id) = (id ≡ k.id) × HasReply k b (service.Stat fd va)
 StandsAtStep v k b (service.Wait id) (step.Trying perm) = IsWaiting k b id
 StandsAtStep v k b (service.Wait id) (step.Pausing perm) = IsWaiting k b id
 StandsAtStep v k b (service.Send id value va) (step.Trying perm) = IsTrying v.row k b id value va perm
@@ -639,10 +905,6 @@ pub record AreFreeSlots (slots abstract : List ℕ) : Type 0 where
 
 -- ---- the whole
 
--- each object is the console
-abbrev pub AllConsoles : AbstractState → Type 0
-AllConsoles a = (name : ℕ) → a.objects name ≡ terminal
-
 -- what there is of objects
 abbrev pub things_in : KernelState → AbstractState → Things
 things_in s a = record { objects = a.objects; opened = a.opened; row = server_row s.spaces s.environments.slots }
@@ -661,8 +923,6 @@ pub record StandsFor (names : Names) (s : KernelState) (a : AbstractState) : Typ
   pub free_slots : AreFreeSlots s.environments.free_slots a.free_slots
   pub first : a.slots 0 ≡ serving FIRST_ENV_ID
   pub server : HasServer s.spaces (slot_at s 0) a.opened a.files.blocks a.server
-  -- (as far as services are built)
-  pub consoles : AllConsoles a
   pub input : (s.input ≡ a.input) × AreBytes a.input
   pub last : s.last ≡ a.last
   pub turns : s.turns ≡ a.turns

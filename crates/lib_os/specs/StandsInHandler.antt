@@ -2,9 +2,9 @@
 -- hands of the library's handler: either its page is copied, and then the instruction, or the service's access, is made again, or the
 -- fault ends it.
 -- (MIT 6.828, lib/fork.c: pgfault.)
-use Rattle.std.specs.Prelude.{◌≡◌, ◌<◌, ◌^◌, ℕ, ◌+◌, ◌*◌, ◌&&◌, nat_lt, not, Bool, true, false, is_some, get_or, Option, None, Some}
-use Rattle.std.specs.Prelude.{List, [], ◌∷◌, drop, length, min, slice_index}
-use Rattle.std.specs.Int.{w32, from_le_bytes}
+use Rattle.std.specs.Prelude.{◌≡◌, ◌≢◌, ◌<◌, ◌^◌, ℕ, ◌+◌, ◌-◌, ◌*◌, ◌&&◌, nat_lt, not, Bool, true, false, is_some, get_or, Option, None, Some}
+use Rattle.std.specs.Prelude.{◌%◌, ◌≤◌, ◌==◌, zero, suc, nat_le, List, [], ◌∷◌, drop, length, min, slice_index, take, if◌then◌else◌}
+use Rattle.std.specs.Int.{w32, from_le_bytes, to_le_bytes}
 use Rattle.std.specs.List.{position_or_len}
 use Rattle.jos_base.specs.declared.memory.PageFault.{PageFault}
 use Rattle.jos_base.specs.declared.numbers.TheConstants.{FEC_PR, FEC_U, FEC_WR, PGSIZE, UTRAPFRAME_WORDS}
@@ -13,20 +13,21 @@ use Rattle.jos_base.specs.Environments.{Slot, no_extra}
 use Rattle.jos_base.specs.Reach.{Entry}
 use Rattle.jos_base.specs.SystemCalls.{has_write}
 use Rattle.jos_base.specs.TrapFrames.{frame_words, user_flags}
-use Rattle.jos_base.specs.Words.{page_number, has_bit}
+use Rattle.jos_base.specs.Words.{page_number, has_bit, word_at}
 use Rattle.fs_layout.specs.declared.numbers.TheConstants.{MAXPATHLEN}
-use Rattle.lib_os.specs.declared.numbers.TheConstants.{DESCRIPTORS, DEVICE_CONSOLE, PFTEMP, TRANSFER_MAX}
+use Rattle.lib_os.specs.declared.numbers.TheConstants.{DESCRIPTORS, DEVICE_CONSOLE, DEVICE_FILE, PFTEMP, REQUEST_BYTES, TRANSFER_MAX, STAT_SIZE}
 use Rattle.lib_os.specs.declared.place.HandlerStep.{HandlerStep}
 use Rattle.lib_os.specs.declared.place.HandlerStep.TheVariants as handler
 use Rattle.lib_os.specs.declared.place.Place.TheVariants as place
 use Rattle.lib_os.specs.declared.place.Step.TheVariants as step
 use Rattle.lib_os.specs.declared.service.Service.{Service}
 use Rattle.lib_os.specs.declared.service.Service.TheVariants as service
-use Rattle.lib_os.specs.AbstractState.{Born, guest, at_guest, faulted, in_service, Stage, delivering, entered, gathering}
-use Rattle.lib_os.specs.DescriptorPages.{device_of}
+use Rattle.lib_os.specs.AbstractState.{Born, guest, at_guest, faulted, in_service, Stage, delivering, entered, gathering, replied}
+use Rattle.lib_os.specs.DescriptorPages.{device_of, mode_of}
+use Rattle.lib_os.specs.Answers.{moved_at_once}
 use Rattle.lib_os.specs.Fence.{is_buffer, is_inside, is_resident}
-use Rattle.lib_os.specs.FileServices.{is_nul, terminal_stat}
-use Rattle.lib_os.specs.LibraryPages.{View, HasFrame}
+use Rattle.lib_os.specs.FileServices.{is_nul, terminal_stat, is_mode}
+use Rattle.lib_os.specs.LibraryPages.{View, HasFrame, HasTaken}
 use Rattle.lib_os.specs.Places.{place_of}
 use Rattle.lib_os.specs.Rows.{EntryRow, is_shared, is_cow, descriptor_page, AreBytes}
 
@@ -90,6 +91,7 @@ buffer_of (service.Read fd va len) = va
 buffer_of (service.Write fd va len) = va
 buffer_of (service.Stat fd va) = va
 buffer_of (service.Remove path) = path
+buffer_of (service.OpenFile path mode) = path
 buffer_of _ = 0
 
 -- the page of the byte behind so many
@@ -115,17 +117,118 @@ pub record IsConsoleOpen (v : View) (fd : ℕ) : Type 0 where
   pub stands : v.row (descriptor_page fd) ≡ Some entry
   pub device : device_of (v.bytes entry.frame) ≡ DEVICE_CONSOLE
 
+-- or a file
+pub record IsFileOpen (v : View) (fd : ℕ) : Type 0 where
+  pub entry : Entry
+  pub stands : v.row (descriptor_page fd) ≡ Some entry
+  pub device : device_of (v.bytes entry.frame) ≡ DEVICE_FILE
+
+-- or a file that may be written
+pub record IsWritableFile (v : View) (fd : ℕ) : Type 0 where
+  pub file : IsFileOpen v fd
+  pub writable : mode_of (v.bytes file.entry.frame) ≢ 0
+
 -- read and write are given a descriptor that names the console, and a buffer in the fence
 pub record IsGiven (v : View) (fd va len : ℕ) : Type 0 where
   pub below : fd < DESCRIPTORS
   pub console : IsConsoleOpen v fd
   pub buffer : is_buffer va (wanted_of len) ≡ true
 
--- write has taken these bytes, and wants more
-pub record WantsMore (v : View) (b : Born) (fd va len : ℕ) (bytes : List ℕ) : Type 0 where
+-- Write's bytes begin at this place in its page, by what its descriptor names: for the console at 0, and for a file behind what its request
+-- tells before.
+pub data BeginsAt (v : View) (fd start : ℕ) : Type 0 where
+  on_console : start ≡ 0 → IsConsoleOpen v fd → BeginsAt v fd start
+  in_file : start ≡ REQUEST_BYTES → IsWritableFile v fd → BeginsAt v fd start
+
+-- How many bytes it takes: as many as the page has from there on, at most.
+abbrev pub wanted_from : ℕ → ℕ → ℕ
+wanted_from start len = min len (PGSIZE - start)
+
+-- write is given a descriptor that names the console or a file, and a buffer in the fence
+pub record IsGivenBytes (v : View) (fd va len start : ℕ) : Type 0 where
+  pub below : fd < DESCRIPTORS
+  pub begins : BeginsAt v fd start
+  pub buffer : is_buffer va (wanted_from start len) ≡ true
+
+-- it has taken these bytes, and wants more
+pub record WantsMore (v : View) (b : Born) (fd va len start : ℕ) (bytes : List ℕ) : Type 0 where
   pub phase : b.phase ≡ in_service (service.Write fd va len) (stage_with bytes)
-  pub given : IsGiven v fd va len
-  pub fewer : length bytes < wanted_of len
+  pub given : IsGivenBytes v fd va len start
+  pub fewer : length bytes < wanted_from start len
+
+-- ---- the bytes of a file
+
+-- the services to which the file server hands bytes back
+abbrev pub hands_back : Service → Bool
+hands_back (service.Read fd va len) = true
+hands_back (service.Stat fd va) = true
+hands_back _ = false
+
+-- how many bytes these want at most
+abbrev pub most_of : Service → ℕ
+most_of (service.Read fd va len) = wanted_of len
+most_of (service.Stat fd va) = STAT_SIZE
+most_of _ = 0
+
+-- their buffer lies in the fence
+abbrev pub MayPut : Service → Type 0
+MayPut s = is_buffer (buffer_of s) (most_of s) ≡ true
+
+-- How many bytes come with a reply, by its word: read is told how many, and stat 0; none come with an error's number.
+abbrev pub handed_with : Service → ℕ → ℕ
+handed_with (service.Read fd va len) word = if nat_le word (wanted_of len) then word else 0
+handed_with (service.Stat fd va) word = if word == 0 then STAT_SIZE else 0
+handed_with _ word = 0
+
+-- and what is answered behind so many
+abbrev pub answer_behind : Service → ℕ → ℕ
+answer_behind (service.Read fd va len) count = count
+answer_behind _ count = 0
+
+-- the stage of one that has put so many of the bytes, which began at an address
+abbrev pub stage_behind : ℕ → List ℕ → ℕ → ℕ → Stage
+stage_behind va bytes answer zero = replied bytes answer
+stage_behind va bytes answer (suc n) = delivering (va + suc n) (drop (suc n) bytes) answer
+
+-- The page at UTEMP has so many bytes of the reply, of which so many are put, and not all. (With the reply the kernel has set EAX to 0.)
+pub record HasBytes (v : View) (k : Slot) (b : Born) (s : Service) (done count : ℕ) : Type 0 where
+  pub hands : hands_back s ≡ true
+  pub regs : Regs
+  pub program : b.program ≡ guest regs
+  pub registers : k.registers ≡ record regs { eax = 0 }
+  pub bytes : List ℕ
+  pub phase : b.phase ≡ in_service s (stage_behind (buffer_of s) bytes (answer_behind s count) done)
+  pub many : length bytes ≡ count
+  pub fewer : done < count
+  pub most : count ≤ TRANSFER_MAX
+  pub inside : is_buffer (buffer_of s) count ≡ true
+  pub small : AreBytes bytes
+  pub kept : HasTaken v bytes count
+  pub silent : k.rendezvous.receiving ≡ false
+  pub awake : b.blocked ≡ false
+
+-- how many of them are put at once
+abbrev pub put_at_once : Service → ℕ → ℕ → ℕ
+put_at_once s done count = moved_at_once (buffer_of s + done) (count - done)
+
+-- The page of the next byte may be written, where it stands or as a copy of it.
+pub record IsLoadingBytes (v : View) (k : Slot) (b : Born) (s : Service) (done count : ℕ) : Type 0 where
+  pub has : HasBytes v k b s done count
+  pub allowed : is_refused_by true (v.row (next_page s done)) ≡ false
+
+-- It wants four bytes that stand in two words, of which it has the first.
+pub record IsLoadingRest (v : View) (k : Slot) (b : Born) (s : Service) (done count first : ℕ) : Type 0 where
+  pub has : HasBytes v k b s done count
+  pub allowed : is_refused_by true (v.row (next_page s done)) ≡ false
+  pub whole : put_at_once s done count ≡ 4
+  pub apart : done % 4 ≢ 0
+  pub first_is : word_at (slice_index has.bytes) (done - done % 4) ≡ first
+
+-- It has loaded the next bytes.
+pub record IsPuttingBytes (v : View) (k : Slot) (b : Born) (s : Service) (done count word : ℕ) : Type 0 where
+  pub has : HasBytes v k b s done count
+  pub allowed : is_refused_by true (v.row (next_page s done)) ≡ false
+  pub word_is : take (put_at_once s done count) (to_le_bytes w32 word) ≡ take (put_at_once s done count) (drop done has.bytes)
 
 -- ---- a path
 
@@ -137,19 +240,28 @@ HasNoEnd bytes = position_or_len is_nul bytes ≡ length bytes
 abbrev pub may_follow : ℕ → ℕ → Bool
 may_follow path done = nat_lt done MAXPATHLEN && is_inside (path + done)
 
--- remove has taken these bytes of its path, and wants more
-pub record WantsMoreOfPath (b : Born) (path : ℕ) (bytes : List ℕ) : Type 0 where
-  pub phase : b.phase ≡ in_service (service.Remove path) (stage_with bytes)
+-- it is given a path, and takes the bytes of that: open_file does where the mode is one
+abbrev pub takes_path : Service → Bool
+takes_path (service.Remove path) = true
+takes_path (service.OpenFile path mode) = is_mode mode
+takes_path _ = false
+
+-- it has taken these bytes of its path, and wants more
+pub record WantsMoreOfPath (b : Born) (s : Service) (bytes : List ℕ) : Type 0 where
+  pub takes : takes_path s ≡ true
+  pub phase : b.phase ≡ in_service s (stage_with bytes)
   pub no_end : HasNoEnd bytes
-  pub follows : may_follow path (length bytes) ≡ true
+  pub follows : may_follow (buffer_of s) (length bytes) ≡ true
 
 -- ---- what stands beneath the handler, where it copies a page
 
 -- The program makes its instruction again, or a service puts its bytes again.
-pub data StandsBeneath (row : EntryRow) (k : Slot) (b : Born) : Type 0 where
-  at_program : IsAtGuest k b → StandsBeneath row k b
+pub data StandsBeneath (v : View) (k : Slot) (b : Born) : Type 0 where
+  at_program : IsAtGuest k b → StandsBeneath v k b
   in_delivery : (s : Service) (done word : ℕ) → place_of k ≡ place.InService s (step.Delivering done word) →
-      StandsPutting row s done word k b → StandsBeneath row k b
+      StandsPutting v.row s done word k b → StandsBeneath v k b
+  in_handing : (s : Service) (done count word : ℕ) → place_of k ≡ place.InService s (step.PuttingBytes done count word) →
+      IsPuttingBytes v k b s done count word → StandsBeneath v k b
 
 -- ---- a page is copied
 
@@ -208,7 +320,7 @@ CopiesAt _ v va = ⊥
 
 -- The handler copies the page for who stands beneath it.
 pub record Copies (h : HandlerStep) (v : View) (k : Slot) (b : Born) (fault : PageFault) (regs : Regs) : Type 0 where
-  pub beneath : StandsBeneath v.row (record k { registers = regs }) b
+  pub beneath : StandsBeneath v (record k { registers = regs }) b
   pub error : fault.error ≡ FEC_U + FEC_PR + FEC_WR
   pub inside : is_inside fault.va ≡ true
   pub at : CopiesAt h v fault.va
@@ -233,14 +345,17 @@ pub data IsStoppedAt (write : Bool) (v : View) (b : Born) (va ip : ℕ) : Type 0
       b.phase ≡ in_service (service.Read fd buffer len) (delivering va bytes answer) → 0 < length bytes → IsStoppedAt write v b va ip
   telling : (fd buffer : ℕ) (bytes : List ℕ) (answer : ℕ) → write ≡ true →
       b.phase ≡ in_service (service.Stat fd buffer) (delivering va bytes answer) → 0 < length bytes → IsStoppedAt write v b va ip
-  writing : (fd buffer len : ℕ) (bytes : List ℕ) → write ≡ false → WantsMore v b fd buffer len bytes → va ≡ buffer + length bytes →
+  handing : (s : Service) (bytes : List ℕ) (answer : ℕ) → write ≡ true → hands_back s ≡ true → b.phase ≡ in_service s (replied bytes answer) →
+      0 < length bytes → va ≡ buffer_of s → IsStoppedAt write v b va ip
+  writing : (fd buffer len start : ℕ) (bytes : List ℕ) → write ≡ false → WantsMore v b fd buffer len start bytes → va ≡ buffer + length bytes →
       IsStoppedAt write v b va ip
-  removing : (path : ℕ) (bytes : List ℕ) → write ≡ false → WantsMoreOfPath b path bytes → va ≡ path + length bytes →
+  following : (s : Service) (bytes : List ℕ) → write ≡ false → WantsMoreOfPath b s bytes → va ≡ buffer_of s + length bytes →
       IsStoppedAt write v b va ip
 
--- The environment ends by the fault.
+-- The environment ends by the fault. Its registers are those of its program, but for EAX, which the kernel may have set with a reply.
 pub record Ends (h : HandlerStep) (v : View) (k : Slot) (b : Born) (fault : PageFault) (regs : Regs) : Type 0 where
-  pub program : b.program ≡ guest regs
+  pub eax : ℕ
+  pub program : b.program ≡ guest (record regs { eax = eax })
   pub stopped : IsStoppedAt (is_write fault.error) v b fault.va regs.eip
   pub silent : k.rendezvous.receiving ≡ false
   pub awake : b.blocked ≡ false

@@ -310,6 +310,78 @@ pub const STEP_IDENTIFYING: u32 = 36;
 /// It waits for the reply, or is about to give back the page that told its request.
 pub const STEP_CLEARING: u32 = 37;
 
+/// Its descriptor names a file, and it is about to read the mode of that.
+pub const STEP_READING_MODE: u32 = 38;
+
+/// It has a page for its request, and is about to read the number of its file.
+pub const STEP_READING_NUMBER: u32 = 39;
+
+/// It is about to put the number of its file into the page.
+pub const STEP_STORING_NUMBER: u32 = 40;
+
+/// The page has the number, and it is about to put there what goes with it.
+pub const STEP_STORING_COUNT: u32 = 41;
+
+/// Where write is that takes a page for its request to the file server.
+pub const STEP_TAKING_REQUEST: u32 = 42;
+
+/// Where write is that loads the next bytes of its buffer.
+pub const STEP_GATHERING_BYTES: u32 = 43;
+
+/// Where write is that puts what it has loaded into its page.
+pub const STEP_KEEPING_BYTES: u32 = 44;
+
+/// It waits for the reply, or is about to read the word that tells how many bytes its page has.
+pub const STEP_COUNTING_REPLY: u32 = 45;
+
+/// Its page has the bytes of a file, and it is about to read whether the region of the next byte of its buffer has a table.
+pub const STEP_FILE_REGION: u32 = 46;
+
+/// It is about to read the entry of the page of the next byte of its buffer.
+pub const STEP_FILE_ENTRY: u32 = 47;
+
+/// It is about to load the next bytes of the file.
+pub const STEP_LOADING_BYTES: u32 = 48;
+
+/// It is about to put the next bytes of the file into its buffer.
+pub const STEP_PUTTING_BYTES: u32 = 49;
+
+/// The next bytes of the file can't be put.
+pub const STEP_FILE_FAULTING: u32 = 50;
+
+/// All bytes of the file are put, and it is about to give its page back.
+pub const STEP_RETURNING: u32 = 51;
+
+/// It is about to load the second of two words, in which the next bytes of the file stand.
+pub const STEP_LOADING_REST: u32 = 52;
+
+/// It has its path, and is about to read whether the region of descriptors' pages has a table.
+pub const STEP_FREE_REGION: u32 = 53;
+
+/// It is about to read the entry of a descriptor's page, to find one that is free.
+pub const STEP_FREE_ENTRY: u32 = 54;
+
+/// It has found a free descriptor, and is about to put the mode into its page.
+pub const STEP_STORING_MODE: u32 = 55;
+
+/// It has asked that a file be opened, and is about to wait for the reply.
+pub const STEP_OPEN_AWAITING: u32 = 56;
+
+/// It waits for that reply, or is about to give back the page that told its request.
+pub const STEP_OPEN_CLEARING: u32 = 57;
+
+/// It is about to read the word of that reply.
+pub const STEP_READING_OPENED: u32 = 58;
+
+/// Its page tells which file is to be opened, and it is about to ask for its id.
+pub const STEP_OPEN_IDENTIFYING: u32 = 59;
+
+/// It is about to ask that the file be opened.
+pub const STEP_OPEN_ASKING: u32 = 60;
+
+/// It has asked that in vain, and is about to give up its turn.
+pub const STEP_OPEN_PAUSING: u32 = 61;
+
 // ---- how far the handler of page faults is, as the EIP of its environment. Nothing is fetched there: no page stands below the
 // exception stack, and that the handler runs is told by ESP.
 

@@ -10,12 +10,18 @@ use crate::numbers::{
     HANDLER_READING_IP, HANDLER_RESTORING, HANDLER_STORING, HANDLER_TAKING, HANDLER_TOUCHING,
     HANDLER_UNMAPPING, HANDLER_UNSETTING, PAGE_WORDS, PGFAULT_UPCALL, STEP_ASKING, STEP_AWAITING,
     STEP_BUFFER_ENTRY, STEP_BUFFER_REGION, STEP_CHILD_RUNS, STEP_CHILD_STACK, STEP_CHILD_UPCALL,
-    STEP_CLEARING, STEP_DELIVERING, STEP_DESCRIPTOR_ENTRY, STEP_DROPPING_DESCRIPTOR, STEP_ENDING,
-    STEP_ENTERED, STEP_FAULTING, STEP_FORK_ENTRY, STEP_FORK_REGION, STEP_GATHERING, STEP_GETTING,
-    STEP_IDENTIFYING, STEP_KEEPING, STEP_MAP_CHILD, STEP_MAPPING_DESCRIPTOR, STEP_PAUSING,
-    STEP_PRINTING, STEP_READING_DEVICE, STEP_READING_ENTRY, STEP_READING_PERM, STEP_READING_REGION,
-    STEP_READING_REPLY, STEP_READING_SENDER, STEP_READING_VALUE, STEP_RECEIVING, STEP_RELEASING,
-    STEP_REMAP, STEP_TAKING_PAGE, STEP_TARGET_ENTRY, STEP_TRYING, STEP_UNDOING, UXSTACK,
+    STEP_CLEARING, STEP_COUNTING_REPLY, STEP_DELIVERING, STEP_DESCRIPTOR_ENTRY,
+    STEP_DROPPING_DESCRIPTOR, STEP_ENDING, STEP_ENTERED, STEP_FAULTING, STEP_FILE_ENTRY,
+    STEP_FILE_FAULTING, STEP_FILE_REGION, STEP_FORK_ENTRY, STEP_FORK_REGION, STEP_FREE_ENTRY,
+    STEP_FREE_REGION, STEP_GATHERING, STEP_GATHERING_BYTES, STEP_GETTING, STEP_IDENTIFYING,
+    STEP_KEEPING, STEP_KEEPING_BYTES, STEP_LOADING_BYTES, STEP_LOADING_REST, STEP_MAP_CHILD,
+    STEP_MAPPING_DESCRIPTOR, STEP_OPEN_ASKING, STEP_OPEN_AWAITING, STEP_OPEN_CLEARING,
+    STEP_OPEN_IDENTIFYING, STEP_OPEN_PAUSING, STEP_PAUSING, STEP_PRINTING, STEP_PUTTING_BYTES,
+    STEP_READING_DEVICE, STEP_READING_ENTRY, STEP_READING_MODE, STEP_READING_NUMBER,
+    STEP_READING_OPENED, STEP_READING_PERM, STEP_READING_REGION, STEP_READING_REPLY,
+    STEP_READING_SENDER, STEP_READING_VALUE, STEP_RECEIVING, STEP_RELEASING, STEP_REMAP,
+    STEP_RETURNING, STEP_STORING_COUNT, STEP_STORING_MODE, STEP_STORING_NUMBER, STEP_TAKING_PAGE,
+    STEP_TAKING_REQUEST, STEP_TARGET_ENTRY, STEP_TRYING, STEP_UNDOING, UXSTACK,
 };
 use crate::service::{Service, service_of};
 use jos_base::{Extra, Regs, UXSTACKTOP};
@@ -26,82 +32,258 @@ pub enum Step {
     /// Nothing is done yet.
     Entered,
     /// wait and send: it is about to try. send: its page has these bits.
-    Trying { perm: u32 },
+    Trying {
+        perm: u32,
+    },
     /// wait and send: it has tried in vain, and is about to give up its turn.
-    Pausing { perm: u32 },
+    Pausing {
+        perm: u32,
+    },
     /// send: it is about to read whether the region of its page has a table.
     ReadingRegion,
     /// send: it is about to read the entry of its page.
     ReadingEntry,
     /// receive: it is about to wait, and has this id.
-    Receiving { id: u32 },
+    Receiving {
+        id: u32,
+    },
     /// receive: it waits, or is about to read the word that came.
-    ReadingValue { id: u32 },
+    ReadingValue {
+        id: u32,
+    },
     /// receive: it is about to read who sent the word.
-    ReadingSender { id: u32, value: u32 },
+    ReadingSender {
+        id: u32,
+        value: u32,
+    },
     /// receive: it is about to read the bits of the page that came.
-    ReadingPerm { id: u32, value: u32, sender: u32 },
+    ReadingPerm {
+        id: u32,
+        value: u32,
+        sender: u32,
+    },
     /// fork, with the child's id: it is about to read whether a region has a table.
-    ForkRegion { id: u32, region: u32 },
+    ForkRegion {
+        id: u32,
+        region: u32,
+    },
     /// fork: it is about to read the entry of the page of this number.
-    ForkEntry { id: u32, page: u32 },
+    ForkEntry {
+        id: u32,
+        page: u32,
+    },
     /// fork: it is about to map the page into the child, with these bits.
-    MapChild { id: u32, page: u32, perm: u32 },
+    MapChild {
+        id: u32,
+        page: u32,
+        perm: u32,
+    },
     /// fork: the child has the page, and it is about to be mapped onto itself, so that it is copied when it is written.
-    Remap { id: u32, page: u32 },
+    Remap {
+        id: u32,
+        page: u32,
+    },
     /// fork: it is about to give the child the stack of the handler of page faults.
-    ChildStack { id: u32 },
+    ChildStack {
+        id: u32,
+    },
     /// fork: it is about to give the child the handler.
-    ChildUpcall { id: u32 },
+    ChildUpcall {
+        id: u32,
+    },
     /// fork: it is about to let the child run.
-    ChildRuns { id: u32 },
+    ChildRuns {
+        id: u32,
+    },
     /// fork: it was refused something with this answer, and is about to destroy the child.
-    Undoing { id: u32, error: u32 },
+    Undoing {
+        id: u32,
+        error: u32,
+    },
     /// exit, close and dup: it is about to read the entry of this descriptor's page.
-    DescriptorEntry { fd: u32 },
+    DescriptorEntry {
+        fd: u32,
+    },
     /// dup: it is about to read the entry of the new descriptor's page.
     TargetEntry,
     /// exit, close and dup: it is about to drop this descriptor.
-    DroppingDescriptor { fd: u32 },
+    DroppingDescriptor {
+        fd: u32,
+    },
     /// dup: it is about to map the old descriptor's page as the new one's.
     MappingDescriptor,
     /// exit: no descriptor is open, and the environment is about to end.
     Ending,
     /// read, write, seek, stat and set_size: it is about to read what its descriptor names.
     ReadingDevice,
-    /// read, write, stat and remove, which have moved so many bytes of their buffer, or of their path: it is about to read whether the region
-    /// of the next has a table. read has the byte that it has taken.
-    BufferRegion { done: u32, word: u32 },
-    /// read, write, stat and remove: it is about to read the entry of the next byte's page.
-    BufferEntry { done: u32, word: u32 },
-    /// write and remove: it is about to take a page for the bytes of its buffer, or of its path.
+    /// read, write, stat, remove and open_file, which have moved so many bytes of their buffer, or of their path: it is about to read whether
+    /// the region of the next has a table. read has the byte that it has taken, and write where in its page its bytes begin.
+    BufferRegion {
+        done: u32,
+        word: u32,
+    },
+    /// read, write, stat, remove and open_file: it is about to read the entry of the next byte's page.
+    BufferEntry {
+        done: u32,
+        word: u32,
+    },
+    /// write on the console, remove, open_file, seek, set_size, read and stat: it is about to take a page for the bytes of its buffer, or of
+    /// its path, or for its request.
     TakingPage,
-    /// write and remove: it is about to load the next bytes. remove: where no byte of its path may follow, it is about to give its page back.
-    Gathering { done: u32 },
-    /// write and remove: it has loaded these bytes of a word, the next to be kept lowest, and is about to put them, or the next of them, into
-    /// its page.
-    Keeping { done: u32, word: u32, left: u32 },
-    /// write: its page has all bytes, and it is about to print them.
+    /// remove and open_file: it is about to load the next bytes of its path; where none may follow, it is about to give its page back.
+    Gathering {
+        done: u32,
+    },
+    /// remove and open_file: it has loaded these bytes of a word, the next to be kept lowest, and is about to put them, or the next of them,
+    /// into its page.
+    Keeping {
+        done: u32,
+        word: u32,
+        left: u32,
+    },
+    /// write: its page has all bytes for the console, and it is about to print them.
     Printing,
     /// write: the bytes are printed, and it is about to give its page back.
     Releasing,
     /// read: it is about to take a byte of the console.
     Getting,
     /// read and stat: it is about to put the next bytes into the buffer.
-    Delivering { done: u32, word: u32 },
-    /// read, write, stat and remove: the next byte can't be moved, and it is about to raise the fault by which the environment ends.
-    Faulting { done: u32, word: u32 },
-    /// sync and remove, with the environment's id: it is about to ask the file server. Where it has tried in vain, it is about to give up its turn, as above,
-    /// and has the id in the place of a page's bits.
-    Asking { id: u32 },
-    /// sync and remove: it has asked, and is about to wait for the reply.
-    Awaiting { id: u32 },
-    /// sync and remove: it waits for the reply, or is about to read the word that came. remove has the reply.
-    ReadingReply { id: u32 },
-    /// remove: its page has the path, and it is about to ask for its id.
+    Delivering {
+        done: u32,
+        word: u32,
+    },
+    /// read, write, stat, remove and open_file: the next byte can't be moved, and it is about to raise the fault by which the environment ends.
+    Faulting {
+        done: u32,
+        word: u32,
+    },
+    /// write, sync, remove, seek, set_size, read and stat, with the environment's id: it is about to ask the file server. Where it has tried in
+    /// vain, it is about to give up its turn, as above, and has the id in the place of a page's bits.
+    Asking {
+        id: u32,
+    },
+    /// write, sync, remove, seek, set_size, read and stat: it has asked, and is about to wait for the reply.
+    Awaiting {
+        id: u32,
+    },
+    /// write, sync, remove, seek, set_size, read and stat: it waits for the reply, or is about to read the word that came. All but sync have
+    /// the reply.
+    ReadingReply {
+        id: u32,
+    },
+    /// write, remove, seek, set_size, read and stat: its page tells the request, and it is about to ask for its id.
     Identifying,
-    /// remove: it waits for the reply, or is about to give its page back.
-    Clearing { id: u32 },
+    /// write, remove, seek, set_size, read and stat: it waits for the reply, or is about to give its page back. read and stat have the reply.
+    Clearing {
+        id: u32,
+    },
+    /// write, set_size and read: its descriptor names a file, and it is about to read the mode of that.
+    ReadingMode,
+    /// write, seek, set_size, read and stat: it has a page for its request, and is about to read the number of its file.
+    ReadingNumber,
+    /// write, seek, set_size, read and stat: it is about to put the number of its file into that page.
+    StoringNumber {
+        number: u32,
+    },
+    /// write, seek, set_size, read and stat: the page has the number, and it is about to put there too the offset, the size, or how many
+    /// bytes it writes or wants. stat puts 0 there.
+    StoringCount,
+    /// write: its descriptor names a file, and it is about to take a page for its request.
+    TakingRequest,
+    /// write, which has taken so many bytes of its buffer, that begin at this place in its page: it is about to load the next.
+    GatheringBytes {
+        done: u32,
+        start: u32,
+    },
+    /// write: it has loaded these bytes of a word, the next to be kept lowest, and is about to put them, or the next of them, into its page.
+    KeepingBytes {
+        done: u32,
+        word: u32,
+        left: u32,
+        start: u32,
+    },
+    /// read and stat, with the environment's id: it waits for the reply, or is about to read the word that came, which tells how many bytes
+    /// its page has.
+    CountingReply {
+        id: u32,
+    },
+    /// read and stat, whose page has so many bytes of a file, of which they have put so many: it is about to read whether the region of the
+    /// next byte of its buffer has a table.
+    FileRegion {
+        done: u32,
+        count: u32,
+    },
+    /// read and stat: it is about to read the entry of that byte's page.
+    FileEntry {
+        done: u32,
+        count: u32,
+    },
+    /// read and stat: it is about to load the next bytes of its page, or those of them that stand in the first of two words.
+    LoadingBytes {
+        done: u32,
+        count: u32,
+    },
+    /// read and stat: it has loaded the first of two words, and is about to load the second.
+    LoadingRest {
+        done: u32,
+        count: u32,
+        first: u32,
+    },
+    /// read and stat: it has loaded these bytes of a word, or this byte, and is about to put them into its buffer.
+    PuttingBytes {
+        done: u32,
+        count: u32,
+        word: u32,
+    },
+    /// read and stat: the next byte can't be put, and it is about to raise the fault by which the environment ends.
+    FileFaulting {
+        done: u32,
+        count: u32,
+    },
+    /// read and stat: all bytes are put, and it is about to give its page back, and then goes back with this answer.
+    Returning {
+        answer: u32,
+    },
+    /// open_file: its page has the path, and it is about to read whether the region of descriptors' pages has a table.
+    FreeRegion,
+    /// open_file: every lower descriptor is open, and it is about to read the entry of this one's page. Where all are open, it is about to
+    /// give its page back.
+    FreeEntry {
+        fd: u32,
+    },
+    /// open_file: this is the lowest descriptor that is free, and it is about to put the mode into its page.
+    StoringMode {
+        fd: u32,
+    },
+    /// open_file: its page tells the request, and it is about to ask for its id.
+    OpenIdentifying {
+        fd: u32,
+    },
+    /// open_file, with the environment's id: it is about to ask the file server.
+    OpenAsking {
+        id: u32,
+        fd: u32,
+    },
+    /// open_file: it has tried in vain, and is about to give up its turn.
+    OpenPausing {
+        id: u32,
+        fd: u32,
+    },
+    /// open_file: it has asked, and is about to wait for the reply, and with it for the page of the descriptor.
+    OpenAwaiting {
+        id: u32,
+        fd: u32,
+    },
+    /// open_file: it waits for the reply, or is about to give its page back.
+    OpenClearing {
+        id: u32,
+        fd: u32,
+    },
+    /// open_file: it is about to read the word that came. 0 is answered as the descriptor.
+    ReadingOpened {
+        id: u32,
+        fd: u32,
+    },
 }
 
 /// How far the handler of page faults is, with what it has found out: the address of the fault, its error code, the address of
@@ -217,6 +399,92 @@ pub fn handler_registers(registers: Regs, step: HandlerStep) -> Regs
     }
 }
 
+/// The same of the steps from that on at which a service asks the file server.
+#[tactic(auto, unfolding(crate::specs::Places::request_step_in))]
+fn find_request_step(words: &Extra) -> Step
+    ensures { result ≡ places.request_step_in words.now.0 }
+{
+    let [_, step, first, second, third, fourth, _, _, _, _, _, _] = words.0;
+    match step {
+        STEP_ASKING => Step::Asking { id: first },
+        STEP_AWAITING => Step::Awaiting { id: first },
+        STEP_READING_REPLY => Step::ReadingReply { id: first },
+        STEP_IDENTIFYING => Step::Identifying,
+        STEP_CLEARING => Step::Clearing { id: first },
+        STEP_READING_MODE => Step::ReadingMode,
+        STEP_READING_NUMBER => Step::ReadingNumber,
+        STEP_STORING_NUMBER => Step::StoringNumber { number: first },
+        STEP_STORING_COUNT => Step::StoringCount,
+        STEP_TAKING_REQUEST => Step::TakingRequest,
+        STEP_GATHERING_BYTES => Step::GatheringBytes {
+            done: first,
+            start: second,
+        },
+        STEP_KEEPING_BYTES => Step::KeepingBytes {
+            done: first,
+            word: second,
+            left: third,
+            start: fourth,
+        },
+        STEP_COUNTING_REPLY => Step::CountingReply { id: first },
+        STEP_FILE_REGION => Step::FileRegion {
+            done: first,
+            count: second,
+        },
+        STEP_FILE_ENTRY => Step::FileEntry {
+            done: first,
+            count: second,
+        },
+        STEP_LOADING_BYTES => Step::LoadingBytes {
+            done: first,
+            count: second,
+        },
+        STEP_LOADING_REST => Step::LoadingRest {
+            done: first,
+            count: second,
+            first: third,
+        },
+        STEP_PUTTING_BYTES => Step::PuttingBytes {
+            done: first,
+            count: second,
+            word: third,
+        },
+        STEP_FILE_FAULTING => Step::FileFaulting {
+            done: first,
+            count: second,
+        },
+        STEP_RETURNING => Step::Returning { answer: first },
+        STEP_FREE_REGION => Step::FreeRegion,
+        STEP_FREE_ENTRY => Step::FreeEntry { fd: first },
+        STEP_STORING_MODE => Step::StoringMode { fd: first },
+        STEP_OPEN_IDENTIFYING => Step::OpenIdentifying { fd: first },
+        STEP_OPEN_ASKING => Step::OpenAsking {
+            id: first,
+            fd: second,
+        },
+        STEP_OPEN_PAUSING => Step::OpenPausing {
+            id: first,
+            fd: second,
+        },
+        STEP_OPEN_AWAITING => Step::OpenAwaiting {
+            id: first,
+            fd: second,
+        },
+        STEP_OPEN_CLEARING => Step::OpenClearing {
+            id: first,
+            fd: second,
+        },
+        STEP_READING_OPENED => Step::ReadingOpened {
+            id: first,
+            fd: second,
+        },
+        _ => Step::Undoing {
+            id: first,
+            error: second,
+        },
+    }
+}
+
 /// How far a service is, by the words that the environment keeps for the library.
 #[tactic(auto, unfolding(crate::specs::Places::step_in))]
 fn find_step(words: &Extra) -> Step
@@ -292,15 +560,7 @@ fn find_step(words: &Extra) -> Step
             done: first,
             word: second,
         },
-        STEP_ASKING => Step::Asking { id: first },
-        STEP_AWAITING => Step::Awaiting { id: first },
-        STEP_READING_REPLY => Step::ReadingReply { id: first },
-        STEP_IDENTIFYING => Step::Identifying,
-        STEP_CLEARING => Step::Clearing { id: first },
-        _ => Step::Undoing {
-            id: first,
-            error: second,
-        },
+        _ => find_request_step(words),
     }
 }
 
@@ -372,6 +632,52 @@ pub fn words_at(number: u32, step: Step) -> Extra
         Step::ReadingReply { id } => (STEP_READING_REPLY, id, 0, 0),
         Step::Identifying => (STEP_IDENTIFYING, 0, 0, 0),
         Step::Clearing { id } => (STEP_CLEARING, id, 0, 0),
+        Step::ReadingMode => (STEP_READING_MODE, 0, 0, 0),
+        Step::ReadingNumber => (STEP_READING_NUMBER, 0, 0, 0),
+        Step::StoringNumber { number } => (STEP_STORING_NUMBER, number, 0, 0),
+        Step::StoringCount => (STEP_STORING_COUNT, 0, 0, 0),
+        Step::TakingRequest => (STEP_TAKING_REQUEST, 0, 0, 0),
+        Step::GatheringBytes { done, start } => (STEP_GATHERING_BYTES, done, start, 0),
+        Step::KeepingBytes {
+            done,
+            word,
+            left,
+            ..
+        } => (STEP_KEEPING_BYTES, done, word, left),
+        Step::CountingReply { id } => (STEP_COUNTING_REPLY, id, 0, 0),
+        Step::FileRegion { done, count } => (STEP_FILE_REGION, done, count, 0),
+        Step::FileEntry { done, count } => (STEP_FILE_ENTRY, done, count, 0),
+        Step::LoadingBytes { done, count } => (STEP_LOADING_BYTES, done, count, 0),
+        Step::LoadingRest { done, count, first } => (STEP_LOADING_REST, done, count, first),
+        Step::PuttingBytes { done, count, word } => (STEP_PUTTING_BYTES, done, count, word),
+        Step::FileFaulting { done, count } => (STEP_FILE_FAULTING, done, count, 0),
+        Step::Returning { answer } => (STEP_RETURNING, answer, 0, 0),
+        Step::FreeRegion => (STEP_FREE_REGION, 0, 0, 0),
+        Step::FreeEntry { fd } => (STEP_FREE_ENTRY, fd, 0, 0),
+        Step::StoringMode { fd } => (STEP_STORING_MODE, fd, 0, 0),
+        Step::OpenIdentifying { fd } => (STEP_OPEN_IDENTIFYING, fd, 0, 0),
+        Step::OpenAsking { id, fd } => (STEP_OPEN_ASKING, id, fd, 0),
+        Step::OpenPausing { id, fd } => (STEP_OPEN_PAUSING, id, fd, 0),
+        Step::OpenAwaiting { id, fd } => (STEP_OPEN_AWAITING, id, fd, 0),
+        Step::OpenClearing { id, fd } => (STEP_OPEN_CLEARING, id, fd, 0),
+        Step::ReadingOpened { id, fd } => (STEP_READING_OPENED, id, fd, 0),
     };
-    Extra([number + 1, place, first, second, third, 0, 0, 0, 0, 0, 0, 0])
+    let fourth = match step {
+        Step::KeepingBytes { start, .. } => start,
+        _ => 0,
+    };
+    Extra([
+        number + 1,
+        place,
+        first,
+        second,
+        third,
+        fourth,
+        0,
+        0,
+        0,
+        0,
+        0,
+        0,
+    ])
 }

@@ -67,7 +67,7 @@ pub enum Service {
 fn is_built(number: u32) -> bool
     ensures { result ≡ services.is_built number }
 {
-    number <= SERVICE_RECEIVE || (SERVICE_CLOSE..=SERVICE_DUP).contains(&number)
+    number <= SERVICE_DUP
 }
 
 /// The service that a program asks for by INT 0x40, with its number in EAX and what it gives in EDX, ECX and EBX.

@@ -1,4 +1,3 @@
 pub mod TerminalBytes
-pub mod Delivery
 pub mod StatLaw
 pub mod ReadLaw

@@ -1,6 +1,6 @@
--- The law of read on the console: up to the byte that it takes each of its stages is a part of one step of the abstract system; putting the
--- byte is another. The byte 4 and the end of the input both are no byte.
-use Rattle.std.proofs.Common.{◌≡◌, ◌∙◌, ◌+◌, ◌%◌, ◌==◌, ◌<◌, ℕ, Bool, true, false, not, List, [], ◌∷◌, Some}
+-- The law of read: on the console, up to the byte that it takes each of its stages is a part of one step of the abstract system; putting the
+-- byte is another. The byte 4 and the end of the input both are no byte. Of a file it looks at the mode, and then goes as `lib_bytes` has it.
+use Rattle.std.proofs.Common.{◌≡◌, ◌∙◌, ◌+◌, ◌%◌, ◌==◌, ◌||◌, ◌<◌, ℕ, Bool, true, false, not, List, [], ◌∷◌, Some}
 use Rattle.std.proofs.Common.{zero, suc, refl, sym, ap, subst, arith, if◌then◌else◌}
 use Rattle.std.proofs.lemmas.Bool.Decides.{nat_tests}
 use Rattle.jos_base.specs.declared.called.Called.{Called}
@@ -8,13 +8,13 @@ use Rattle.jos_base.specs.declared.called.Called.TheVariants.{Answered}
 use Rattle.jos_base.specs.declared.memory.Access.TheVariants.{Write}
 use Rattle.jos_base.specs.declared.numbers.TheConstants.{E_INVAL, E_NOT_SUPP, END_OF_INPUT, SYS_CGETC}
 use Rattle.jos_base.specs.declared.registers.Regs.{Regs}
-use Rattle.jos_base.specs.Environments.{Slot, is_live}
+use Rattle.jos_base.specs.Environments.{Slot, is_live, is_runnable, is_running}
 use Rattle.jos_base.specs.KernelState.{KernelState, slot_at, with_registers}
 use Rattle.jos_base.specs.Messages.{Rendezvous}
 use Rattle.jos_base.specs.SystemCalls.{call_of, cgetc_from}
 use Rattle.jos_base.specs.UserMemory.{is_allowed}
-use Rattle.jos_base.specs.Words.{negated}
-use Rattle.lib_os.specs.declared.numbers.TheConstants.{DEVICE_CONSOLE, SERVICE_READ}
+use Rattle.jos_base.specs.Words.{negated, page_number}
+use Rattle.lib_os.specs.declared.numbers.TheConstants.{DEVICE_CONSOLE, DEVICE_FILE, FD_MODE, SERVICE_READ}
 use Rattle.lib_os.specs.declared.place.Place.TheVariants as place
 use Rattle.lib_os.specs.declared.place.Step.{Step}
 use Rattle.lib_os.specs.declared.place.Step.TheVariants as step
@@ -28,8 +28,9 @@ use Rattle.lib_os.specs.FileServices.{read_terminal}
 use Rattle.lib_os.specs.InOrder.{IsInOrder}
 use Rattle.lib_os.specs.LibraryCall.{library_step}
 use Rattle.lib_os.specs.LibraryPages.{View}
+use Rattle.lib_os.specs.LibrarySteps.{Stands, is_pausing}
 use Rattle.lib_os.specs.Places.{place_of, words_at}
-use Rattle.lib_os.specs.Rows.{AreBytes, Names}
+use Rattle.lib_os.specs.Rows.{AreBytes, Names, is_descriptor}
 use Rattle.lib_os.specs.StandsFor.{IsGetting, StandsAtStep, StandsFor, borne_in, view_of}
 use Rattle.lib_os.specs.StandsInHandler.{AreSmall, IsDelivering, wanted_of}
 use Rattle.lib_os.specs.UserCalls.{CallStep, asking, called_by, giving, system}
@@ -41,6 +42,8 @@ use Rattle.lib_os.proofs.Calls.{quiet_is, system_is}
 use Rattle.lib_os.proofs.DeviceLooks.{at_device, device_answers, device_console, device_goes_on, device_object, device_va, device_word}
 use Rattle.lib_os.proofs.DeviceLooks.{names_console, reading_device}
 use Rattle.lib_os.proofs.Fences.{buffer_each}
+use Rattle.lib_os.proofs.FileOpened.{read_buffer_outside, read_finds_file, read_mode_gives, read_mode_goes_on, read_mode_refuses}
+use Rattle.lib_os.proofs.FileReads.{mode_va, told_word}
 use Rattle.lib_os.proofs.GoingOn.{in_with_words}
 use Rattle.lib_os.proofs.Loading.{loaded}
 use Rattle.lib_os.proofs.Numbered.{named_at}
@@ -51,13 +54,21 @@ use Rattle.lib_stage.specs.declared.ask.Next.{Next}
 use Rattle.lib_stage.specs.declared.ask.Next.TheVariants as next
 use Rattle.lib_stage.specs.Asks.{no_args, performed, told_as}
 use Rattle.lib_stage.specs.ServiceSteps.{Plan, ServiceHolds, nowhere, or_nowhere}
-use Rattle.lib_stage.proofs.Laws.{Falls, IsAt, KeepsBy, law_of_call, law_of_nowhere, plainly}
+use Rattle.lib_stage.proofs.Laws.{Falls, IsAt, KeepsBy, law_of_call, law_of_nowhere, plainly, store_byte_aside}
 use Rattle.lib_file.specs.Finding.{device_asked}
+use Rattle.lib_file.specs.Keeping.{next_va}
 use Rattle.lib_file.proofs.BufferLaw.{buffer_entry_holds, buffer_region_holds}
 use Rattle.lib_file.proofs.FaultingLaw.{read_faulting_holds}
-use Rattle.lib_file.proofs.Finds.{Follows, device_holds, entry_holds, region_holds, staged}
-use Rattle.lib_read.specs.ReadStages.{next_of_device, next_va, read_at, reading}
-use Rattle.lib_read.proofs.Delivery.{PutOrLost, byte_lives, delivery_holds, lost, put}
+use Rattle.lib_file.proofs.Finds.{Follows, device_holds_each, entry_holds, is_steady, load_holds, region_holds, staged}
+use Rattle.lib_request.proofs.PageAsks.{asking_holds, awaiting_holds, clearing_holds, identifying_holds, pausing_holds, reading_holds}
+use Rattle.lib_offset.proofs.OffsetStarts.{number_holds, storing_count_holds, storing_number_holds, taking_holds}
+use Rattle.lib_bytes.proofs.BytesLoad.{loading_holds, rest_holds}
+use Rattle.lib_bytes.proofs.BytesLook.{counting_holds, file_entry_holds, file_region_holds}
+use Rattle.lib_bytes.proofs.BytesPut.{faulting_holds, putting_holds}
+use Rattle.lib_bytes.proofs.BytesReturn.{returning_holds}
+use Rattle.lib_read.specs.ReadStages.{next_of_device, next_of_mode, read_at, reading}
+use Rattle.lib_bytes.proofs.Handing.{inside_aside}
+use Rattle.lib_bytes.proofs.Delivery.{PutOrLost, byte_lives, delivery_holds, lost, put}
 
 -- ---- the call that takes a byte of the input
 
@@ -99,7 +110,6 @@ taken_stands h rest small = record {
   free_slots = h.free_slots;
   first = h.first;
   server = h.server;
-  consoles = h.consoles;
   input = (refl, small);
   last = h.last;
   turns = h.turns;
@@ -160,15 +170,16 @@ module _ (s : KernelState) (n fd va len : ℕ) (live : is_live (slot_at s n) ≡
 
   module _ (stands : place_of (slot_at s n) ≡ place.InService (service.Read fd va len) step.ReadingDevice) where
     device_falls : (word : ℕ) → Falls read step.ReadingDevice (next_of_device va len word)
-    device_falls word = by_tests (word == DEVICE_CONSOLE) (is_buffer va (wanted_of len)) (len == 0)
+    device_falls word = by_tests (word == DEVICE_FILE) (word == DEVICE_CONSOLE) (is_buffer va (wanted_of len)) (len == 0)
       where
-        by_tests : (console inside none : Bool) → Falls read step.ReadingDevice
-            (if not console then next.Answer (negated E_NOT_SUPP)
+        by_tests : (of_file console inside none : Bool) → Falls read step.ReadingDevice
+            (if of_file then next.GoOn step.ReadingMode else if not console then next.Answer (negated E_NOT_SUPP)
             else if not inside then next.Answer (negated E_INVAL) else if none then next.Answer 0 else next.GoOn step.Getting)
-        by_tests false inside none = tt
-        by_tests true false none = tt
-        by_tests true true true = tt
-        by_tests true true false = omega arith
+        by_tests true console inside none = omega arith
+        by_tests false false inside none = tt
+        by_tests false true false none = tt
+        by_tests false true true true = tt
+        by_tests false true true false = omega arith
 
     module _ (names : Names) (a : AbstractState) (h : StandsFor names s a) (order : IsInOrder (loaded s n (device_va fd)))
         (word : device_word s n fd ≡ DEVICE_CONSOLE) where
@@ -207,7 +218,41 @@ module _ (s : KernelState) (n fd va len : ℕ) (live : is_live (slot_at s n) ≡
           by_test true inside = by_length inside (len == 0) refl
 
     device_told : ServiceHolds s n (staged read (device_asked fd) (next_of_device va len))
-    device_told = device_holds s n read fd refl live stands (next_of_device va len) device_falls device_follows
+    device_told =
+        device_holds_each s n read fd refl live stands (next_of_device va len) device_falls device_follows
+        (λ names a h order word. (refl, (names, read_finds_file s n fd h order word va len stands)))
+
+  -- ---- the mode of its file
+
+  module _ (stands : place_of (slot_at s n) ≡ place.InService (service.Read fd va len) step.ReadingMode) where
+    mode_falls : (word : ℕ) → Falls read step.ReadingMode (next_of_mode va len word)
+    mode_falls word = by_tests (word == 1) (is_buffer va (wanted_of len))
+      where
+        by_tests : (writing inside : Bool) → Falls read step.ReadingMode
+            (if writing then next.Answer (negated E_INVAL) else if not inside then next.Answer (negated E_INVAL) else next.GoOn step.TakingPage)
+        by_tests true inside = tt
+        by_tests false false = tt
+        by_tests false true = omega arith
+
+    mode_follows : (names : Names) (a : AbstractState) → StandsFor names s a → IsInOrder (loaded s n (mode_va fd)) →
+        Follows (loaded s n (mode_va fd)) n read a (next_of_mode va len (told_word s n fd FD_MODE))
+    mode_follows names a h order = by_mode (told_word s n fd FD_MODE == 1) refl
+      where
+        by_buffer : (told_word s n fd FD_MODE == 1) ≡ false → (t : Bool) → is_buffer va (wanted_of len) ≡ t →
+            Follows (loaded s n (mode_va fd)) n read a (if not t then next.Answer (negated E_INVAL) else next.GoOn step.TakingPage)
+        by_buffer off false outside = read_buffer_outside s n fd va len stands h order (grind (arith, nat_tests, off)) outside
+        by_buffer off true inside = (refl, (names, read_mode_goes_on s n fd va len stands h order (grind (arith, nat_tests, off)) inside))
+
+        by_mode : (t : Bool) → (told_word s n fd FD_MODE == 1) ≡ t → Follows (loaded s n (mode_va fd)) n read a
+            (if t then next.Answer (negated E_INVAL) else if not (is_buffer va (wanted_of len)) then next.Answer (negated E_INVAL)
+            else next.GoOn step.TakingPage)
+        by_mode true one = read_mode_refuses s n fd va len stands h order (grind (arith, nat_tests, one))
+        by_mode false off = by_buffer off (is_buffer va (wanted_of len)) refl
+
+    mode_told : ServiceHolds s n (staged read (ask.Load (mode_va fd)) (next_of_mode va len))
+    mode_told =
+        load_holds s n read step.ReadingMode live (is_steady read fd refl step.ReadingMode refl) stands (mode_va fd) (told_word s n fd FD_MODE)
+        (next_of_mode va len) mode_falls (λ names a h. read_mode_gives s n fd va len stands h) mode_follows
 
   -- ---- it takes a byte
 
@@ -376,55 +421,86 @@ module _ (s : KernelState) (n fd va len : ℕ) (live : is_live (slot_at s n) ≡
           lower = read_lost_lowers h n fd va len done word u off;
         })
 
+    -- the byte lies on no page of a descriptor's
+    aside : (a : AbstractState) → Stands s a → is_descriptor (page_number (next_va va done)) ≡ false
+    aside a h =
+        let v = served h.1 n (service.Read fd va len) (step.Delivering done word) stands in
+        inside_aside (va + done) (buffer_each (va + done) 1 (va + done) v.at.0.inside (omega arith) (omega arith))
+
     delivering_holds : ServiceHolds s n putting
     delivering_holds =
         delivery_holds s n putting read (step.Delivering done word)
-        (record { stands = stands; plain = plainly refl; goes_on = refl; few = omega arith })
+        (record { stands = stands; plain = store_byte_aside s n (next_va va done) (word % 256) aside; goes_on = refl; few = omega arith })
         (λ called. byte_lives s n live (next_va va done) called (word % 256)) (λ may. may) (λ called after. tt) byte_comes
 
   -- ---- each step
 
-  no_step : (at : Step) → place_of (slot_at s n) ≡ place.InService read at →
+  no_step : (at : Step) → place_of (slot_at s n) ≡ place.InService read at → is_pausing (place.InService read at) ≡ false →
       ((view : View) (k : Slot) (b : Born) → StandsAtStep view k b read at → ⊥) → ServiceHolds s n nowhere
-  no_step at stands none = law_of_nowhere s n read at stands refl none
+  no_step at stands goes_on none = law_of_nowhere s n read at stands goes_on none
 
-  pub read_holds : (at : Step) → place_of (slot_at s n) ≡ place.InService (service.Read fd va len) at →
-      ServiceHolds s n (or_nowhere reading (read_at fd va len at))
-  read_holds step.Entered stands = region_holds s n read fd refl live stands
-  read_holds (step.DescriptorEntry at) stands = entry_holds s n read fd refl live at stands
-  read_holds step.ReadingDevice stands = device_told stands
-  read_holds step.Getting stands = getting_holds stands
-  read_holds (step.BufferRegion done word) stands = buffer_region_holds s n read live done word word refl stands
-  read_holds (step.BufferEntry done word) stands = buffer_entry_holds s n read live done word word refl stands
-  read_holds (step.Delivering done word) stands = delivering_holds done word stands
-  read_holds (step.Faulting done word) stands = read_faulting_holds s n small done word fd va len stands (word % 256)
-  read_holds (step.Trying perm) stands = no_step (step.Trying perm) stands (λ view k b h. h)
-  read_holds (step.Pausing perm) stands = no_step (step.Pausing perm) stands (λ view k b h. h)
-  read_holds step.ReadingRegion stands = no_step step.ReadingRegion stands (λ view k b h. h)
-  read_holds step.ReadingEntry stands = no_step step.ReadingEntry stands (λ view k b h. h)
-  read_holds (step.Receiving id) stands = no_step (step.Receiving id) stands (λ view k b h. h)
-  read_holds (step.ReadingValue id) stands = no_step (step.ReadingValue id) stands (λ view k b h. h)
-  read_holds (step.ReadingSender id value) stands = no_step (step.ReadingSender id value) stands (λ view k b h. h)
-  read_holds (step.ReadingPerm id value sender) stands = no_step (step.ReadingPerm id value sender) stands (λ view k b h. h)
-  read_holds (step.ForkRegion child region) stands = no_step (step.ForkRegion child region) stands (λ view k b h. h)
-  read_holds (step.ForkEntry child page) stands = no_step (step.ForkEntry child page) stands (λ view k b h. h)
-  read_holds (step.MapChild child page perm) stands = no_step (step.MapChild child page perm) stands (λ view k b h. h)
-  read_holds (step.Remap child page) stands = no_step (step.Remap child page) stands (λ view k b h. h)
-  read_holds (step.ChildStack child) stands = no_step (step.ChildStack child) stands (λ view k b h. h)
-  read_holds (step.ChildUpcall child) stands = no_step (step.ChildUpcall child) stands (λ view k b h. h)
-  read_holds (step.ChildRuns child) stands = no_step (step.ChildRuns child) stands (λ view k b h. h)
-  read_holds (step.Undoing child error) stands = no_step (step.Undoing child error) stands (λ view k b h. h)
-  read_holds step.TargetEntry stands = no_step step.TargetEntry stands (λ view k b h. h)
-  read_holds (step.DroppingDescriptor at) stands = no_step (step.DroppingDescriptor at) stands (λ view k b h. h)
-  read_holds step.MappingDescriptor stands = no_step step.MappingDescriptor stands (λ view k b h. h)
-  read_holds step.Ending stands = no_step step.Ending stands (λ view k b h. h)
-  read_holds step.TakingPage stands = no_step step.TakingPage stands (λ view k b h. h)
-  read_holds (step.Gathering done) stands = no_step (step.Gathering done) stands (λ view k b h. h)
-  read_holds (step.Keeping done word left) stands = no_step (step.Keeping done word left) stands (λ view k b h. h)
-  read_holds step.Printing stands = no_step step.Printing stands (λ view k b h. h)
-  read_holds step.Releasing stands = no_step step.Releasing stands (λ view k b h. h)
-  read_holds (step.Asking own) stands = no_step (step.Asking own) stands (λ view k b h. h)
-  read_holds (step.Awaiting own) stands = no_step (step.Awaiting own) stands (λ view k b h. h)
-  read_holds (step.ReadingReply own) stands = no_step (step.ReadingReply own) stands (λ view k b h. h)
-  read_holds step.Identifying stands = no_step step.Identifying stands (λ view k b h. h)
-  read_holds (step.Clearing own) stands = no_step (step.Clearing own) stands (λ view k b h. h)
+  module _ (awake : (is_runnable (slot_at s n).status || is_running (slot_at s n).status) ≡ true) where
+    pub read_holds : (at : Step) → place_of (slot_at s n) ≡ place.InService (service.Read fd va len) at →
+        ServiceHolds s n (or_nowhere reading (read_at fd va len at))
+    read_holds step.Entered stands = region_holds s n read fd refl live stands
+    read_holds (step.DescriptorEntry at) stands = entry_holds s n read fd refl live at stands
+    read_holds step.ReadingDevice stands = device_told stands
+    read_holds step.Getting stands = getting_holds stands
+    read_holds (step.BufferRegion done word) stands = buffer_region_holds s n read live done word word refl stands
+    read_holds (step.BufferEntry done word) stands = buffer_entry_holds s n read live done word word refl stands
+    read_holds (step.Delivering done word) stands = delivering_holds done word stands
+    read_holds (step.Faulting done word) stands = read_faulting_holds s n small done word fd va len stands (word % 256)
+    read_holds step.ReadingMode stands = mode_told stands
+    read_holds step.TakingPage stands = taking_holds s n read refl live stands
+    read_holds step.ReadingNumber stands = number_holds s n read refl live stands
+    read_holds (step.StoringNumber number) stands = storing_number_holds s n read refl live number stands
+    read_holds step.StoringCount stands = storing_count_holds s n read refl live small stands
+    read_holds step.Identifying stands = identifying_holds s n read refl live 0 stands
+    read_holds (step.Asking id) stands = asking_holds s n read refl live id 0 stands
+    read_holds (step.Pausing id) stands = pausing_holds s n read refl live id 0 stands
+    read_holds (step.Awaiting id) stands = awaiting_holds s n read refl live id stands
+    read_holds (step.CountingReply id) stands = counting_holds s n read refl live awake id stands
+    read_holds (step.Clearing id) stands = clearing_holds s n read refl live awake id stands
+    read_holds (step.ReadingReply id) stands = reading_holds s n read refl live id stands
+    read_holds (step.FileRegion done count) stands = file_region_holds s n read refl live done count stands
+    read_holds (step.FileEntry done count) stands = file_entry_holds s n read refl live done count stands
+    read_holds (step.LoadingBytes done count) stands = loading_holds s n read refl live done count stands
+    read_holds (step.LoadingRest done count first) stands = rest_holds s n read refl live done count first stands
+    read_holds (step.PuttingBytes done count word) stands = putting_holds s n read refl live small done count word stands
+    read_holds (step.FileFaulting done count) stands = faulting_holds s n read refl live small done count stands
+    read_holds (step.Returning answer) stands = returning_holds s n read refl live answer stands
+    read_holds (step.Trying perm) stands = no_step (step.Trying perm) stands refl (λ view k b h. h)
+    read_holds step.ReadingRegion stands = no_step step.ReadingRegion stands refl (λ view k b h. h)
+    read_holds step.ReadingEntry stands = no_step step.ReadingEntry stands refl (λ view k b h. h)
+    read_holds (step.Receiving id) stands = no_step (step.Receiving id) stands refl (λ view k b h. h)
+    read_holds (step.ReadingValue id) stands = no_step (step.ReadingValue id) stands refl (λ view k b h. h)
+    read_holds (step.ReadingSender id value) stands = no_step (step.ReadingSender id value) stands refl (λ view k b h. h)
+    read_holds (step.ReadingPerm id value sender) stands = no_step (step.ReadingPerm id value sender) stands refl (λ view k b h. h)
+    read_holds (step.ForkRegion child region) stands = no_step (step.ForkRegion child region) stands refl (λ view k b h. h)
+    read_holds (step.ForkEntry child page) stands = no_step (step.ForkEntry child page) stands refl (λ view k b h. h)
+    read_holds (step.MapChild child page perm) stands = no_step (step.MapChild child page perm) stands refl (λ view k b h. h)
+    read_holds (step.Remap child page) stands = no_step (step.Remap child page) stands refl (λ view k b h. h)
+    read_holds (step.ChildStack child) stands = no_step (step.ChildStack child) stands refl (λ view k b h. h)
+    read_holds (step.ChildUpcall child) stands = no_step (step.ChildUpcall child) stands refl (λ view k b h. h)
+    read_holds (step.ChildRuns child) stands = no_step (step.ChildRuns child) stands refl (λ view k b h. h)
+    read_holds (step.Undoing child error) stands = no_step (step.Undoing child error) stands refl (λ view k b h. h)
+    read_holds step.TargetEntry stands = no_step step.TargetEntry stands refl (λ view k b h. h)
+    read_holds (step.DroppingDescriptor at) stands = no_step (step.DroppingDescriptor at) stands refl (λ view k b h. h)
+    read_holds step.MappingDescriptor stands = no_step step.MappingDescriptor stands refl (λ view k b h. h)
+    read_holds step.Ending stands = no_step step.Ending stands refl (λ view k b h. h)
+    read_holds (step.Gathering done) stands = no_step (step.Gathering done) stands refl (λ view k b h. h)
+    read_holds (step.Keeping done word left) stands = no_step (step.Keeping done word left) stands refl (λ view k b h. h)
+    read_holds step.Printing stands = no_step step.Printing stands refl (λ view k b h. h)
+    read_holds step.Releasing stands = no_step step.Releasing stands refl (λ view k b h. h)
+    read_holds step.TakingRequest stands = no_step step.TakingRequest stands refl (λ view k b h. h)
+    read_holds (step.GatheringBytes done start) stands = no_step (step.GatheringBytes done start) stands refl (λ view k b h. h)
+    read_holds (step.KeepingBytes done word left start) stands = no_step (step.KeepingBytes done word left start) stands refl (λ view k b h. h)
+    read_holds step.FreeRegion stands = no_step step.FreeRegion stands refl (λ view k b h. h)
+    read_holds (step.FreeEntry kept) stands = no_step (step.FreeEntry kept) stands refl (λ view k b h. h)
+    read_holds (step.StoringMode kept) stands = no_step (step.StoringMode kept) stands refl (λ view k b h. h)
+    read_holds (step.OpenIdentifying kept) stands = no_step (step.OpenIdentifying kept) stands refl (λ view k b h. h)
+    read_holds (step.OpenAsking own kept) stands = no_step (step.OpenAsking own kept) stands refl (λ view k b h. h)
+    read_holds (step.OpenPausing own kept) stands = no_step (step.OpenPausing own kept) stands refl (λ view k b h. h)
+    read_holds (step.OpenAwaiting own kept) stands = no_step (step.OpenAwaiting own kept) stands refl (λ view k b h. h)
+    read_holds (step.OpenClearing own kept) stands = no_step (step.OpenClearing own kept) stands refl (λ view k b h. h)
+    read_holds (step.ReadingOpened own kept) stands = no_step (step.ReadingOpened own kept) stands refl (λ view k b h. h)

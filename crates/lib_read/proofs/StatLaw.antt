@@ -1,19 +1,19 @@
--- The law of stat on the console: up to what its descriptor names each of its stages is a part of one step of the abstract system, in which
--- it finds what it tells; then each time it puts bytes is a step of its own.
-use Rattle.std.proofs.Common.{◌≡◌, ◌∙◌, ◌+◌, ◌++◌, ◌%◌, ◌^◌, ◌==◌, ℕ, Bool, true, false, not, [], Some, Ok}
+-- The law of stat: on the console, up to what its descriptor names each of its stages is a part of one step of the abstract system, in which
+-- it finds what it tells; then each time it puts bytes is a step of its own. Of a file it goes as `lib_bytes` has it.
+use Rattle.std.proofs.Common.{◌≡◌, ◌∙◌, ◌+◌, ◌-◌, ◌++◌, ◌%◌, ◌^◌, ◌==◌, ◌||◌, ℕ, Bool, true, false, not, [], Some, Ok}
 use Rattle.std.proofs.Common.{refl, sym, ap, arith, if◌then◌else◌}
-use Rattle.std.specs.Prelude.{drop, nat_le}
+use Rattle.std.specs.Prelude.{drop, length, nat_le}
 use Rattle.jos_base.specs.declared.called.Called.{Called}
 use Rattle.jos_base.specs.declared.memory.Access.TheVariants.{Read, Write}
 use Rattle.jos_base.specs.declared.numbers.TheConstants.{E_INVAL, E_NOT_SUPP, PGSIZE}
 use Rattle.jos_base.specs.declared.registers.Regs.{Regs}
-use Rattle.jos_base.specs.Environments.{Slot, is_live}
+use Rattle.jos_base.specs.Environments.{Slot, is_live, is_runnable, is_running}
 use Rattle.jos_base.specs.KernelState.{KernelState, slot_at, with_extra}
 use Rattle.jos_base.specs.Messages.{Rendezvous}
 use Rattle.jos_base.specs.UserMemory.{is_allowed}
-use Rattle.jos_base.specs.Words.{negated}
+use Rattle.jos_base.specs.Words.{negated, page_number}
 use Rattle.fs_layout.specs.FileActs.{stat_bytes}
-use Rattle.lib_os.specs.declared.numbers.TheConstants.{DEVICE_CONSOLE, SERVICE_STAT, STAT_SIZE}
+use Rattle.lib_os.specs.declared.numbers.TheConstants.{DEVICE_CONSOLE, DEVICE_FILE, SERVICE_STAT, STAT_SIZE}
 use Rattle.lib_os.specs.declared.place.Place.TheVariants as place
 use Rattle.lib_os.specs.declared.place.Step.{Step}
 use Rattle.lib_os.specs.declared.place.Step.TheVariants as step
@@ -27,9 +27,9 @@ use Rattle.lib_os.specs.FileServices.{terminal_stat}
 use Rattle.lib_os.specs.InOrder.{IsInOrder}
 use Rattle.lib_os.specs.LibraryCall.{library_step}
 use Rattle.lib_os.specs.LibraryPages.{View}
-use Rattle.lib_os.specs.LibrarySteps.{Lowers}
+use Rattle.lib_os.specs.LibrarySteps.{Lowers, Stands, is_pausing}
 use Rattle.lib_os.specs.Places.{place_of, words_at}
-use Rattle.lib_os.specs.Rows.{Names}
+use Rattle.lib_os.specs.Rows.{Names, is_descriptor}
 use Rattle.lib_os.specs.StandsFor.{StandsAtStep, StandsFor, borne_in}
 use Rattle.lib_os.specs.StandsInHandler.{AreSmall, IsDelivering}
 use Rattle.lib_os.specs.UserCalls.{CallStep}
@@ -38,6 +38,8 @@ use Rattle.lib_os.proofs.BytesDelivered.{stat_answers, stat_behind, stat_byte_pu
 use Rattle.lib_os.proofs.BytesDelivered.{stat_putting, stat_step, stat_word_put, terminal_byte, terminal_word}
 use Rattle.lib_os.proofs.BytesRefused.{stat_lost_after, stat_lost_byte, stat_lost_lowers, stat_lost_stands, stat_lost_word}
 use Rattle.lib_os.proofs.DeviceLooks.{at_device, device_answers, device_object, device_va, device_word, reading_device}
+use Rattle.lib_os.proofs.FileOpened.{stat_file_outside, stat_finds_file}
+use Rattle.lib_os.proofs.Fences.{buffer_each}
 use Rattle.lib_os.proofs.Loading.{loaded}
 use Rattle.lib_os.proofs.Numbered.{named_at}
 use Rattle.lib_os.proofs.Serving.{IsServed, holds_page, printed_nothing, served, step_in}
@@ -49,14 +51,21 @@ use Rattle.lib_stage.specs.declared.ask.Next.TheVariants as next
 use Rattle.lib_stage.specs.Asks.{performed, told_as}
 use Rattle.lib_stage.specs.Nexts.{seen_as, settled}
 use Rattle.lib_stage.specs.ServiceSteps.{ServiceHolds, nowhere, or_nowhere}
-use Rattle.lib_stage.proofs.Laws.{Falls, law_of_nowhere, plainly}
+use Rattle.lib_stage.proofs.Laws.{Falls, law_of_nowhere, store_byte_aside}
 use Rattle.lib_file.specs.Finding.{device_asked}
+use Rattle.lib_file.specs.Keeping.{next_va}
 use Rattle.lib_file.proofs.BufferLaw.{buffer_entry_holds, buffer_region_holds}
 use Rattle.lib_file.proofs.FaultingLaw.{stat_faulting_holds}
-use Rattle.lib_file.proofs.Finds.{Follows, device_holds, entry_holds, region_holds, staged}
-use Rattle.lib_read.specs.ReadStages.{next_va}
+use Rattle.lib_file.proofs.Finds.{Follows, device_holds_each, entry_holds, region_holds, staged}
+use Rattle.lib_request.proofs.PageAsks.{asking_holds, awaiting_holds, clearing_holds, identifying_holds, pausing_holds, reading_holds}
+use Rattle.lib_offset.proofs.OffsetStarts.{number_holds, storing_count_holds, storing_number_holds, taking_holds}
+use Rattle.lib_bytes.proofs.BytesLoad.{loading_holds, rest_holds}
+use Rattle.lib_bytes.proofs.BytesLook.{counting_holds, file_entry_holds, file_region_holds}
+use Rattle.lib_bytes.proofs.BytesPut.{faulting_holds, putting_holds}
+use Rattle.lib_bytes.proofs.BytesReturn.{returning_holds}
 use Rattle.lib_read.specs.StatStages.{delivery_asked, moved, next_of_delivery, next_of_device, stat_at, telling}
-use Rattle.lib_read.proofs.Delivery.{PutOrLost, byte_lives, delivery_holds, lost, put, word_lives}
+use Rattle.lib_bytes.proofs.Handing.{inside_aside, word_aside}
+use Rattle.lib_bytes.proofs.Delivery.{PutOrLost, byte_lives, delivery_holds, lost, put, word_lives}
 use Rattle.lib_read.proofs.TerminalBytes.{terminal_length, terminal_small}
 
 -- ---- its step in the abstract system, by its buffer
@@ -79,14 +88,27 @@ module _ (s : KernelState) (n fd va : ℕ) (live : is_live (slot_at s n) ≡ tru
 
   module _ (stands : place_of (slot_at s n) ≡ place.InService (service.Stat fd va) step.ReadingDevice) where
     device_falls : (word : ℕ) → Falls stat step.ReadingDevice (next_of_device va word)
-    device_falls word = by_tests (word == DEVICE_CONSOLE) (is_buffer va STAT_SIZE)
+    device_falls word = by_tests (word == DEVICE_FILE) (word == DEVICE_CONSOLE) (is_buffer va STAT_SIZE)
       where
-        by_tests : (console inside : Bool) → Falls stat step.ReadingDevice
-            (if not console then next.Answer (negated E_NOT_SUPP)
+        by_tests : (of_file console inside : Bool) → Falls stat step.ReadingDevice
+            (if of_file then (if not inside then next.Answer (negated E_INVAL) else next.GoOn step.TakingPage)
+            else if not console then next.Answer (negated E_NOT_SUPP)
             else if not inside then next.Answer (negated E_INVAL) else next.Show (step.BufferRegion 0 0))
-        by_tests false inside = tt
-        by_tests true false = tt
-        by_tests true true = tt
+        by_tests true console false = tt
+        by_tests true console true = omega arith
+        by_tests false false inside = tt
+        by_tests false true false = tt
+        by_tests false true true = tt
+
+    -- it names a file
+    file_follows : (names : Names) (a : AbstractState) → StandsFor names s a → IsInOrder (loaded s n (device_va fd)) → device_word s n fd ≡ DEVICE_FILE →
+        Follows (loaded s n (device_va fd)) n stat a (next_of_device va DEVICE_FILE)
+    file_follows names a h order word = by_test (is_buffer va STAT_SIZE) refl
+      where
+        by_test : (t : Bool) → is_buffer va STAT_SIZE ≡ t → Follows (loaded s n (device_va fd)) n stat a
+            (if not t then next.Answer (negated E_INVAL) else next.GoOn step.TakingPage)
+        by_test false outside = stat_file_outside s n fd h order word va stands outside
+        by_test true inside = (refl, (names, stat_finds_file s n fd h order word va stands inside))
 
     module _ (names : Names) (a : AbstractState) (h : StandsFor names s a) (order : IsInOrder (loaded s n (device_va fd)))
         (word : device_word s n fd ≡ DEVICE_CONSOLE) where
@@ -143,7 +165,7 @@ module _ (s : KernelState) (n fd va : ℕ) (live : is_live (slot_at s n) ≡ tru
           )
 
     device_told : ServiceHolds s n (staged stat (device_asked fd) (next_of_device va))
-    device_told = device_holds s n stat fd refl live stands (next_of_device va) device_falls device_follows
+    device_told = device_holds_each s n stat fd refl live stands (next_of_device va) device_falls device_follows file_follows
 
   -- ---- it puts bytes
 
@@ -233,6 +255,14 @@ module _ (s : KernelState) (n fd va : ℕ) (live : is_live (slot_at s n) ≡ tru
             lower = stat_lost_lowers h n fd va done word w off;
           })
 
+    -- they lie on no page of a descriptor's
+    aside : (a : AbstractState) → Stands s a → is_descriptor (page_number (next_va va done)) ≡ false
+    aside a h =
+        let v = served h.1 n (service.Stat fd va) (step.Delivering done word) stands in
+        let some = v.at.0.some in
+        inside_aside (va + done)
+        (buffer_each (va + done) (length (drop done terminal_stat)) (va + done) v.at.0.inside (omega arith) (omega (arith, some)))
+
     delivering_holds : ServiceHolds s n (staged stat (delivery_asked va done) (λ x. next_of_delivery va done))
     delivering_holds = by_test (moved va done == 4) refl
       where
@@ -241,58 +271,90 @@ module _ (s : KernelState) (n fd va : ℕ) (live : is_live (slot_at s n) ≡ tru
             else ask.StoreByte (next_va va done) (terminal_byte done)) (λ x. next_of_delivery va done))
         by_test true test =
             delivery_holds s n (staged stat (ask.Store (next_va va done) (terminal_word done)) (λ x. next_of_delivery va done)) stat
-            (step.Delivering done word) (record { stands = stands; plain = plainly refl; goes_on = refl; few = omega arith })
+            (step.Delivering done word)
+            (record {
+              stands = stands;
+              plain = word_aside s n (next_va va done) (STAT_SIZE - done) (terminal_word done) test aside;
+              goes_on = refl;
+              few = omega arith;
+            })
             (λ called. word_lives s n live (next_va va done) called (terminal_word done)) (λ may. may) shows
             (λ names a h. word_comes names a h test)
         by_test false test =
             delivery_holds s n (staged stat (ask.StoreByte (next_va va done) (terminal_byte done)) (λ x. next_of_delivery va done)) stat
-            (step.Delivering done word) (record { stands = stands; plain = plainly refl; goes_on = refl; few = omega arith })
+            (step.Delivering done word)
+            (record { stands = stands; plain = store_byte_aside s n (next_va va done) (terminal_byte done) aside; goes_on = refl; few = omega arith })
             (λ called. byte_lives s n live (next_va va done) called (terminal_byte done)) (λ may. may) shows
             (λ names a h. byte_comes names a h test)
 
   -- ---- each step
 
-  no_step : (at : Step) → place_of (slot_at s n) ≡ place.InService stat at →
+  no_step : (at : Step) → place_of (slot_at s n) ≡ place.InService stat at → is_pausing (place.InService stat at) ≡ false →
       ((view : View) (k : Slot) (b : Born) → StandsAtStep view k b stat at → ⊥) → ServiceHolds s n nowhere
-  no_step at stands none = law_of_nowhere s n stat at stands refl none
+  no_step at stands goes_on none = law_of_nowhere s n stat at stands goes_on none
 
-  pub stat_holds : (at : Step) → place_of (slot_at s n) ≡ place.InService (service.Stat fd va) at →
-      ServiceHolds s n (or_nowhere telling (stat_at fd va at))
-  stat_holds step.Entered stands = region_holds s n stat fd refl live stands
-  stat_holds (step.DescriptorEntry at) stands = entry_holds s n stat fd refl live at stands
-  stat_holds step.ReadingDevice stands = device_told stands
-  stat_holds (step.BufferRegion done word) stands = buffer_region_holds s n stat live done word 0 tt stands
-  stat_holds (step.BufferEntry done word) stands = buffer_entry_holds s n stat live done word 0 tt stands
-  stat_holds (step.Delivering done word) stands = delivering_holds done word stands
-  stat_holds (step.Faulting done word) stands = stat_faulting_holds s n small done word fd va stands 0
-  stat_holds (step.Trying perm) stands = no_step (step.Trying perm) stands (λ view k b h. h)
-  stat_holds (step.Pausing perm) stands = no_step (step.Pausing perm) stands (λ view k b h. h)
-  stat_holds step.ReadingRegion stands = no_step step.ReadingRegion stands (λ view k b h. h)
-  stat_holds step.ReadingEntry stands = no_step step.ReadingEntry stands (λ view k b h. h)
-  stat_holds (step.Receiving id) stands = no_step (step.Receiving id) stands (λ view k b h. h)
-  stat_holds (step.ReadingValue id) stands = no_step (step.ReadingValue id) stands (λ view k b h. h)
-  stat_holds (step.ReadingSender id value) stands = no_step (step.ReadingSender id value) stands (λ view k b h. h)
-  stat_holds (step.ReadingPerm id value sender) stands = no_step (step.ReadingPerm id value sender) stands (λ view k b h. h)
-  stat_holds (step.ForkRegion child region) stands = no_step (step.ForkRegion child region) stands (λ view k b h. h)
-  stat_holds (step.ForkEntry child page) stands = no_step (step.ForkEntry child page) stands (λ view k b h. h)
-  stat_holds (step.MapChild child page perm) stands = no_step (step.MapChild child page perm) stands (λ view k b h. h)
-  stat_holds (step.Remap child page) stands = no_step (step.Remap child page) stands (λ view k b h. h)
-  stat_holds (step.ChildStack child) stands = no_step (step.ChildStack child) stands (λ view k b h. h)
-  stat_holds (step.ChildUpcall child) stands = no_step (step.ChildUpcall child) stands (λ view k b h. h)
-  stat_holds (step.ChildRuns child) stands = no_step (step.ChildRuns child) stands (λ view k b h. h)
-  stat_holds (step.Undoing child error) stands = no_step (step.Undoing child error) stands (λ view k b h. h)
-  stat_holds step.TargetEntry stands = no_step step.TargetEntry stands (λ view k b h. h)
-  stat_holds (step.DroppingDescriptor at) stands = no_step (step.DroppingDescriptor at) stands (λ view k b h. h)
-  stat_holds step.MappingDescriptor stands = no_step step.MappingDescriptor stands (λ view k b h. h)
-  stat_holds step.Ending stands = no_step step.Ending stands (λ view k b h. h)
-  stat_holds step.TakingPage stands = no_step step.TakingPage stands (λ view k b h. h)
-  stat_holds (step.Gathering done) stands = no_step (step.Gathering done) stands (λ view k b h. h)
-  stat_holds (step.Keeping done word left) stands = no_step (step.Keeping done word left) stands (λ view k b h. h)
-  stat_holds step.Printing stands = no_step step.Printing stands (λ view k b h. h)
-  stat_holds step.Releasing stands = no_step step.Releasing stands (λ view k b h. h)
-  stat_holds step.Getting stands = no_step step.Getting stands (λ view k b h. h)
-  stat_holds (step.Asking own) stands = no_step (step.Asking own) stands (λ view k b h. h)
-  stat_holds (step.Awaiting own) stands = no_step (step.Awaiting own) stands (λ view k b h. h)
-  stat_holds (step.ReadingReply own) stands = no_step (step.ReadingReply own) stands (λ view k b h. h)
-  stat_holds step.Identifying stands = no_step step.Identifying stands (λ view k b h. h)
-  stat_holds (step.Clearing own) stands = no_step (step.Clearing own) stands (λ view k b h. h)
+  module _ (awake : (is_runnable (slot_at s n).status || is_running (slot_at s n).status) ≡ true) where
+    pub stat_holds : (at : Step) → place_of (slot_at s n) ≡ place.InService (service.Stat fd va) at →
+        ServiceHolds s n (or_nowhere telling (stat_at fd va at))
+    stat_holds step.Entered stands = region_holds s n stat fd refl live stands
+    stat_holds (step.DescriptorEntry at) stands = entry_holds s n stat fd refl live at stands
+    stat_holds step.ReadingDevice stands = device_told stands
+    stat_holds (step.BufferRegion done word) stands = buffer_region_holds s n stat live done word 0 tt stands
+    stat_holds (step.BufferEntry done word) stands = buffer_entry_holds s n stat live done word 0 tt stands
+    stat_holds (step.Delivering done word) stands = delivering_holds done word stands
+    stat_holds (step.Faulting done word) stands = stat_faulting_holds s n small done word fd va stands 0
+    stat_holds step.TakingPage stands = taking_holds s n stat refl live stands
+    stat_holds step.ReadingNumber stands = number_holds s n stat refl live stands
+    stat_holds (step.StoringNumber number) stands = storing_number_holds s n stat refl live number stands
+    stat_holds step.StoringCount stands = storing_count_holds s n stat refl live small stands
+    stat_holds step.Identifying stands = identifying_holds s n stat refl live 0 stands
+    stat_holds (step.Asking id) stands = asking_holds s n stat refl live id 0 stands
+    stat_holds (step.Pausing id) stands = pausing_holds s n stat refl live id 0 stands
+    stat_holds (step.Awaiting id) stands = awaiting_holds s n stat refl live id stands
+    stat_holds (step.CountingReply id) stands = counting_holds s n stat refl live awake id stands
+    stat_holds (step.Clearing id) stands = clearing_holds s n stat refl live awake id stands
+    stat_holds (step.ReadingReply id) stands = reading_holds s n stat refl live id stands
+    stat_holds (step.FileRegion done count) stands = file_region_holds s n stat refl live done count stands
+    stat_holds (step.FileEntry done count) stands = file_entry_holds s n stat refl live done count stands
+    stat_holds (step.LoadingBytes done count) stands = loading_holds s n stat refl live done count stands
+    stat_holds (step.LoadingRest done count first) stands = rest_holds s n stat refl live done count first stands
+    stat_holds (step.PuttingBytes done count word) stands = putting_holds s n stat refl live small done count word stands
+    stat_holds (step.FileFaulting done count) stands = faulting_holds s n stat refl live small done count stands
+    stat_holds (step.Returning answer) stands = returning_holds s n stat refl live answer stands
+    stat_holds (step.Trying perm) stands = no_step (step.Trying perm) stands refl (λ view k b h. h)
+    stat_holds step.ReadingRegion stands = no_step step.ReadingRegion stands refl (λ view k b h. h)
+    stat_holds step.ReadingEntry stands = no_step step.ReadingEntry stands refl (λ view k b h. h)
+    stat_holds (step.Receiving id) stands = no_step (step.Receiving id) stands refl (λ view k b h. h)
+    stat_holds (step.ReadingValue id) stands = no_step (step.ReadingValue id) stands refl (λ view k b h. h)
+    stat_holds (step.ReadingSender id value) stands = no_step (step.ReadingSender id value) stands refl (λ view k b h. h)
+    stat_holds (step.ReadingPerm id value sender) stands = no_step (step.ReadingPerm id value sender) stands refl (λ view k b h. h)
+    stat_holds (step.ForkRegion child region) stands = no_step (step.ForkRegion child region) stands refl (λ view k b h. h)
+    stat_holds (step.ForkEntry child page) stands = no_step (step.ForkEntry child page) stands refl (λ view k b h. h)
+    stat_holds (step.MapChild child page perm) stands = no_step (step.MapChild child page perm) stands refl (λ view k b h. h)
+    stat_holds (step.Remap child page) stands = no_step (step.Remap child page) stands refl (λ view k b h. h)
+    stat_holds (step.ChildStack child) stands = no_step (step.ChildStack child) stands refl (λ view k b h. h)
+    stat_holds (step.ChildUpcall child) stands = no_step (step.ChildUpcall child) stands refl (λ view k b h. h)
+    stat_holds (step.ChildRuns child) stands = no_step (step.ChildRuns child) stands refl (λ view k b h. h)
+    stat_holds (step.Undoing child error) stands = no_step (step.Undoing child error) stands refl (λ view k b h. h)
+    stat_holds step.TargetEntry stands = no_step step.TargetEntry stands refl (λ view k b h. h)
+    stat_holds (step.DroppingDescriptor at) stands = no_step (step.DroppingDescriptor at) stands refl (λ view k b h. h)
+    stat_holds step.MappingDescriptor stands = no_step step.MappingDescriptor stands refl (λ view k b h. h)
+    stat_holds step.Ending stands = no_step step.Ending stands refl (λ view k b h. h)
+    stat_holds (step.Gathering done) stands = no_step (step.Gathering done) stands refl (λ view k b h. h)
+    stat_holds (step.Keeping done word left) stands = no_step (step.Keeping done word left) stands refl (λ view k b h. h)
+    stat_holds step.Printing stands = no_step step.Printing stands refl (λ view k b h. h)
+    stat_holds step.Releasing stands = no_step step.Releasing stands refl (λ view k b h. h)
+    stat_holds step.Getting stands = no_step step.Getting stands refl (λ view k b h. h)
+    stat_holds step.ReadingMode stands = no_step step.ReadingMode stands refl (λ view k b h. h)
+    stat_holds step.TakingRequest stands = no_step step.TakingRequest stands refl (λ view k b h. h)
+    stat_holds (step.GatheringBytes done start) stands = no_step (step.GatheringBytes done start) stands refl (λ view k b h. h)
+    stat_holds (step.KeepingBytes done word left start) stands = no_step (step.KeepingBytes done word left start) stands refl (λ view k b h. h)
+    stat_holds step.FreeRegion stands = no_step step.FreeRegion stands refl (λ view k b h. h)
+    stat_holds (step.FreeEntry kept) stands = no_step (step.FreeEntry kept) stands refl (λ view k b h. h)
+    stat_holds (step.StoringMode kept) stands = no_step (step.StoringMode kept) stands refl (λ view k b h. h)
+    stat_holds (step.OpenIdentifying kept) stands = no_step (step.OpenIdentifying kept) stands refl (λ view k b h. h)
+    stat_holds (step.OpenAsking own kept) stands = no_step (step.OpenAsking own kept) stands refl (λ view k b h. h)
+    stat_holds (step.OpenPausing own kept) stands = no_step (step.OpenPausing own kept) stands refl (λ view k b h. h)
+    stat_holds (step.OpenAwaiting own kept) stands = no_step (step.OpenAwaiting own kept) stands refl (λ view k b h. h)
+    stat_holds (step.OpenClearing own kept) stands = no_step (step.OpenClearing own kept) stands refl (λ view k b h. h)
+    stat_holds (step.ReadingOpened own kept) stands = no_step (step.ReadingOpened own kept) stands refl (λ view k b h. h)

@@ -1,12 +1,12 @@
 -- stat: what it asks at each stage, and what it does next by the reply. What it tells of the console is a name with zeros behind it, a size
--- of 0 and a kind of 0.
--- (MIT 6.828, lab 5: lib/fd.c, fstat, and lib/console.c, devcons_stat.)
-use Rattle.std.specs.Prelude.{ℕ, ◌+◌, ◌-◌, ◌%◌, ◌^◌, ◌==◌, not, nat_le, [], ◌∷◌, Option, Some, None, slice_index, if◌then◌else◌}
+-- of 0 and a kind of 0. Of a file it does as `lib_bytes` tells, once it knows that its buffer lies in the fence.
+-- (MIT 6.828, lab 5: lib/fd.c, fstat, lib/console.c, devcons_stat, and lib/file.c, devfile_stat.)
+use Rattle.std.specs.Prelude.{ℕ, ◌+◌, ◌-◌, ◌%◌, ◌^◌, ◌==◌, not, nat_le, [], ◌∷◌, Option, Some, slice_index, if◌then◌else◌}
 use Rattle.std.specs.Int.{w32, from_le_bytes}
 use Rattle.std.specs.Option.{option_map}
 use Rattle.jos_base.specs.declared.numbers.TheConstants.{E_INVAL, E_NOT_SUPP, PGSIZE}
 use Rattle.jos_base.specs.Words.{negated}
-use Rattle.lib_os.specs.declared.numbers.TheConstants.{DEVICE_CONSOLE, SERVICE_STAT, STAT_SIZE}
+use Rattle.lib_os.specs.declared.numbers.TheConstants.{DEVICE_CONSOLE, DEVICE_FILE, SERVICE_STAT, STAT_SIZE}
 use Rattle.lib_os.specs.declared.place.Step.{Step}
 use Rattle.lib_os.specs.declared.place.Step.TheVariants as step
 use Rattle.lib_os.specs.Answers.{moved_at_once}
@@ -22,10 +22,12 @@ use Rattle.lib_fd.specs.DescriptorStages as descriptor
 use Rattle.lib_fd.specs.DescriptorStages.{is_there, region_asked_for}
 use Rattle.lib_file.specs.Buffers.{entry_asked, is_writable, region_asked}
 use Rattle.lib_file.specs.Finding.{device_asked, next_of_entry, next_of_region}
+use Rattle.lib_file.specs.Keeping.{next_va}
+use Rattle.lib_bytes.specs.declared.bytes.FileService.TheVariants as of
+use Rattle.lib_bytes.specs.FileStages as bytes
 use Rattle.lib_read.specs.declared.stat.Stat.{Stat}
 use Rattle.lib_read.specs.declared.stat.StatStage.{StatStage}
 use Rattle.lib_read.specs.declared.stat.StatStage.TheVariants as stage
-use Rattle.lib_read.specs.ReadStages.{next_va}
 
 -- the stage of stat that is kept as a step, if it is one of stat's
 abbrev pub stage_at : Step → Option StatStage
@@ -36,7 +38,7 @@ stage_at (step.BufferRegion done word) = Some (stage.BufferRegion done)
 stage_at (step.BufferEntry done word) = Some (stage.BufferEntry done)
 stage_at (step.Delivering done word) = Some (stage.Delivering done)
 stage_at (step.Faulting done word) = Some (stage.Faulting done)
-stage_at _ = None
+stage_at step = option_map (λ at. stage.OfFile at) (bytes.stage_at step)
 
 abbrev pub stat_at : ℕ → ℕ → Step → Option Stat
 stat_at fd va step = option_map (λ at. record { fd = fd; va = va; at = at }) (stage_at step)
@@ -68,6 +70,7 @@ ask_of fd va (stage.BufferRegion done) = region_asked (next_va va done)
 ask_of fd va (stage.BufferEntry done) = entry_asked (next_va va done)
 ask_of fd va (stage.Delivering done) = delivery_asked va done
 ask_of fd va (stage.Faulting done) = ask.StoreByte (next_va va done) 0
+ask_of fd va (stage.OfFile at) = bytes.ask_of of.Stat fd va at
 
 -- ---- what it does next
 
@@ -81,9 +84,14 @@ next_behind va done =
 abbrev pub next_of_delivery : ℕ → ℕ → Next
 next_of_delivery va done = next_behind va ((done + moved va done) % 2 ^ 32)
 
+-- its descriptor names a file
+abbrev pub next_of_file : ℕ → Next
+next_of_file va = if not (is_buffer va STAT_SIZE) then next.Answer (negated E_INVAL) else next.GoOn step.TakingPage
+
 abbrev pub next_of_device : ℕ → ℕ → Next
 next_of_device va device =
-    if not (device == DEVICE_CONSOLE) then next.Answer (negated E_NOT_SUPP)
+    if device == DEVICE_FILE then next_of_file va
+    else if not (device == DEVICE_CONSOLE) then next.Answer (negated E_NOT_SUPP)
     else if not (is_buffer va STAT_SIZE) then next.Answer (negated E_INVAL)
     else next.Show (step.BufferRegion 0 0)
 
@@ -97,6 +105,7 @@ next_of fd va (stage.BufferEntry done) word =
     if not (is_writable word) then next.GoOn (step.Faulting done 0) else next.GoOn (step.Delivering done 0)
 next_of fd va (stage.Delivering done) word = next_of_delivery va done
 next_of fd va (stage.Faulting done) word = next.Gone
+next_of fd va (stage.OfFile at) word = bytes.next_of of.Stat va at word
 
 -- ---- the plan
 

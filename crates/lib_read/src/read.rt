@@ -4,11 +4,14 @@ ghost use Rattle.std.specs.Prelude.{◌≡◌};
 ghost use Rattle.lib_read.specs.ReadStages as stages;
 
 use jos_base::{Called, E_INVAL, E_NOT_SUPP, END_OF_INPUT, SYS_CGETC};
-use lib_fd::{ask_entry, ask_region_for, is_there};
+use lib_bytes::{FileService, FileStage, ask_of_file, file_stage_at, next_of_file};
+use lib_fd::{ask_entry, ask_region_for, descriptor_va, is_there};
 use lib_file::{
     ask_device, ask_page_entry, ask_page_region, is_writable, next_of_entry, next_of_region,
 };
-use lib_os::{DEVICE_CONSOLE, SERVICE_READ, Step, TRANSFER_MAX, answer_of, is_buffer};
+use lib_os::{
+    DEVICE_CONSOLE, DEVICE_FILE, FD_MODE, SERVICE_READ, Step, TRANSFER_MAX, answer_of, is_buffer,
+};
 use lib_stage::{Ask, Next, Planned};
 
 /// How far read is.
@@ -30,9 +33,16 @@ pub enum ReadStage {
     Delivering { done: u32, byte: u32 },
     /// It can't be put, and read is about to raise the fault that ends the environment.
     Faulting { done: u32, byte: u32 },
+    /// The descriptor names a file, and read is about to read the mode of that.
+    ReadingMode,
+    /// It is at one of the stages that it has in common with stat of a file.
+    OfFile { at: FileStage },
 }
 
-/// read(fd, va, len), at a stage.
+/// read(fd, va, len), at a stage: at most `len` bytes, and at most `TRANSFER_MAX`, go to `va`, and it answers how many. Of the console they are
+/// one, or none at the end of the input; of a file they are those from its offset on, none at its end. It answers `E_INVAL` negated where `fd` is
+/// not open, or is open only for writing, or where the buffer does not lie in the fence, and else the error of which the kernel or the file server
+/// tells. (MIT 6.828, lab 5: lib/fd.c, `read`, lib/console.c, `devcons_read`, and lib/file.c, `devfile_read`)
 #[derive(Clone, Copy, Debug, PartialEq, Eq)]
 pub struct Read {
     pub fd: u32,
@@ -55,26 +65,53 @@ impl Read {
             Step::BufferEntry { done, word } => ReadStage::BufferEntry { done, byte: word },
             Step::Delivering { done, word } => ReadStage::Delivering { done, byte: word },
             Step::Faulting { done, word } => ReadStage::Faulting { done, byte: word },
-            _ => return None,
+            Step::ReadingMode => ReadStage::ReadingMode,
+            _ => match file_stage_at(step) {
+                Some(at) => ReadStage::OfFile { at },
+                None => return None,
+            },
         };
         Some(Read { fd, va, len, at })
     }
+}
+
+/// Whether its buffer lies in the fence, as far as bytes may come there.
+fn has_room(va: u32, len: u32) -> bool
+    ensures { result ≡ stages.has_room va len }
+{
+    is_buffer(va, len.min(TRANSFER_MAX))
 }
 
 /// What read does next by the word that tells what its descriptor names.
 fn next_of_device(va: u32, len: u32, device: u32) -> Next
     ensures { result ≡ stages.next_of_device va len device }
 {
+    if device == DEVICE_FILE {
+        return Next::GoOn(Step::ReadingMode);
+    }
     if device != DEVICE_CONSOLE {
         return Next::Answer(E_NOT_SUPP.wrapping_neg());
     }
-    if !is_buffer(va, len.min(TRANSFER_MAX)) {
+    if !has_room(va, len) {
         return Next::Answer(E_INVAL.wrapping_neg());
     }
     if len == 0 {
         return Next::Answer(0);
     }
     Next::GoOn(Step::Getting)
+}
+
+/// What read does next by the mode of its file.
+fn next_of_mode(va: u32, len: u32, mode: u32) -> Next
+    ensures { result ≡ stages.next_of_mode va len mode }
+{
+    if mode == 1 {
+        return Next::Answer(E_INVAL.wrapping_neg());
+    }
+    if !has_room(va, len) {
+        return Next::Answer(E_INVAL.wrapping_neg());
+    }
+    Next::GoOn(Step::TakingPage)
 }
 
 impl Planned for Read {
@@ -102,6 +139,12 @@ impl Planned for Read {
                     va: self.va.wrapping_add(done),
                     byte: (byte % 256) as u8,
                 }
+            }
+            ReadStage::ReadingMode => Ask::Load {
+                va: descriptor_va(self.fd) + FD_MODE,
+            },
+            ReadStage::OfFile { at } => {
+                ask_of_file(FileService::Read { len: self.len }, self.fd, self.va, at)
             }
         }
     }
@@ -132,6 +175,10 @@ impl Planned for Read {
             }
             ReadStage::Delivering { .. } => Next::Answer(1),
             ReadStage::Faulting { .. } => Next::Gone,
+            ReadStage::ReadingMode => next_of_mode(self.va, self.len, word),
+            ReadStage::OfFile { at } => {
+                next_of_file(FileService::Read { len: self.len }, self.va, at, word)
+            }
         }
     }
 }

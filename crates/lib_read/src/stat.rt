@@ -5,12 +5,13 @@ ghost use Rattle.lib_os.specs.FileServices.{terminal_stat};
 ghost use Rattle.lib_read.specs.StatStages as stages;
 
 use jos_base::{Called, E_INVAL, E_NOT_SUPP, PGSIZE};
+use lib_bytes::{FileService, FileStage, ask_of_file, file_stage_at, next_of_file};
 use lib_fd::{ask_entry, ask_region_for, is_there};
 use lib_file::{
     ask_device, ask_page_entry, ask_page_region, is_writable, moved_at_once, next_of_entry,
     next_of_region,
 };
-use lib_os::{DEVICE_CONSOLE, SERVICE_STAT, STAT_SIZE, Step, answer_of, is_buffer};
+use lib_os::{DEVICE_CONSOLE, DEVICE_FILE, SERVICE_STAT, STAT_SIZE, Step, answer_of, is_buffer};
 use lib_stage::{Ask, Next, Planned};
 
 /// How far stat is.
@@ -30,9 +31,13 @@ pub enum StatStage {
     Delivering { done: u32 },
     /// The next byte can't be put, and stat is about to raise the fault that ends the environment.
     Faulting { done: u32 },
+    /// It is at one of the stages that it has in common with read of a file.
+    OfFile { at: FileStage },
 }
 
-/// stat(fd, va), at a stage.
+/// stat(fd, va), at a stage: `STAT_SIZE` bytes go to `va`, the name with zeros behind it, the size in bytes, and the kind, and it answers 0. It
+/// answers `E_INVAL` negated where `fd` is not open, or where the buffer does not lie in the fence, and else the error of which the kernel or
+/// the file server tells. (MIT 6.828, lab 5: lib/fd.c, `fstat`, lib/console.c, `devcons_stat`, and lib/file.c, `devfile_stat`)
 #[derive(Clone, Copy, Debug, PartialEq, Eq)]
 pub struct Stat {
     pub fd: u32,
@@ -53,7 +58,10 @@ impl Stat {
             Step::BufferEntry { done, .. } => StatStage::BufferEntry { done },
             Step::Delivering { done, .. } => StatStage::Delivering { done },
             Step::Faulting { done, .. } => StatStage::Faulting { done },
-            _ => return None,
+            _ => match file_stage_at(step) {
+                Some(at) => StatStage::OfFile { at },
+                None => return None,
+            },
         };
         Some(Stat { fd, va, at })
     }
@@ -112,6 +120,32 @@ fn next_of_delivery(va: u32, done: u32) -> Next
     Next::Show(Step::Delivering { done, word: 0 })
 }
 
+/// What stat does next when its descriptor names a file.
+fn next_of_described(va: u32) -> Next
+    ensures { result ≡ stages.next_of_file va }
+{
+    if !is_buffer(va, STAT_SIZE) {
+        return Next::Answer(E_INVAL.wrapping_neg());
+    }
+    Next::GoOn(Step::TakingPage)
+}
+
+/// What stat does next by the word that tells what its descriptor names.
+fn next_of_device(va: u32, device: u32) -> Next
+    ensures { result ≡ stages.next_of_device va device }
+{
+    if device == DEVICE_FILE {
+        return next_of_described(va);
+    }
+    if device != DEVICE_CONSOLE {
+        return Next::Answer(E_NOT_SUPP.wrapping_neg());
+    }
+    if !is_buffer(va, STAT_SIZE) {
+        return Next::Answer(E_INVAL.wrapping_neg());
+    }
+    Next::Show(Step::BufferRegion { done: 0, word: 0 })
+}
+
 impl Planned for Stat {
     ghost use Rattle.lib_read.specs.StatStages.{telling};
 
@@ -133,6 +167,7 @@ impl Planned for Stat {
                 va: self.va.wrapping_add(done),
                 byte: 0,
             },
+            StatStage::OfFile { at } => ask_of_file(FileService::Stat, self.fd, self.va, at),
         }
     }
 
@@ -141,15 +176,7 @@ impl Planned for Stat {
         match self.at {
             StatStage::Entered => next_of_region(self.fd, word),
             StatStage::Entry => next_of_entry(word),
-            StatStage::Device => {
-                if word != DEVICE_CONSOLE {
-                    return Next::Answer(E_NOT_SUPP.wrapping_neg());
-                }
-                if !is_buffer(self.va, STAT_SIZE) {
-                    return Next::Answer(E_INVAL.wrapping_neg());
-                }
-                Next::Show(Step::BufferRegion { done: 0, word: 0 })
-            }
+            StatStage::Device => next_of_device(self.va, word),
             StatStage::BufferRegion { done } => {
                 if !is_there(word) {
                     return Next::GoOn(Step::Faulting { done, word: 0 });
@@ -164,6 +191,7 @@ impl Planned for Stat {
             }
             StatStage::Delivering { done } => next_of_delivery(self.va, done),
             StatStage::Faulting { .. } => Next::Gone,
+            StatStage::OfFile { at } => next_of_file(FileService::Stat, self.va, at, word),
         }
     }
 }

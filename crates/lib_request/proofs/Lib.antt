@@ -1,9 +1,13 @@
 pub mod Asking
 pub mod PathFollows
-pub mod RemoveAsks
+pub mod PageAsks
+pub mod PathGathers
+pub mod PathKeeps
+pub mod PathTakes
+pub mod OpenBegins
+pub mod OpenLaw
 pub mod RemoveBegins
-pub mod RemoveGathers
-pub mod RemoveKeeps
 pub mod RemoveLaw
+pub mod StoringLaw
 pub mod Replying
 pub mod SyncLaw

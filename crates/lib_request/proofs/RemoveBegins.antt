@@ -1,8 +1,8 @@
--- The law of remove until its page is there: a path that lies outside of the fence is refused, and else a page is taken for its bytes.
-use Rattle.std.proofs.Common.{◌≡◌, ◌==◌, ℕ, Bool, true, false, not, [], ◌∷◌, refl, sym, subst, arith, if◌then◌else◌}
+-- The law of remove as it begins: a path that lies outside of the fence is refused.
+use Rattle.std.proofs.Common.{◌≡◌, ℕ, Bool, true, false, not, [], ◌∷◌, refl, sym, subst, arith, if◌then◌else◌}
 use Rattle.jos_base.specs.declared.called.Called.{Called}
 use Rattle.jos_base.specs.declared.called.Called.TheVariants.{Answered}
-use Rattle.jos_base.specs.declared.numbers.TheConstants.{E_INVAL, SYS_GETENVID, SYS_PAGE_ALLOC, UTEMP}
+use Rattle.jos_base.specs.declared.numbers.TheConstants.{E_INVAL, SYS_GETENVID}
 use Rattle.jos_base.specs.Environments.{is_live}
 use Rattle.jos_base.specs.KernelState.{KernelState, slot_at}
 use Rattle.jos_base.specs.Words.{negated}
@@ -12,15 +12,12 @@ use Rattle.lib_os.specs.declared.place.Step.TheVariants as step
 use Rattle.lib_os.specs.declared.service.Service.{Service}
 use Rattle.lib_os.specs.declared.service.Service.TheVariants as service
 use Rattle.lib_os.specs.Fence.{is_inside}
-use Rattle.lib_os.specs.InOrder.{IsInOrder}
 use Rattle.lib_os.specs.LibrarySteps.{KeepsStanding}
 use Rattle.lib_os.specs.Places.{place_of}
 use Rattle.lib_os.specs.StandsInHandler.{AreSmall}
-use Rattle.lib_os.specs.UserCalls.{CallStep, answer_of, giving}
+use Rattle.lib_os.specs.UserCalls.{CallStep, giving}
 use Rattle.lib_os.proofs.Calls.{getenvid_is}
-use Rattle.lib_os.proofs.PageTaken.{take_holds, take_lives, working_perm}
 use Rattle.lib_os.proofs.PathRefused.{path_enters, path_enters_not}
-use Rattle.lib_os.proofs.PathTaken.{path_taking_keeps, path_untaken_keeps}
 use Rattle.lib_os.proofs.Trying.{LivesOn}
 use Rattle.lib_stage.specs.declared.ask.Next.TheVariants as next
 use Rattle.lib_stage.specs.Nexts.{seen_as, settled}
@@ -60,8 +57,8 @@ module _ (s : KernelState) (n path : ℕ) (live : is_live (slot_at s n) ≡ true
         by_test : (t : Bool) → is_inside path ≡ t →
             let x = if not t then next.Answer (negated E_INVAL) else next.GoOn step.TakingPage in
             KeepsStanding (seen_as x) n s (settled SERVICE_REMOVE x s n) []
-        by_test true inside = path_enters s n path stands inside
-        by_test false outside = path_enters_not s n path stands small outside
+        by_test true inside = path_enters s n remove refl stands inside
+        by_test false outside = path_enters_not s n remove refl stands small outside
 
     pub entering_holds : ServiceHolds s n (removing (record { path = path; at = stage.Entered }))
     entering_holds =
@@ -70,35 +67,3 @@ module _ (s : KernelState) (n path : ℕ) (live : is_live (slot_at s n) ≡ true
         (subst (λ (z : CallStep Called). LivesOn z n (slot_at s n).registers) (sym (getenvid_is s n live args))
         (record { live = live; registers = refl; written = refl }))
         (λ order. subst (λ (z : CallStep Called). KeepsBy s n entering z) (sym (getenvid_is s n live args)) entering_keeps)
-
-  -- ---- the page that it takes
-
-  module _ (stands : place_of (slot_at s n) ≡ place.InService (service.Remove path) step.TakingPage) where
-    abbrev taking : Plan
-    taking = removing (record { path = path; at = stage.TakingPage })
-
-    taking_falls : (called : Called) → Falls remove step.TakingPage (taking.next called)
-    taking_falls called = by_test (answer_of called == 0)
-      where
-        by_test : (t : Bool) →
-            Falls remove step.TakingPage (if not t then next.Answer (answer_of called) else next.GoOn (step.BufferRegion 0 0))
-        by_test true = omega arith
-        by_test false = tt
-
-    taking_at : IsAt s n taking remove step.TakingPage
-    taking_at = record {
-      stands = stands;
-      live = live;
-      numbered = refl;
-      plain = plainly refl;
-      goes_on = refl;
-      falls = taking_falls;
-      few = omega arith;
-    }
-
-    pub taking_holds : ServiceHolds s n (removing (record { path = path; at = stage.TakingPage }))
-    taking_holds =
-        law_of_call s n taking remove step.TakingPage taking_at SYS_PAGE_ALLOC (0 ∷ UTEMP ∷ working_perm ∷ 0 ∷ 0 ∷ []) refl refl
-        (take_lives s n live)
-        (take_holds s n live (λ (z : CallStep Called). IsInOrder z.state → KeepsBy s n taking z)
-        (λ made order. path_taking_keeps s n path stands made order) (λ order. path_untaken_keeps s n _))

@@ -11,6 +11,7 @@ use Rattle.jos_base.specs.declared.numbers.TheConstants.{SYS_EXOFORK, SYS_YIELD}
 use Rattle.jos_base.specs.Environments.{Slot, is_live, is_runnable}
 use Rattle.jos_base.specs.KernelState.{KernelState, slot_at, with_extra, with_registers, with_status}
 use Rattle.jos_base.specs.SystemCalls.{system_call, may_print}
+use Rattle.jos_base.specs.Words.{page_number}
 use Rattle.jos_base.proofs.Maps.{upd-at}
 use Rattle.lib_os.specs.declared.numbers.TheConstants.{SERVICES}
 use Rattle.lib_os.specs.declared.place.Place.{Place}
@@ -26,7 +27,7 @@ use Rattle.lib_os.specs.LibrarySteps.{Stands, AbstractFollows, KeepsServer, Keep
 use Rattle.lib_os.specs.LibrarySteps.{copy_steps, most_copy_steps, steps_left, copies_left, left_at, hidden_left, frames_asked, frames_at}
 use Rattle.lib_os.specs.LibraryPages.{View}
 use Rattle.lib_os.specs.Places.{place_of, words_at, handler_registers}
-use Rattle.lib_os.specs.Rows.{EntryRow, Names, rows_of}
+use Rattle.lib_os.specs.Rows.{EntryRow, Names, is_descriptor, rows_of}
 use Rattle.jos_base.specs.Counting.{page_limit}
 use Rattle.lib_os.specs.StandsFor.{StandsFor, StandsAtStep, view_of}
 use Rattle.lib_os.specs.UserCalls.{CallStep, Got, got, to_handler, gone, giving, load, asking, system, Output}
@@ -44,7 +45,7 @@ use Rattle.lib_os.proofs.Slots.{slots_alike}
 use Rattle.lib_os.proofs.Loading.{loaded, loaded_state, GivesWord}
 use Rattle.lib_os.proofs.Numbered.{number_of}
 use Rattle.lib_os.proofs.Serving.{served}
-use Rattle.lib_os.proofs.ServerLeft.{IsAside, ServerStays, aside_asked, asked_before, keeps_server, own_server, sends_aside}
+use Rattle.lib_os.proofs.ServerLeft.{IsAside, IsWordBeside, ServerStays, aside_asked, asked_before, keeps_server, own_server, sends_aside}
 use Rattle.lib_os.proofs.ServerLeft.{exofork_server, system_server, load_server, load_byte_server, store_server, store_byte_server}
 use Rattle.lib_os.proofs.ServerLeft.{exchange_server, restore_server}
 use Rattle.lib_os.proofs.StepsLeave.{Behind, SendsAside, behind, behind_calm, behind_plain, behind_own, answers, goes_back, goes_on, stays}
@@ -68,14 +69,27 @@ abbrev pub is_calm : Ask → Bool
 is_calm (ask.System number args) = not (wakes number) && not (sets_others number)
 is_calm _ = true
 
--- and in which it sends nothing to the file server, and maps into no other space a page that waits to be copied, nor one that a service works with
+-- an access that writes a word there writes no page of a descriptor's
+abbrev pub is_word_beside : ℕ → Bool
+is_word_beside va = not (is_descriptor (page_number va)) && not (is_descriptor (page_number (va + 3)))
+
+-- And in which it sends nothing to the file server, and maps into no other space a page that waits to be copied, nor one that a service works with;
+-- and one that writes, writes no page of a descriptor's.
 abbrev pub is_plain : Ask → Bool
 is_plain (ask.System number args) = (not (wakes number) && not (sets_others number)) && (sends_aside number args && maps_no_copy number args)
+is_plain (ask.Store va word) = is_word_beside va
+is_plain (ask.StoreByte va byte) = not (is_descriptor (page_number va))
+is_plain (ask.Exchange va word) = is_word_beside va
+is_plain (ask.Touch ip va true) = not (is_descriptor (page_number va))
 is_plain _ = true
 
 -- the same of the file server alone, wherever the state stands for an abstract one
 abbrev pub IsAsideAsk : KernelState → Ask → Type 0
 IsAsideAsk s (ask.System number args) = SendsAside s number args
+IsAsideAsk s (ask.Store va word) = (a : AbstractState) → Stands s a → IsWordBeside va
+IsAsideAsk s (ask.StoreByte va byte) = (a : AbstractState) → Stands s a → is_descriptor (page_number va) ≡ false
+IsAsideAsk s (ask.Exchange va word) = (a : AbstractState) → Stands s a → IsWordBeside va
+IsAsideAsk s (ask.Touch ip va true) = (a : AbstractState) → Stands s a → is_descriptor (page_number va) ≡ false
 IsAsideAsk s _ = Unit {0}
 
 -- A plain one, or one of which it is known by where the service stands that others' pages are left, and that nothing is sent to the file
@@ -97,8 +111,7 @@ moved_beside s n ip beside =
 
 moved_behind : (s : KernelState) (n ip : ℕ) (after : KernelState) → Left (Unit {0}) (at_instruction s n ip) n after →
     (IsInOrder s → EachHasUse s.spaces → EachHasUse after.spaces) → OthersStay (at_instruction s n ip) n after →
-    NoMoreWait (IsBeside s n) s.spaces after.spaces →
-    ((d : ℕ) → IsAside d (at_instruction s n ip) n → ServerStays d n (at_instruction s n ip) after) → Behind s n after
+    NoMoreWait (IsBeside s n) s.spaces after.spaces → KeepsServer n s after → Behind s n after
 moved_behind s n ip after h used others wait server = record {
   left = record {
     rest = record { last = h.rest.last; turns = h.rest.turns; frames = h.rest.frames; refused = h.rest.refused; told = h.rest.told };
@@ -111,22 +124,99 @@ moved_behind s n ip after h used others wait server = record {
   others = λ before then_so live.
       own_before s n (record (slot_at s n) { registers = record (slot_at s n).registers { eip = ip } }) after others;
   copies = copies_kept s after n wait;
-  server = keeps_server s after n
-      (λ order d aside. let regs = record (slot_at s n).registers { eip = ip } in
-      asked_before d s n regs after aside.other (server d (aside_asked d s n regs aside)));
+  server = server;
 }
+
+-- from there the file server's is left as from the instruction at which it stood
+moved_server : (s : KernelState) (n ip : ℕ) (after : KernelState) →
+    ((a : AbstractState) → Stands s a → (d : ℕ) → IsAside d (at_instruction s n ip) n → ServerStays d n (at_instruction s n ip) after) →
+    KeepsServer n s after
+moved_server s n ip after server =
+    keeps_server s after n
+    (λ order a h d aside. let regs = record (slot_at s n).registers { eip = ip } in
+    asked_before d s n regs after aside.other (server a h d (aside_asked d s n regs aside)))
 
 -- an access
 reached_behind : (s : KernelState) (n : ℕ) (after : KernelState) → Left ((slot_at s n).rendezvous.receiving ≡ false) s n after →
     (IsInOrder s → EachHasUse s.spaces → EachHasUse after.spaces) → OthersStay s n after →
-    NoMoreWait (IsBeside s n) s.spaces after.spaces → ((d : ℕ) → IsAside d s n → ServerStays d n s after) → Behind s n after
+    NoMoreWait (IsBeside s n) s.spaces after.spaces → KeepsServer n s after → Behind s n after
 reached_behind s n after h used others wait server = record {
   left = h;
   used = λ in_order live each. used in_order each;
   others = λ before then_so live. others;
   copies = copies_kept s after n wait;
-  server = keeps_server s after n (λ order d aside. server d aside);
+  server = server;
 }
+
+-- ---- accesses that write, by what is known of the file server
+
+store_behind : (s : KernelState) (n va word : ℕ) → KeepsServer n s (performed s n (ask.Store va word)).state →
+    Behind s n (performed s n (ask.Store va word)).state
+unfolding performed
+store_behind s n va word server =
+    reached_behind s n _ (store_left _ s n va word) (λ in_order each. store_found s n in_order.frames each va word) (store_stay s n va word)
+    (store_wait _ s n (not_beside s n) va word) server
+
+store_byte_behind : (s : KernelState) (n va byte : ℕ) → KeepsServer n s (performed s n (ask.StoreByte va byte)).state →
+    Behind s n (performed s n (ask.StoreByte va byte)).state
+unfolding performed
+store_byte_behind s n va byte server =
+    reached_behind s n _ (store_byte_left _ s n va byte) (λ in_order each. store_byte_found s n in_order.frames each va byte)
+    (store_byte_stay s n va byte) (store_byte_wait _ s n (not_beside s n) va byte) server
+
+exchange_behind : (s : KernelState) (n va word : ℕ) → KeepsServer n s (performed s n (ask.Exchange va word)).state →
+    Behind s n (performed s n (ask.Exchange va word)).state
+unfolding performed
+exchange_behind s n va word server =
+    reached_behind s n _ (exchange_left _ s n va word) (λ in_order each. exchange_found s n in_order.frames each va word)
+    (exchange_stay s n va word) (exchange_wait _ s n (not_beside s n) va word) server
+
+touch_behind : (s : KernelState) (n ip va : ℕ) → KeepsServer n s (performed s n (ask.Touch ip va true)).state →
+    Behind s n (performed s n (ask.Touch ip va true)).state
+unfolding performed
+touch_behind s n ip va server =
+    let t = at_instruction s n ip in
+    moved_behind s n ip _ (store_byte_left _ t n va 0) (λ in_order each. store_byte_found t n in_order.frames each va 0) (store_byte_stay t n va 0)
+    (store_byte_wait _ t n (moved_beside s n ip) va 0) server
+
+-- the file server's is left, where it is known that no page of a descriptor's is written
+store_keeps : (s : KernelState) (n va word : ℕ) → IsAsideAsk s (ask.Store va word) → KeepsServer n s (performed s n (ask.Store va word)).state
+unfolding performed
+store_keeps s n va word apart =
+    keeps_server s (performed s n (ask.Store va word)).state n (λ order a h d aside. store_server d s n aside va word (apart a h))
+
+store_byte_keeps : (s : KernelState) (n va byte : ℕ) → IsAsideAsk s (ask.StoreByte va byte) →
+    KeepsServer n s (performed s n (ask.StoreByte va byte)).state
+unfolding performed
+store_byte_keeps s n va byte apart =
+    keeps_server s (performed s n (ask.StoreByte va byte)).state n (λ order a h d aside. store_byte_server d s n aside va byte (apart a h))
+
+exchange_keeps : (s : KernelState) (n va word : ℕ) → IsAsideAsk s (ask.Exchange va word) →
+    KeepsServer n s (performed s n (ask.Exchange va word)).state
+unfolding performed
+exchange_keeps s n va word apart =
+    keeps_server s (performed s n (ask.Exchange va word)).state n (λ order a h d aside. exchange_server d s n aside va word (apart a h))
+
+touch_keeps : (s : KernelState) (n ip va : ℕ) → IsAsideAsk s (ask.Touch ip va true) → KeepsServer n s (performed s n (ask.Touch ip va true)).state
+unfolding performed
+touch_keeps s n ip va apart =
+    moved_server s n ip (performed s n (ask.Touch ip va true)).state
+    (λ a h d aside. store_byte_server d (at_instruction s n ip) n aside va 0 (apart a h))
+
+-- a plain one writes no page of a descriptor's
+byte_apart : (va : ℕ) → not (is_descriptor (page_number va)) ≡ true → is_descriptor (page_number va) ≡ false
+byte_apart va is = is_not is
+  where
+    is_not : {t : Bool} → not t ≡ true → t ≡ false
+    is_not {t = true} is = absurd (let contradiction : false ≡ true = is in cc)
+    is_not {t = false} is = refl
+
+word_apart : (va : ℕ) → is_word_beside va ≡ true → IsWordBeside va
+word_apart va is =
+    let parts = and_parts (not (is_descriptor (page_number va))) (not (is_descriptor (page_number (va + 3)))) is in
+    (byte_apart va parts.0, byte_apart (va + 3) parts.1)
+
+-- ---- each
 
 pub plain_behind : (s : KernelState) (n : ℕ) (a : Ask) → is_plain a ≡ true → Behind s n (performed s n a).state
 unfolding performed
@@ -141,30 +231,23 @@ plain_behind s n ask.Exofork plain =
     (plain_wait s n SYS_EXOFORK (as_given (slot_at s n).registers) refl)) (exofork_server s n)
 plain_behind s n (ask.Load va) plain =
     reached_behind s n _ (load_left _ s n va) (λ in_order each. load_found s n in_order.frames each va) (load_stay s n va) (load_wait _ s n (not_beside s n) va)
-    (λ d aside. load_server d s n aside va)
+    (keeps_server s (performed s n (ask.Load va)).state n (λ order a h d aside. load_server d s n aside va))
 plain_behind s n (ask.LoadByte va) plain =
     reached_behind s n _ (load_byte_left _ s n va) (λ in_order each. load_byte_found s n in_order.frames each va) (load_byte_stay s n va)
-    (load_byte_wait _ s n (not_beside s n) va) (λ d aside. load_byte_server d s n aside va)
-plain_behind s n (ask.Store va word) plain =
-    reached_behind s n _ (store_left _ s n va word) (λ in_order each. store_found s n in_order.frames each va word) (store_stay s n va word)
-    (store_wait _ s n (not_beside s n) va word) (λ d aside. store_server d s n aside va word)
-plain_behind s n (ask.StoreByte va byte) plain =
-    reached_behind s n _ (store_byte_left _ s n va byte) (λ in_order each. store_byte_found s n in_order.frames each va byte)
-    (store_byte_stay s n va byte) (store_byte_wait _ s n (not_beside s n) va byte) (λ d aside. store_byte_server d s n aside va byte)
-plain_behind s n (ask.Exchange va word) plain =
-    reached_behind s n _ (exchange_left _ s n va word) (λ in_order each. exchange_found s n in_order.frames each va word)
-    (exchange_stay s n va word) (exchange_wait _ s n (not_beside s n) va word) (λ d aside. exchange_server d s n aside va word)
+    (load_byte_wait _ s n (not_beside s n) va)
+    (keeps_server s (performed s n (ask.LoadByte va)).state n (λ order a h d aside. load_byte_server d s n aside va))
+plain_behind s n (ask.Store va word) plain = store_behind s n va word (store_keeps s n va word (λ a h. word_apart va plain))
+plain_behind s n (ask.StoreByte va byte) plain = store_byte_behind s n va byte (store_byte_keeps s n va byte (λ a h. byte_apart va plain))
+plain_behind s n (ask.Exchange va word) plain = exchange_behind s n va word (exchange_keeps s n va word (λ a h. word_apart va plain))
 plain_behind s n ask.RestoreFrame plain =
     reached_behind s n _ (restore_left _ s n) (λ in_order each. restore_frame_found s n in_order.frames each) (restore_stay s n) (restore_wait _ s n (not_beside s n))
-    (λ d aside. restore_server d s n aside)
-plain_behind s n (ask.Touch ip va true) plain =
-    let t = at_instruction s n ip in
-    moved_behind s n ip _ (store_byte_left _ t n va 0) (λ in_order each. store_byte_found t n in_order.frames each va 0) (store_byte_stay t n va 0)
-    (store_byte_wait _ t n (moved_beside s n ip) va 0) (λ d aside. store_byte_server d t n aside va 0)
+    (keeps_server s (performed s n ask.RestoreFrame).state n (λ order a h d aside. restore_server d s n aside))
+plain_behind s n (ask.Touch ip va true) plain = touch_behind s n ip va (touch_keeps s n ip va (λ a h. byte_apart va plain))
 plain_behind s n (ask.Touch ip va false) plain =
     let t = at_instruction s n ip in
     moved_behind s n ip _ (load_byte_left _ t n va) (λ in_order each. load_byte_found t n in_order.frames each va) (load_byte_stay t n va)
-    (load_byte_wait _ t n (moved_beside s n ip) va) (λ d aside. load_byte_server d t n aside va)
+    (load_byte_wait _ t n (moved_beside s n ip) va)
+    (moved_server s n ip (performed s n (ask.Touch ip va false)).state (λ a h d aside. load_byte_server d t n aside va))
 
 calm_behind : (s : KernelState) (n : ℕ) (a : Ask) → is_calm a ≡ true → KeepsCopies n s (performed s n a).state → IsAsideAsk s a →
     Behind s n (performed s n a).state
@@ -174,11 +257,12 @@ calm_behind s n (ask.System number args) calm copies aside =
 calm_behind s n ask.Exofork calm copies aside = plain_behind s n ask.Exofork refl
 calm_behind s n (ask.Load va) calm copies aside = plain_behind s n (ask.Load va) refl
 calm_behind s n (ask.LoadByte va) calm copies aside = plain_behind s n (ask.LoadByte va) refl
-calm_behind s n (ask.Store va word) calm copies aside = plain_behind s n (ask.Store va word) refl
-calm_behind s n (ask.StoreByte va byte) calm copies aside = plain_behind s n (ask.StoreByte va byte) refl
-calm_behind s n (ask.Exchange va word) calm copies aside = plain_behind s n (ask.Exchange va word) refl
+calm_behind s n (ask.Store va word) calm copies aside = store_behind s n va word (store_keeps s n va word aside)
+calm_behind s n (ask.StoreByte va byte) calm copies aside = store_byte_behind s n va byte (store_byte_keeps s n va byte aside)
+calm_behind s n (ask.Exchange va word) calm copies aside = exchange_behind s n va word (exchange_keeps s n va word aside)
 calm_behind s n ask.RestoreFrame calm copies aside = plain_behind s n ask.RestoreFrame refl
-calm_behind s n (ask.Touch ip va write) calm copies aside = plain_behind s n (ask.Touch ip va write) refl
+calm_behind s n (ask.Touch ip va true) calm copies aside = touch_behind s n ip va (touch_keeps s n ip va aside)
+calm_behind s n (ask.Touch ip va false) calm copies aside = plain_behind s n (ask.Touch ip va false) refl
 
 -- the same, where it is known what is done to the file server
 kept_behind : (s : KernelState) (n : ℕ) (a : Ask) → is_calm a ≡ true → KeepsCopies n s (performed s n a).state →
@@ -190,11 +274,35 @@ kept_behind s n (ask.System number args) calm copies server =
 kept_behind s n ask.Exofork calm copies server = plain_behind s n ask.Exofork refl
 kept_behind s n (ask.Load va) calm copies server = plain_behind s n (ask.Load va) refl
 kept_behind s n (ask.LoadByte va) calm copies server = plain_behind s n (ask.LoadByte va) refl
-kept_behind s n (ask.Store va word) calm copies server = plain_behind s n (ask.Store va word) refl
-kept_behind s n (ask.StoreByte va byte) calm copies server = plain_behind s n (ask.StoreByte va byte) refl
-kept_behind s n (ask.Exchange va word) calm copies server = plain_behind s n (ask.Exchange va word) refl
+kept_behind s n (ask.Store va word) calm copies server = store_behind s n va word server
+kept_behind s n (ask.StoreByte va byte) calm copies server = store_byte_behind s n va byte server
+kept_behind s n (ask.Exchange va word) calm copies server = exchange_behind s n va word server
 kept_behind s n ask.RestoreFrame calm copies server = plain_behind s n ask.RestoreFrame refl
-kept_behind s n (ask.Touch ip va write) calm copies server = plain_behind s n (ask.Touch ip va write) refl
+kept_behind s n (ask.Touch ip va true) calm copies server = touch_behind s n ip va server
+kept_behind s n (ask.Touch ip va false) calm copies server = plain_behind s n (ask.Touch ip va false) refl
+
+-- An access that writes, of which it is known by where the service stands that it writes no page of a descriptor's.
+pub store_aside : (s : KernelState) (n va word : ℕ) → IsAsideAsk s (ask.Store va word) → IsPlain s n (ask.Store va word)
+unfolding performed
+store_aside s n va word apart =
+    knowingly refl (copies_kept s (performed s n (ask.Store va word)).state n (store_wait _ s n (not_beside s n) va word)) apart
+
+pub store_byte_aside : (s : KernelState) (n va byte : ℕ) → IsAsideAsk s (ask.StoreByte va byte) → IsPlain s n (ask.StoreByte va byte)
+unfolding performed
+store_byte_aside s n va byte apart =
+    knowingly refl (copies_kept s (performed s n (ask.StoreByte va byte)).state n (store_byte_wait _ s n (not_beside s n) va byte)) apart
+
+pub exchange_aside : (s : KernelState) (n va word : ℕ) → IsAsideAsk s (ask.Exchange va word) → IsPlain s n (ask.Exchange va word)
+unfolding performed
+exchange_aside s n va word apart =
+    knowingly refl (copies_kept s (performed s n (ask.Exchange va word)).state n (exchange_wait _ s n (not_beside s n) va word)) apart
+
+pub touch_aside : (s : KernelState) (n ip va : ℕ) (write : Bool) → IsAsideAsk s (ask.Touch ip va write) → IsPlain s n (ask.Touch ip va write)
+unfolding performed
+touch_aside s n ip va false apart = plainly refl
+touch_aside s n ip va true apart =
+    knowingly refl
+    (copies_kept s (performed s n (ask.Touch ip va true)).state n (store_byte_wait _ (at_instruction s n ip) n (moved_beside s n ip) va 0)) apart
 
 -- the same of one of which it is known
 pub known_behind : (s : KernelState) (n : ℕ) (a : Ask) → IsPlain s n a → Behind s n (performed s n a).state

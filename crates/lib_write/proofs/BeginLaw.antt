@@ -1,16 +1,17 @@
--- The law of write until its page is there: what its descriptor names, by which it is refused, has nothing to write, or goes on; and the page
--- that it takes for its bytes.
-use Rattle.std.proofs.Common.{◌≡◌, ◌==◌, ℕ, Bool, true, false, not, List, [], ◌∷◌, Some, refl, ap, arith, if◌then◌else◌}
+-- The law of write until its page is there: what its descriptor names, by which it is refused, has nothing to write, or goes on; of a file the
+-- mode; and the page that it takes for its bytes.
+use Rattle.std.proofs.Common.{◌≡◌, ◌≢◌, ◌==◌, ℕ, Bool, true, false, not, List, [], ◌∷◌, Some, refl, sym, ap, subst, arith, if◌then◌else◌}
 use Rattle.std.specs.Prelude.{nat_lt}
 use Rattle.std.proofs.lemmas.Bool.Decides.{nat_tests}
 use Rattle.std.proofs.lemmas.List.{append-nil}
 use Rattle.jos_base.specs.declared.called.Called.{Called}
+use Rattle.jos_base.specs.declared.called.Called.TheVariants.{Answered}
 use Rattle.jos_base.specs.declared.numbers.TheConstants.{E_INVAL, E_NOT_SUPP, SYS_PAGE_ALLOC, UTEMP}
 use Rattle.jos_base.specs.declared.registers.Regs.{Regs}
 use Rattle.jos_base.specs.Environments.{is_live}
-use Rattle.jos_base.specs.KernelState.{KernelState, slot_at}
+use Rattle.jos_base.specs.KernelState.{KernelState, slot_at, with_spaces}
 use Rattle.jos_base.specs.Words.{negated}
-use Rattle.lib_os.specs.declared.numbers.TheConstants.{DEVICE_CONSOLE}
+use Rattle.lib_os.specs.declared.numbers.TheConstants.{DEVICE_CONSOLE, DEVICE_FILE, FD_MODE, REQUEST_BYTES, SERVICE_WRITE}
 use Rattle.lib_os.specs.declared.place.Place.TheVariants as place
 use Rattle.lib_os.specs.declared.place.Step.TheVariants as step
 use Rattle.lib_os.specs.declared.service.Service.{Service}
@@ -24,18 +25,25 @@ use Rattle.lib_os.specs.LibraryCall.{library_step}
 use Rattle.lib_os.specs.Places.{place_of}
 use Rattle.lib_os.specs.Rows.{Names}
 use Rattle.lib_os.specs.StandsFor.{StandsFor}
-use Rattle.lib_os.specs.StandsInHandler.{wanted_of}
-use Rattle.lib_os.specs.UserCalls.{CallStep, answer_of}
+use Rattle.lib_os.specs.StandsInHandler.{wanted_from, wanted_of}
+use Rattle.lib_os.specs.UserCalls.{CallStep, answer_of, giving}
 use Rattle.lib_os.proofs.DeviceLooks.{device_answers, device_console, device_goes_on, device_object, device_va, device_word, reading_device}
+use Rattle.lib_os.proofs.Calls.{PageMade}
+use Rattle.lib_os.proofs.FileReads.{mode_va, told_word}
+use Rattle.lib_os.proofs.FileWrites.{write_buffer_refuses, write_file_goes_on, write_mode_gives, write_mode_goes_on, write_mode_refuses}
 use Rattle.lib_os.proofs.Loading.{loaded}
-use Rattle.lib_os.proofs.PageTaken.{refused_keeps, take_holds, take_lives, taking_keeps, working_perm}
+use Rattle.lib_os.proofs.PageTaken.{refused_keeps, take_asked, take_holds, take_lives, taking_keeps, working_perm}
+use Rattle.lib_os.proofs.PathTaken.{path_untaken_keeps}
+use Rattle.lib_os.proofs.RequestTaken.{request_taking_keeps, step_taken}
+use Rattle.lib_stage.specs.declared.ask.Ask.TheVariants as ask
+use Rattle.lib_stage.specs.declared.ask.Next.{Next}
 use Rattle.lib_stage.specs.declared.ask.Next.TheVariants as next
 use Rattle.lib_stage.specs.ServiceSteps.{Plan, ServiceHolds}
 use Rattle.lib_stage.proofs.Laws.{Falls, IsAt, KeepsBy, law_of_call, plainly}
 use Rattle.lib_file.specs.Finding.{device_asked}
-use Rattle.lib_file.proofs.Finds.{Follows, device_holds, staged}
+use Rattle.lib_file.proofs.Finds.{Follows, device_holds_each, is_steady, load_holds, staged}
 use Rattle.lib_write.specs.declared.write.WriteStage.TheVariants as stage
-use Rattle.lib_write.specs.WriteStages.{next_of_device, writing}
+use Rattle.lib_write.specs.WriteStages.{next_of_device, next_of_mode, next_of_request, writing}
 
 -- ---- what it is in the abstract system
 
@@ -63,15 +71,17 @@ module _ (s : KernelState) (n fd va len : ℕ) (live : is_live (slot_at s n) ≡
   write = service.Write fd va len
 
   device_falls : (word : ℕ) → Falls write step.ReadingDevice (next_of_device va len word)
-  device_falls word = by_tests (not (word == DEVICE_CONSOLE)) (not (is_buffer va (wanted_of len))) (len == 0)
+  device_falls word =
+      by_tests (word == DEVICE_FILE) (not (word == DEVICE_CONSOLE)) (not (is_buffer va (wanted_of len))) (len == 0)
     where
-      by_tests : (other outside nothing : Bool) →
-          Falls write step.ReadingDevice (if other then next.Answer (negated E_NOT_SUPP) else if outside then next.Answer (negated E_INVAL)
-          else if nothing then next.Answer 0 else next.GoOn step.TakingPage)
-      by_tests true outside nothing = tt
-      by_tests false true nothing = tt
-      by_tests false false true = tt
-      by_tests false false false = omega arith
+      by_tests : (of_file other outside nothing : Bool) →
+          Falls write step.ReadingDevice (if of_file then next.GoOn step.ReadingMode else if other then next.Answer (negated E_NOT_SUPP)
+          else if outside then next.Answer (negated E_INVAL) else if nothing then next.Answer 0 else next.GoOn step.TakingPage)
+      by_tests true other outside nothing = omega arith
+      by_tests false true outside nothing = tt
+      by_tests false false true nothing = tt
+      by_tests false false false true = tt
+      by_tests false false false false = omega arith
 
   module _ (stands : place_of (slot_at s n) ≡ place.InService write step.ReadingDevice) where
     device_follows : (names : Names) (a : AbstractState) → StandsFor names s a → IsInOrder (loaded s n (device_va fd)) →
@@ -105,7 +115,93 @@ module _ (s : KernelState) (n fd va len : ℕ) (live : is_live (slot_at s n) ≡
         by_buffer true inside = by_len inside (len == 0) refl
 
     pub write_device_holds : ServiceHolds s n (staged write (device_asked fd) (next_of_device va len))
-    write_device_holds = device_holds s n write fd refl live stands (next_of_device va len) device_falls device_follows
+    write_device_holds =
+        device_holds_each s n write fd refl live stands (next_of_device va len) device_falls device_follows
+        (λ names a h order word. (refl, (names, write_file_goes_on s n fd h order va len stands word)))
+
+  -- ---- the mode of a file
+
+  module _ (stands : place_of (slot_at s n) ≡ place.InService write step.ReadingMode) where
+    mode_falls : (word : ℕ) → Falls write step.ReadingMode (next_of_mode va len word)
+    mode_falls word = by_tests (word == 0) (not (is_buffer va (wanted_from REQUEST_BYTES len)))
+      where
+        by_tests : (none outside : Bool) → Falls write step.ReadingMode (if none then next.Answer (negated E_INVAL)
+            else if outside then next.Answer (negated E_INVAL) else next.GoOn step.TakingRequest)
+        by_tests true outside = tt
+        by_tests false true = tt
+        by_tests false false = omega arith
+
+    mode_follows : (names : Names) (a : AbstractState) → StandsFor names s a → IsInOrder (loaded s n (mode_va fd)) →
+        Follows (loaded s n (mode_va fd)) n write a (next_of_mode va len (told_word s n fd FD_MODE))
+    mode_follows names a h order = by_mode (told_word s n fd FD_MODE == 0) refl
+      where
+        by_buffer : told_word s n fd FD_MODE ≢ 0 → (t : Bool) → is_buffer va (wanted_from REQUEST_BYTES len) ≡ t →
+            Follows (loaded s n (mode_va fd)) n write a (if not t then next.Answer (negated E_INVAL) else next.GoOn step.TakingRequest)
+        by_buffer some false outside = write_buffer_refuses s n fd va len stands h order some outside
+        by_buffer some true inside = (refl, (names, write_mode_goes_on s n fd va len stands h order some inside))
+
+        by_mode : (t : Bool) → (told_word s n fd FD_MODE == 0) ≡ t → Follows (loaded s n (mode_va fd)) n write a
+            (if t then next.Answer (negated E_INVAL)
+            else if not (is_buffer va (wanted_from REQUEST_BYTES len)) then next.Answer (negated E_INVAL) else next.GoOn step.TakingRequest)
+        by_mode true none = write_mode_refuses s n fd va len stands h order (grind (arith, nat_tests, none))
+        by_mode false some = by_buffer (grind (arith, nat_tests, some)) (is_buffer va (wanted_from REQUEST_BYTES len)) refl
+
+    pub write_mode_holds : ServiceHolds s n (staged write (ask.Load (mode_va fd)) (next_of_mode va len))
+    write_mode_holds =
+        load_holds s n write step.ReadingMode live (is_steady write fd refl step.ReadingMode refl) stands (mode_va fd)
+        (told_word s n fd FD_MODE) (next_of_mode va len) mode_falls (λ names a h. write_mode_gives s n fd va len stands h) mode_follows
+
+  -- ---- the page of its request
+
+  module _ (stands : place_of (slot_at s n) ≡ place.InService write step.TakingRequest) where
+    abbrev requesting : Plan
+    requesting = writing (record { fd = fd; va = va; len = len; at = stage.TakingRequest })
+
+    requesting_falls : (called : Called) → Falls write step.TakingRequest (requesting.next called)
+    requesting_falls called = by_tests (answer_of called == 0) (len == 0)
+      where
+        by_tests : (t none : Bool) → Falls write step.TakingRequest (if not t then next.Answer (answer_of called)
+            else if none then next.GoOn step.ReadingNumber else next.GoOn (step.BufferRegion 0 REQUEST_BYTES))
+        by_tests false none = tt
+        by_tests true true = omega arith
+        by_tests true false = omega arith
+
+    requesting_at : IsAt s n requesting write step.TakingRequest
+    requesting_at = record {
+      stands = stands;
+      live = live;
+      numbered = refl;
+      plain = plainly refl;
+      goes_on = refl;
+      falls = requesting_falls;
+      few = omega arith;
+    }
+
+    -- where it goes on
+    taken_is : next_of_request len 0 ≡ next.GoOn (step_taken len)
+    taken_is = by_len (len == 0)
+      where
+        by_len : (t : Bool) → (if t then next.GoOn step.ReadingNumber else next.GoOn (step.BufferRegion 0 REQUEST_BYTES))
+            ≡ next.GoOn (if t then step.ReadingNumber else step.BufferRegion 0 REQUEST_BYTES)
+        by_len true = refl
+        by_len false = refl
+
+    -- what follows it, by where it goes on
+    abbrev requesting_to : Next → Plan
+    requesting_to x = record { number = SERVICE_WRITE; asks = requesting.asks; next = λ called. x }
+
+    pub requesting_holds : ServiceHolds s n requesting
+    requesting_holds =
+        law_of_call s n requesting write step.TakingRequest requesting_at SYS_PAGE_ALLOC (0 ∷ UTEMP ∷ working_perm ∷ 0 ∷ 0 ∷ []) refl refl
+        (take_lives s n live)
+        (take_holds s n live (λ (z : CallStep Called). IsInOrder z.state → KeepsBy s n requesting z) taken
+        (λ order. path_untaken_keeps s n _))
+      where
+        taken : (made : PageMade s n UTEMP working_perm (take_asked s n)) → IsInOrder (with_spaces s made.spaces) →
+            KeepsBy s n requesting (giving (with_spaces s made.spaces) (Answered 0))
+        taken made order =
+            subst (λ (x : Next). KeepsBy s n (requesting_to x) (giving (with_spaces s made.spaces) (Answered 0))) (sym taken_is)
+            (request_taking_keeps s n fd va len stands made order)
 
   -- ---- the page that it takes
 

@@ -4,14 +4,19 @@ ghost use Rattle.std.specs.Prelude.{◌≡◌, ◌<◌};
 ghost use Rattle.lib_write.specs.WriteStages as stages;
 
 use jos_base::{
-    Called, E_INVAL, E_NOT_SUPP, PGSIZE, PTE_P, PTE_U, PTE_W, SYS_CPUTS, SYS_PAGE_ALLOC,
-    SYS_PAGE_UNMAP, UTEMP,
+    Called, E_INVAL, E_NOT_SUPP, PGSIZE, PTE_P, PTE_U, PTE_W, SYS_CPUTS, SYS_GETENVID,
+    SYS_PAGE_ALLOC, SYS_PAGE_UNMAP, SYS_YIELD, UTEMP,
 };
-use lib_fd::{ask_entry, ask_region_for, is_there};
+use lib_fd::{ask_entry, ask_region_for, descriptor_va, is_there};
 use lib_file::{
-    ask_device, ask_page_entry, ask_page_region, moved_at_once, next_of_entry, next_of_region,
+    ask_device, ask_keeping, ask_page_entry, ask_page_region, kept_at_once, moved_at_once,
+    next_of_entry, next_of_region,
 };
-use lib_os::{DEVICE_CONSOLE, SERVICE_WRITE, Step, TRANSFER_MAX, answer_of, is_buffer};
+use lib_os::{
+    DEVICE_CONSOLE, DEVICE_FILE, FD_FILE, FD_MODE, FSREQ_WRITE, REQUEST_BYTES, REQUEST_COUNT,
+    REQUEST_FILE, SERVICE_WRITE, Step, TRANSFER_MAX, answer_of, is_buffer,
+};
+use lib_request::{ask_clearing, ask_reply, ask_with_page, next_of_asking, reply_place};
 use lib_stage::{Ask, Next, Planned};
 
 /// How far write is.
@@ -23,23 +28,73 @@ pub enum WriteStage {
     Entry,
     /// It is about to read what the descriptor names.
     Device,
-    /// It is about to take a page for the bytes.
+    /// It names the console, and write is about to take a page for the bytes.
     TakingPage,
-    /// It has taken so many bytes, and is about to read whether the region of the next has a table.
-    BufferRegion { done: u32 },
+    /// It names a file, and write is about to read the mode of that.
+    ReadingMode,
+    /// It is about to take a page for its request, with the bytes.
+    TakingRequest,
+    /// It has taken so many bytes, which begin at this place in its page, and is about to read whether the region of the next has a table.
+    BufferRegion {
+        done: u32,
+        start: u32,
+    },
     /// It is about to read the entry of the next byte's page.
-    BufferEntry { done: u32 },
+    BufferEntry {
+        done: u32,
+        start: u32,
+    },
     /// It is about to load the next bytes.
-    Gathering { done: u32 },
+    Gathering {
+        done: u32,
+        start: u32,
+    },
     /// It has loaded the bytes of a word, of which so many are left, the next lowest, and is about to put them, or the next of them, into
     /// its page.
-    Keeping { done: u32, word: u32, left: u32 },
-    /// Its page has all bytes, and it is about to print them.
+    Keeping {
+        done: u32,
+        word: u32,
+        left: u32,
+        start: u32,
+    },
+    /// Its page has all bytes for the console, and it is about to print them.
     Printing,
     /// They are printed, and it is about to give its page back.
     Releasing,
     /// The next byte can't be taken, and write is about to raise the fault that ends the environment.
-    Faulting { done: u32 },
+    Faulting {
+        done: u32,
+    },
+    /// Its page has all bytes for a file, and it is about to read the number of that.
+    ReadingNumber,
+    /// It is about to put the number into its page.
+    StoringNumber {
+        number: u32,
+    },
+    /// It is about to put there how many bytes there are.
+    StoringCount,
+    /// Its page tells the request, and it is about to ask for its id.
+    Identifying,
+    /// It is about to ask the server, and has this id.
+    Asking {
+        id: u32,
+    },
+    /// It has asked in vain, and is about to give up its turn.
+    Pausing {
+        id: u32,
+    },
+    /// It has asked, and is about to wait for the reply.
+    Awaiting {
+        id: u32,
+    },
+    /// It waits, or is about to give its page back.
+    Clearing {
+        id: u32,
+    },
+    /// It is about to read the word that came.
+    ReadingReply {
+        id: u32,
+    },
 }
 
 /// write(fd, va, len), at a stage.
@@ -61,41 +116,69 @@ impl Write {
             Step::DescriptorEntry { .. } => WriteStage::Entry,
             Step::ReadingDevice => WriteStage::Device,
             Step::TakingPage => WriteStage::TakingPage,
-            Step::BufferRegion { done, .. } => WriteStage::BufferRegion { done },
-            Step::BufferEntry { done, .. } => WriteStage::BufferEntry { done },
-            Step::Gathering { done } => WriteStage::Gathering { done },
-            Step::Keeping { done, word, left } => WriteStage::Keeping { done, word, left },
+            Step::ReadingMode => WriteStage::ReadingMode,
+            Step::TakingRequest => WriteStage::TakingRequest,
+            Step::BufferRegion { done, word } => WriteStage::BufferRegion { done, start: word },
+            Step::BufferEntry { done, word } => WriteStage::BufferEntry { done, start: word },
+            Step::GatheringBytes { done, start } => WriteStage::Gathering { done, start },
+            Step::KeepingBytes {
+                done,
+                word,
+                left,
+                start,
+            } => WriteStage::Keeping {
+                done,
+                word,
+                left,
+                start,
+            },
             Step::Printing => WriteStage::Printing,
             Step::Releasing => WriteStage::Releasing,
             Step::Faulting { done, .. } => WriteStage::Faulting { done },
+            Step::ReadingNumber => WriteStage::ReadingNumber,
+            Step::StoringNumber { number } => WriteStage::StoringNumber { number },
+            Step::StoringCount => WriteStage::StoringCount,
+            Step::Identifying => WriteStage::Identifying,
+            Step::Asking { id } => WriteStage::Asking { id },
+            Step::Pausing { perm } => WriteStage::Pausing { id: perm },
+            Step::Awaiting { id } => WriteStage::Awaiting { id },
+            Step::Clearing { id } => WriteStage::Clearing { id },
+            Step::ReadingReply { id } => WriteStage::ReadingReply { id },
             _ => return None,
         };
         Some(Write { fd, va, len, at })
     }
 
-    /// How many bytes it takes.
+    /// How many bytes it takes for the console.
     fn wanted(&self) -> u32
         ensures { result ≡ stages.wanted_of self.now.len }
     {
         self.len.min(TRANSFER_MAX)
     }
 
+    /// How many it takes where they begin at this place in its page.
+    fn wanted_from(&self, start: u32) -> u32
+        ensures { result ≡ stages.wanted_from start self.now.len }
+    {
+        self.len.min(PGSIZE.saturating_sub(start))
+    }
+
     /// How many it takes at once, behind so many.
-    fn moved(&self, done: u32) -> u32
-        ensures { result ≡ stages.moved self.now.va self.now.len done }
+    fn moved(&self, start: u32, done: u32) -> u32
+        ensures { result ≡ stages.moved self.now.va self.now.len start done }
     {
         moved_at_once(
             self.va.wrapping_add(done),
-            self.wanted().saturating_sub(done),
+            self.wanted_from(start).saturating_sub(done),
         )
     }
 
     /// What it asks to take the next bytes.
-    fn ask_gathering(&self, done: u32) -> Ask
-        ensures { result ≡ stages.gathering_asked self.now.va self.now.len done }
+    fn ask_gathering(&self, start: u32, done: u32) -> Ask
+        ensures { result ≡ stages.gathering_asked self.now.va self.now.len start done }
     {
         let va = self.va.wrapping_add(done);
-        if self.moved(done) == 4 {
+        if self.moved(start, done) == 4 {
             Ask::Load { va }
         } else {
             Ask::LoadByte { va }
@@ -106,6 +189,9 @@ impl Write {
     fn next_of_device(&self, device: u32) -> Next
         ensures { result ≡ stages.next_of_device self.now.va self.now.len device }
     {
+        if device == DEVICE_FILE {
+            return Next::GoOn(Step::ReadingMode);
+        }
         if device != DEVICE_CONSOLE {
             return Next::Answer(E_NOT_SUPP.wrapping_neg());
         }
@@ -118,40 +204,57 @@ impl Write {
         Next::GoOn(Step::TakingPage)
     }
 
-    /// What it does next when its page has so many bytes.
-    fn next_behind(&self, done: u32) -> Next
-        ensures { result ≡ stages.next_behind self.now.va self.now.len done }
+    /// What it does next by the word that tells the mode of its file.
+    fn next_of_mode(&self, mode: u32) -> Next
+        ensures { result ≡ stages.next_of_mode self.now.va self.now.len mode }
     {
-        if done >= self.wanted() {
-            return Next::GoOn(Step::Printing);
+        if mode == 0 {
+            return Next::Answer(E_INVAL.wrapping_neg());
+        }
+        if !is_buffer(self.va, self.wanted_from(REQUEST_BYTES)) {
+            return Next::Answer(E_INVAL.wrapping_neg());
+        }
+        Next::GoOn(Step::TakingRequest)
+    }
+
+    /// What it does next when it has been answered where it took the page of its request.
+    fn next_of_request(&self, word: u32) -> Next
+        ensures { result ≡ stages.next_of_request self.now.len word }
+    {
+        if word != 0 {
+            return Next::Answer(word);
+        }
+        if self.len == 0 {
+            return Next::GoOn(Step::ReadingNumber);
+        }
+        Next::GoOn(Step::BufferRegion {
+            done: 0,
+            word: REQUEST_BYTES,
+        })
+    }
+
+    /// What it does next when its page has so many bytes.
+    fn next_behind(&self, start: u32, done: u32) -> Next
+        ensures { result ≡ stages.next_behind self.now.va self.now.len start done }
+    {
+        if done >= self.wanted_from(start) {
+            return next_with_all(start);
         }
         if self.va.wrapping_add(done) % PGSIZE == 0 {
-            return Next::GoOn(Step::BufferRegion { done, word: 0 });
+            return Next::GoOn(Step::BufferRegion { done, word: start });
         }
-        Next::GoOn(Step::Gathering { done })
+        Next::GoOn(Step::GatheringBytes { done, start })
     }
 }
 
-/// How many of the bytes that are left of a word are put into the page at once.
-pub fn kept_at_once(done: u32, left: u32) -> u32
-    ensures { result ≡ stages.kept_at_once done left }
+/// What it does next when its page has all bytes.
+fn next_with_all(start: u32) -> Next
+    ensures { result ≡ stages.next_with_all start }
 {
-    if done % 4 == 0 && left == 4 { 4 } else { 1 }
-}
-
-/// What is asked to put them there.
-pub fn ask_keeping(done: u32, word: u32, left: u32) -> Ask
-    ensures { result ≡ stages.keeping_asked done word left }
-{
-    let va = UTEMP + done % PGSIZE;
-    if kept_at_once(done, left) == 4 {
-        Ask::Store { va, word }
-    } else {
-        Ask::StoreByte {
-            va,
-            byte: (word % 256) as u8,
-        }
+    if start == 0 {
+        return Next::GoOn(Step::Printing);
     }
+    Next::GoOn(Step::ReadingNumber)
 }
 
 impl Planned for Write {
@@ -172,10 +275,26 @@ impl Planned for Write {
                 number: SYS_PAGE_ALLOC,
                 args: [0, UTEMP, PTE_P + PTE_U + PTE_W, 0, 0],
             },
-            WriteStage::BufferRegion { done } => ask_page_region(self.va.wrapping_add(done)),
-            WriteStage::BufferEntry { done } => ask_page_entry(self.va.wrapping_add(done)),
-            WriteStage::Gathering { done } => self.ask_gathering(done),
-            WriteStage::Keeping { done, word, left } => ask_keeping(done, word, left),
+            WriteStage::ReadingMode => Ask::Load {
+                va: descriptor_va(self.fd) + FD_MODE,
+            },
+            WriteStage::TakingRequest => Ask::System {
+                number: SYS_PAGE_ALLOC,
+                args: [0, UTEMP, PTE_P + PTE_U + PTE_W, 0, 0],
+            },
+            WriteStage::BufferRegion { done, start: _ } => {
+                ask_page_region(self.va.wrapping_add(done))
+            }
+            WriteStage::BufferEntry { done, start: _ } => ask_page_entry(
+                self.va.wrapping_add(done),
+            ),
+            WriteStage::Gathering { done, start } => self.ask_gathering(start, done),
+            WriteStage::Keeping {
+                done,
+                word,
+                left,
+                start,
+            } => ask_keeping(start.wrapping_add(done), word, left),
             WriteStage::Printing => Ask::System {
                 number: SYS_CPUTS,
                 args: [UTEMP, self.wanted(), 0, 0, 0],
@@ -186,6 +305,31 @@ impl Planned for Write {
             },
             WriteStage::Faulting { done } => Ask::LoadByte {
                 va: self.va.wrapping_add(done),
+            },
+            WriteStage::ReadingNumber => Ask::Load {
+                va: descriptor_va(self.fd) + FD_FILE,
+            },
+            WriteStage::StoringNumber { number } => Ask::Store {
+                va: UTEMP + REQUEST_FILE,
+                word: number,
+            },
+            WriteStage::StoringCount => Ask::Store {
+                va: UTEMP + REQUEST_COUNT,
+                word: self.wanted_from(REQUEST_BYTES),
+            },
+            WriteStage::Identifying => Ask::System {
+                number: SYS_GETENVID,
+                args: [0; 5],
+            },
+            WriteStage::Asking { id: _ } => ask_with_page(FSREQ_WRITE),
+            WriteStage::Pausing { id: _ } => Ask::System {
+                number: SYS_YIELD,
+                args: [0; 5],
+            },
+            WriteStage::Awaiting { id: _ } => ask_reply(),
+            WriteStage::Clearing { id: _ } => ask_clearing(),
+            WriteStage::ReadingReply { id } => Ask::Load {
+                va: reply_place(id),
             },
         }
     }
@@ -202,37 +346,42 @@ impl Planned for Write {
                 }
                 Next::GoOn(Step::BufferRegion { done: 0, word: 0 })
             }
-            WriteStage::BufferRegion { done } => {
+            WriteStage::ReadingMode => self.next_of_mode(word),
+            WriteStage::TakingRequest => self.next_of_request(word),
+            WriteStage::BufferRegion { done, start } => {
                 if !is_there(word) {
-                    return Next::GoOn(Step::Faulting { done, word: 0 });
+                    return Next::GoOn(Step::Faulting { done, word: start });
                 }
-                Next::GoOn(Step::BufferEntry { done, word: 0 })
+                Next::GoOn(Step::BufferEntry { done, word: start })
             }
-            WriteStage::BufferEntry { done } => {
+            WriteStage::BufferEntry { done, start } => {
                 if !is_there(word) {
-                    return Next::GoOn(Step::Faulting { done, word: 0 });
+                    return Next::GoOn(Step::Faulting { done, word: start });
                 }
-                Next::GoOn(Step::Gathering { done })
+                Next::GoOn(Step::GatheringBytes { done, start })
             }
-            WriteStage::Gathering { done } => Next::Show(Step::Keeping {
+            WriteStage::Gathering { done, start } => Next::Show(Step::KeepingBytes {
                 done,
                 word,
-                left: self.moved(done),
+                left: self.moved(start, done),
+                start,
             }),
             WriteStage::Keeping {
                 done,
                 word: kept,
                 left,
+                start,
             } => {
-                let moved = kept_at_once(done, left);
+                let moved = kept_at_once(start.wrapping_add(done), left);
                 let done = done.wrapping_add(moved);
                 if left <= moved {
-                    return self.next_behind(done);
+                    return self.next_behind(start, done);
                 }
-                Next::GoOn(Step::Keeping {
+                Next::GoOn(Step::KeepingBytes {
                     done,
                     word: kept / 256,
                     left: left - moved,
+                    start,
                 })
             }
             WriteStage::Printing => match called {
@@ -241,6 +390,15 @@ impl Planned for Write {
             },
             WriteStage::Releasing => Next::GoBack(self.wanted()),
             WriteStage::Faulting { .. } => Next::Gone,
+            WriteStage::ReadingNumber => Next::GoOn(Step::StoringNumber { number: word }),
+            WriteStage::StoringNumber { number: _ } => Next::GoOn(Step::StoringCount),
+            WriteStage::StoringCount => Next::GoOn(Step::Identifying),
+            WriteStage::Identifying => Next::GoOn(Step::Asking { id: word }),
+            WriteStage::Asking { id } => next_of_asking(id, word),
+            WriteStage::Pausing { id } => Next::GoOn(Step::Asking { id }),
+            WriteStage::Awaiting { id } => Next::Show(Step::Clearing { id }),
+            WriteStage::Clearing { id } => Next::GoOn(Step::ReadingReply { id }),
+            WriteStage::ReadingReply { id: _ } => Next::Answer(word),
         }
     }
 }

@@ -23,6 +23,7 @@ enum {
     SERVICE_page_drop = 7,
     SERVICE_send = 8,
     SERVICE_receive = 9,
+    SERVICE_open_file = 10,
     SERVICE_close = 11,
     SERVICE_read = 12,
     SERVICE_write = 13,
@@ -32,6 +33,16 @@ enum {
     SERVICE_remove = 17,
     SERVICE_sync = 18,
     SERVICE_dup = 19,
+};
+
+/* errors of the services on files, beside those of error.h */
+enum {
+    E_NO_DISK = 9,      /* the disk has no room, or the file would be too long */
+    E_MAX_OPEN = 10,    /* no descriptor is free, or no place for an open file */
+    E_NOT_FOUND = 11,   /* the path leads to no file */
+    E_BAD_PATH = 12,    /* the path, or a name in it, is too long */
+    E_FILE_EXISTS = 13, /* with O_CREAT and O_EXCL: the file is there */
+    E_NOT_SUPP = 15,    /* what the descriptor names is no file */
 };
 
 /* the most bytes of one cputs */
@@ -81,6 +92,19 @@ struct message {
 /* Waits for a message from an environment, or from any (0). A page comes to stand at va, where that is not 0. */
 int receive(uint32_t va, uint32_t from, struct message *message);
 
+/* ---- opening.c: files get descriptors. */
+
+/* modes: for reading, for writing, for both; and what may stand beside that: a file that is missing is made, one that is
+   there loses its bytes, and with O_CREAT one that is there is refused */
+#define O_RDONLY 0
+#define O_WRONLY 1
+#define O_RDWR 2
+#define O_CREAT 0x100
+#define O_TRUNC 0x200
+#define O_EXCL 0x400
+
+int open(uint32_t path, uint32_t mode); /* the lowest descriptor that is free */
+
 /* ---- descriptors.c. A program begins with 0 and 1, which name the console. */
 
 /* the descriptors of an environment: 0 to 31 */
@@ -89,12 +113,14 @@ int receive(uint32_t va, uint32_t from, struct message *message);
 int close(uint32_t fd);
 int dup(uint32_t old_fd, uint32_t new_fd); /* new_fd, which is closed first where it is open */
 
-/* ---- files.c: what a descriptor names, which is the console so far. */
+/* ---- files.c: what a descriptor names, the console or a file. */
 
-/* the most bytes of one read and of one write: of more, only so many are taken */
+/* the most bytes of one read and of one write, and of one write to a file: of more, only so many are taken */
 #define TRANSFER_MAX 4096
+#define FILE_WRITE_MAX 4088
 
-int read(uint32_t fd, uint32_t va, uint32_t len);  /* how many bytes were read: one of the console, and 0 at its end */
+/* how many bytes were read: of a file those that are left, of the console one, and 0 at the end of either */
+int read(uint32_t fd, uint32_t va, uint32_t len);
 int write(uint32_t fd, uint32_t va, uint32_t len); /* how many bytes were written */
 
 /* what stat tells: a name with zeros behind, a size in bytes, and 1 for a directory */
@@ -106,7 +132,7 @@ struct stat {
 
 int stat(uint32_t fd, uint32_t va);
 
-/* what is no file has neither place nor size that could be set */
+/* what is no file has neither a place of the next byte nor a size that could be set */
 int seek(uint32_t fd, uint32_t offset);
 int set_size(uint32_t fd, uint32_t size);
 

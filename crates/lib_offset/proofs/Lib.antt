@@ -1,0 +1,2 @@
+pub mod OffsetStarts
+pub mod OffsetLaw

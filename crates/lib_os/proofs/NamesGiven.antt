@@ -1,0 +1,121 @@
+-- A frame that no client has gets a name that none uses, as that of a file which is opened: the kernel's state stands for the same abstract one by
+-- these names, too.
+use Rattle.std.proofs.Common.{◌≡◌, ◌≢◌, ◌∙◌, ◌<◌, ◌%◌, ℕ, Bool, true, List, Some, refl, sym, ap, subst}
+use Rattle.jos_base.specs.declared.numbers.TheConstants.{FIRST_ENV_ID, NENV}
+use Rattle.jos_base.specs.Environments.{is_live as is_live_slot}
+use Rattle.jos_base.specs.KernelState.{KernelState, slot_at}
+use Rattle.jos_base.specs.Reach.{Entry}
+use Rattle.jos_base.specs.Words.{upd}
+use Rattle.lib_os.specs.AbstractState.{AbstractSlot, AbstractState, born, free, is_live, serving, unborn}
+use Rattle.lib_os.specs.DescriptorPages.{Things}
+use Rattle.lib_os.specs.Rows.{AreNamed, IsNamed, Names, ShowsBy, is_descriptor, is_shared, logical, rows_of}
+use Rattle.lib_os.specs.StandsFor.{HasChildren, IsBorne, StandsFor, StandsForSlot, things_in}
+use Rattle.lib_os.proofs.SlotsStand.{SeenAlike, born_stands, live_stands, seen_alike}
+use Rattle.jos_base.proofs.Maps.{upd-other}
+
+-- the frame has the name, which is an object's
+abbrev pub named_too : Names → ℕ → ℕ → Names
+named_too names name f = record {
+  name = upd names.name f name;
+  frame = upd names.frame name f;
+  is_object = upd names.is_object name true;
+}
+
+-- No client has the frame, and none of the frames that clients share has the name.
+pub record IsUnused (names : Names) (s : KernelState) (name f : ℕ) : Type 0 where
+  pub frames : (m p : ℕ) (x : Entry) → m ≢ 0 → is_live_slot (slot_at s m) ≡ true → rows_of s.spaces (slot_at s m).directory p ≡ Some x → x.frame ≢ f
+  pub counted : (m p : ℕ) (x : Entry) → logical s.spaces s.environments.slots m p ≡ Some x → x.frame ≢ f
+  pub unnamed : (m p : ℕ) (x : Entry) → logical s.spaces s.environments.slots m p ≡ Some x → is_shared x.perm ≡ true → names.name x.frame ≢ name
+
+-- what another frame is named by
+pub still_named : (names : Names) (pages shared : ℕ → List ℕ) (things : Things) (next name f p g : ℕ) → g ≢ f → names.name g ≢ name →
+    IsNamed names pages shared things next p g → IsNamed (named_too names name f) pages shared things next p g
+still_named names pages shared things next name f p g other unlike was =
+    let same : upd names.name f name g ≡ names.name g = upd-other names.name f name g other in
+    let object : upd names.is_object name true (names.name g) ≡ names.is_object (names.name g) =
+    upd-other names.is_object name true (names.name g) unlike in
+    let facts = subst (λ (m : ℕ). (upd names.frame name f m ≡ g) × (upd names.is_object name true m ≡ is_descriptor p)
+    × ShowsBy things m g (upd names.is_object name true m) (shared m) (pages g) × (m < next)) (sym same) (
+      upd-other names.frame name f (names.name g) unlike ∙ was.home,
+      object ∙ was.kind,
+      subst (λ (c : Bool). ShowsBy things (names.name g) g c (shared (names.name g)) (pages g)) (sym object) was.shows,
+      was.old,
+    ) in
+    record { home = facts.0; kind = facts.1; shows = facts.2; old = facts.3 }
+
+module _ {names : Names} {s : KernelState} {a : AbstractState} (h : StandsFor names s a) (name f : ℕ) (unused : IsUnused names s name f) where
+  abbrev after : Names
+  after = named_too names name f
+
+  -- each client's space is seen as it was
+  seen : (m : ℕ) → m ≢ 0 → is_live (a.slots m) ≡ true → SeenAlike names after s.spaces s.spaces (slot_at s m).directory
+  seen m client live = record {
+    rows = refl;
+    bytes = λ p x is own_page. refl;
+    named_so = λ p x is shared_page. upd-other names.name f name x.frame (unused.frames m p x client (live_stands h m ∙ live) is);
+    devices = λ p x descriptor is shared_page. refl;
+    regions = λ r. refl;
+  }
+
+  not_first : (m : ℕ) (slot : AbstractSlot) → a.slots m ≡ slot → ((id : ℕ) → slot ≢ serving id) → m ≢ 0
+  not_first m slot at other same = other FIRST_ENV_ID (sym at ∙ ap a.slots same ∙ h.first)
+
+  slots_stand : (m : ℕ) → StandsForSlot after s.spaces (slot_at s m) (a.slots m)
+  slots_stand m = by_slot (a.slots m) refl (h.slots m)
+    where
+      by_slot : (slot : AbstractSlot) → a.slots m ≡ slot → StandsForSlot names s.spaces (slot_at s m) slot → StandsForSlot after s.spaces (slot_at s m) slot
+      by_slot (free id) at k = k
+      by_slot (unborn id parent) at k = k
+      by_slot (serving id) at k = k
+      by_slot (born b) at k =
+          born_stands (slot_at s m) b
+          (seen m (not_first m (born b) at (λ id same. let contradiction : born b ≡ serving id = same in cc)) (ap (λ (x : AbstractSlot). is_live x) at)) k
+
+  children_stand : HasChildren after s.spaces s.environments.slots a.slots
+  children_stand = record { borne = borne; have = h.children.have }
+    where
+      borne : (m id parent : ℕ) → a.slots m ≡ unborn id parent →
+          IsBorne after s.spaces (slot_at s (parent % NENV)) (a.slots (parent % NENV)) (slot_at s m) id parent
+      borne m id parent at =
+          let c = h.children.borne m id parent at in
+          let client = not_first m (unborn id parent) at (λ i same. let contradiction : unborn id parent ≡ serving i = same in cc) in
+          let live : is_live (a.slots m) ≡ true = ap (λ (x : AbstractSlot). is_live x) at in
+          record {
+            b = c.b;
+            born_by = c.born_by;
+            named = c.named;
+            step = c.step;
+            at = c.at;
+            borne = c.borne;
+            registers = c.registers;
+            upcall = c.upcall;
+            passed = λ p inside passed. seen_alike (seen m client live) p ∙ c.passed p inside passed;
+            handed = c.handed;
+            rest = c.rest;
+            library = c.library;
+            tables = c.tables;
+          }
+
+  names_stand : AreNamed after s.spaces.pages a.shared (things_in s a) a.next_name (logical s.spaces s.environments.slots)
+  names_stand m p x is shared_page =
+      still_named names s.spaces.pages a.shared (things_in s a) a.next_name name f p x.frame (unused.counted m p x is)
+      (unused.unnamed m p x is shared_page) (h.named m p x is shared_page)
+
+  pub given_name_stands : StandsFor (named_too names name f) s a
+  given_name_stands = record {
+    slots = slots_stand;
+    children = children_stand;
+    apart = h.apart;
+    named = names_stand;
+    users = h.users;
+    whole = h.whole;
+    beside = h.beside;
+    free_slots = h.free_slots;
+    first = h.first;
+    server = h.server;
+    input = h.input;
+    last = h.last;
+    turns = h.turns;
+    tabled = h.tabled;
+    in_order = h.in_order;
+  }

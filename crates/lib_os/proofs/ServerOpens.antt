@@ -1,0 +1,391 @@
+-- The file server replies with the page of a file that it has opened: the client that waits for it has that as its lowest free descriptor's page,
+-- which names the file, and is answered the descriptor.
+use Rattle.std.proofs.Common.{◌≡◌, ◌≢◌, ◌∙◌, ◌+◌, ◌*◌, ◌/◌, ◌%◌, ◌^◌, ◌<◌, ◌==◌, ◌&&◌, ◌||◌, ℕ, Bool, true, false, List, [], ◌∷◌}
+use Rattle.std.proofs.Common.{Option, Some, None, refl, sym, ap, subst, arith, if◌then◌else◌}
+use Rattle.std.specs.Prelude.{is_some, nat_lt}
+use Rattle.std.specs.Option.{option_map}
+use Rattle.std.proofs.lemmas.Bool.Decides.{nat_tests}
+use Rattle.std.proofs.lemmas.Option.{same_Some}
+use Rattle.jos_base.specs.declared.called.Called.{Called}
+use Rattle.jos_base.specs.declared.called.Called.TheVariants.{Answered}
+use Rattle.jos_base.specs.declared.numbers.TheConstants.{FDTABLE, NENV, NPTENTRIES, PGSIZE, SYS_IPC_TRY_SEND}
+use Rattle.jos_base.specs.Environments.{Slot, found, is_live as is_live_slot}
+use Rattle.jos_base.specs.KernelState.{KernelState, slot_at, with_spaces}
+use Rattle.jos_base.specs.Messages.{accepts}
+use Rattle.jos_base.specs.Reach.{Entry}
+use Rattle.jos_base.specs.SpacesState.{SpacesState, inserted, put}
+use Rattle.jos_base.specs.SystemCalls.{entry_at, has_write, shared_entry}
+use Rattle.jos_base.specs.Words.{page_number, upd}
+use Rattle.lib_os.specs.declared.numbers.TheConstants.{DESCRIPTORS, MAXOPEN, REQUEST}
+use Rattle.lib_os.specs.declared.place.Place.{Place}
+use Rattle.lib_os.specs.declared.place.Place.TheVariants as place
+use Rattle.lib_os.specs.declared.place.Step.TheVariants as step
+use Rattle.lib_os.specs.declared.service.Service.{Service}
+use Rattle.lib_os.specs.declared.service.Service.TheVariants as service
+use Rattle.lib_os.specs.AbstractRun.{abs_step}
+use Rattle.lib_os.specs.AbstractState.{AbstractSlot, AbstractState, Born, Object, OpenFile, Phase, acted, awaiting, born, file, in_service, leaving}
+use Rattle.lib_os.specs.AbstractState.{replied, with_born}
+use Rattle.lib_os.specs.DescriptorPages.{HasObject, IsOpenFile, place_page}
+use Rattle.lib_os.specs.Descriptors.{with_descriptor}
+use Rattle.lib_os.specs.FileServer.{given, reply, reply_at, reply_to}
+use Rattle.lib_os.specs.GuestStep.{born_in}
+use Rattle.lib_os.specs.InOrder.{IsInOrder}
+use Rattle.lib_os.specs.LibraryPages.{has_copy, has_working, is_library_region}
+use Rattle.lib_os.specs.Places.{place_of}
+use Rattle.lib_os.specs.Rows.{IsNamed, IsPage, IsUsers, MayBeHad, Names, ShowsBy, descriptor_page, descriptor_perm, descriptor_seen}
+use Rattle.lib_os.specs.Rows.{is_descriptor, is_programs, lasting, logical, name_of, page_by, page_seen, rows_of, seen_where}
+use Rattle.lib_os.specs.Rows.{shown_at}
+use Rattle.lib_os.specs.StandsFor.{HasOpened, IsAwaitingFile, IsServerStatus, StandsAt, StandsFor, StandsForBorn, has_opened, things_in, upcall_at, view_of}
+use Rattle.lib_os.specs.UserCalls.{CallStep, giving, system}
+use Rattle.lib_os.proofs.AskedPlaces.{AwaitingPlace, awaiting_place}
+use Rattle.lib_os.proofs.DescriptorLooks.{descriptor_user, is_descriptors, page_region, table_region}
+use Rattle.lib_os.proofs.DescriptorsStand.{library_kept}
+use Rattle.lib_os.proofs.Effects.{Given}
+use Rattle.lib_os.proofs.EntriesStand.{PutsRow, RowsStand, named_bytes, rows_put, rows_same, rows_stand, shown_same}
+use Rattle.lib_os.proofs.FreeSeen.{lowest_seen}
+use Rattle.lib_os.proofs.Logical.{is_plain, plain_unborne, programs_no_descriptor}
+use Rattle.lib_os.proofs.NamesGiven.{IsUnused, given_name_stands, named_too}
+use Rattle.lib_os.proofs.PagesStand.{Puts, bytes_elsewhere, counts_put, others_seen, other_regions, row_elsewhere, row_placed}
+use Rattle.lib_os.proofs.PassedOn.{given_with}
+use Rattle.lib_os.proofs.Placing.{inserted_given}
+use Rattle.lib_os.proofs.Sends.{found_where, page_comes, received_in, with_message}
+use Rattle.lib_os.proofs.ServerReplies.{served_is, server_goes_on, status_at, told_at}
+use Rattle.lib_os.proofs.ServerStands.{first_slot}
+use Rattle.lib_os.proofs.Serving.{library_moved}
+use Rattle.lib_os.proofs.Slots.{slot_kept}
+use Rattle.lib_os.proofs.SlotsStand.{born_at, born_live, descriptor_shown}
+use Rattle.lib_os.proofs.StatesStand.{born_not_first, own_moves, plain_alike, set_counts, slot_in_order, stopped_settles}
+use Rattle.jos_base.proofs.Maps.{upd-all, upd-at}
+use Rattle.jos_base.proofs.Puts.{Elsewhere}
+
+-- ---- what is opened
+
+-- The server has opened a file, whose page is that of a place of its table, and no client has it yet.
+pub record HasOpenedFile (names : Names) (s : KernelState) (a : AbstractState) (number name : ℕ) : Type 0 where
+  pub below : number < MAXOPEN
+  pub source : Entry
+  pub stands : s.spaces.entries (slot_at s 0).directory (place_page number) ≡ Some source
+  pub writes : has_write source.perm ≡ true
+  pub file_is : OpenFile
+  pub object : a.objects name ≡ file file_is
+  pub told : IsOpenFile (things_in s a) name source.frame file_is (s.spaces.pages source.frame)
+  pub whole : IsPage (s.spaces.pages source.frame)
+  pub old : name < a.next_name
+  pub unused : IsUnused names s name source.frame
+
+-- the call with which it replies
+abbrev pub open_reply_call : KernelState → ℕ → ℕ → CallStep Called
+open_reply_call s id number = system s 0 SYS_IPC_TRY_SEND (id ∷ 0 ∷ (FDTABLE + PGSIZE * number) ∷ descriptor_perm ∷ 0 ∷ [])
+
+-- the entry by which the client has the page
+abbrev pub descriptor_entry : Entry → Entry
+descriptor_entry x = record { frame = x.frame; perm = descriptor_perm }
+
+-- ---- the client's part
+
+module _ {names : Names} {s : KernelState} {a : AbstractState} (h : StandsFor names s a) (client number name path mode id fd : ℕ) (b : Born)
+    (at : a.slots client ≡ born b) (opens : HasOpenedFile names s a number name)
+    (there : place_of (slot_at s client) ≡ place.InService (service.OpenFile path mode) (step.OpenClearing id fd)) (self : id ≡ (slot_at s client).id)
+    (waits : IsAwaitingFile (view_of s.spaces (slot_at s client).directory) (slot_at s client) b (service.OpenFile path mode) fd) (sp : SpacesState)
+    (put_is : inserted s.spaces (slot_at s client).directory (descriptor_page fd) (descriptor_entry opens.source) ≡ Some sp)
+    (in_order : IsInOrder (with_spaces s sp)) where
+  abbrev call : Service
+  call = service.OpenFile path mode
+
+  abbrev from : Slot
+  from = slot_at s client
+
+  abbrev dir : ℕ
+  dir = from.directory
+
+  abbrev below : fd < DESCRIPTORS
+  below = waits.lowest.below
+
+  abbrev p : ℕ
+  p = descriptor_page fd
+
+  abbrev e : Entry
+  e = descriptor_entry opens.source
+
+  abbrev after : Names
+  after = named_too names name opens.source.frame
+
+  -- the frame has its name
+  now : StandsFor after s a
+  now = given_name_stands h name opens.source.frame opens.unused
+
+  own_part : StandsForBorn after s.spaces from b
+  own_part = born_at now client b at
+
+  page_given : Given s.spaces sp dir p e
+  page_given =
+      inserted_given s.spaces sp dir p e (slot_at s 0).directory (place_page number) opens.source h.in_order.frames in_order.frames refl opens.stands
+      refl put_is
+
+  given_bytes : (q r : ℕ) (y : Entry) → Elsewhere q r dir p → rows_of s.spaces q r ≡ Some y → sp.pages y.frame ≡ s.spaces.pages y.frame
+  given_bytes q r y ne hy = by_frame (y.frame == e.frame) refl
+    where
+      by_frame : (c : Bool) → (y.frame == e.frame) ≡ c → sp.pages y.frame ≡ s.spaces.pages y.frame
+      by_frame true test =
+          let same : e.frame ≡ y.frame = grind (arith, nat_tests) in
+          subst (λ (f : ℕ). sp.pages f ≡ s.spaces.pages f) same page_given.same
+      by_frame false test =
+          let other : y.frame ≢ e.frame = grind (arith, nat_tests) in
+          page_given.placed.bytes q r y (row_elsewhere page_given.placed q r ne ∙ hy) other
+
+  puts : Puts after after s.spaces sp dir p (Some e)
+  puts = record {
+    rows = page_given.placed.rows;
+    bytes = given_bytes;
+    named_so = λ q r y hy shared_page. refl;
+    regions = other_regions page_given.placed;
+  }
+
+  -- ---- what it shows
+
+  shown_kept : (q : ℕ) → q ≢ p → shown_at after sp dir q ≡ shown_at after s.spaces dir q
+  shown_kept q ne =
+      shown_same after after s.spaces sp dir q (row_elsewhere page_given.placed dir q (λ is too. ne too))
+      (λ x hx own_page. given_bytes dir q x (λ is too. ne too) hx) (λ x hx shared_page. refl)
+
+  name_shown : name_of (shown_at after sp dir p) ≡ Some name
+  name_shown =
+      ap (λ (o : Option Entry). name_of (option_map (page_by after sp.pages) o)) (row_placed page_given.placed)
+      ∙ ap (λ (m : ℕ). Some m) (upd-at names.name opens.source.frame name)
+
+  descriptor_shows : descriptor_seen after sp dir fd ≡ Some name
+  descriptor_shows =
+      let low = below in
+      let test : nat_lt fd DESCRIPTORS ≡ true = grind (arith, nat_tests, low) in
+      ap (λ (c : Bool). if c then name_of (shown_at after sp dir p) else None) test ∙ name_shown
+
+  memory_kept : (q : ℕ) (c : Bool) → is_programs q ≡ c → page_seen after sp dir q ≡ page_seen after s.spaces dir q
+  memory_kept q true inside =
+      ap (seen_where (is_programs q))
+      (shown_kept q (λ is.
+      let contradiction : true ≡ false = sym (is_descriptors fd below) ∙ ap is_descriptor (sym is) ∙ programs_no_descriptor q inside in cc))
+  memory_kept q false outside =
+      ap (λ (c : Bool). seen_where c (shown_at after sp dir q)) outside ∙ sym (ap (λ (c : Bool). seen_where c (shown_at after s.spaces dir q)) outside)
+
+  -- its region has a table now
+  table_is : (r : ℕ) → is_some (sp.regions dir r) ≡ ((r == p / NPTENTRIES) || is_some (s.spaces.regions dir r))
+  table_is r =
+      let here : (dir == dir) ≡ true = grind (arith, nat_tests) in
+      page_given.placed.regions dir r ∙ ap (λ (c : Bool). (c && (r == p / NPTENTRIES)) || is_some (s.spaces.regions dir r)) here
+
+  tables_have : (r : ℕ) → b.regions r ≡ true → is_some (sp.regions dir r) ≡ true
+  tables_have r is = table_is r ∙ by_test (r == p / NPTENTRIES) (own_part.regions_have r is)
+    where
+      by_test : (c : Bool) → is_some (s.spaces.regions dir r) ≡ true → (c || is_some (s.spaces.regions dir r)) ≡ true
+      by_test true had = refl
+      by_test false had = had
+
+  tables_only : (r : ℕ) → is_some (sp.regions dir r) ≡ true → b.regions r || is_library_region r ≡ true
+  tables_only r is = by_test (r == p / NPTENTRIES) refl (sym (table_is r) ∙ is)
+    where
+      or_true : (t u : Bool) → u ≡ true → (t || u) ≡ true
+      or_true true u so = refl
+      or_true false u so = so
+
+      by_test : (c : Bool) → (r == p / NPTENTRIES) ≡ c → (c || is_some (s.spaces.regions dir r)) ≡ true → b.regions r || is_library_region r ≡ true
+      by_test true test there =
+          let at_table : r ≡ table_region = (let is : r ≡ p / NPTENTRIES = grind (arith, nat_tests) in is ∙ page_region fd below) in
+          or_true (b.regions r) (is_library_region r) (ap is_library_region at_table)
+      by_test false test there = own_part.regions_only r there
+
+  -- ---- itself
+
+  abbrev pub told_slot : Slot
+  told_slot = received_in (slot_at s client) (slot_at s 0).id 0 descriptor_perm
+
+  abbrev pub opened_born : Born
+  opened_born = record (with_descriptor b fd (Some name)) { phase = in_service (service.OpenFile path mode) (replied [] fd); blocked = false }
+
+  same_place : place_of told_slot ≡ place_of from
+  same_place = told_at from (slot_at s 0).id 0 descriptor_perm
+
+  come : HasOpened told_slot opened_born call fd
+  come = record {
+    regs = from.registers;
+    program = waits.program;
+    registers = refl;
+    phase = refl;
+    awake = refl;
+    silent = refl;
+    small = let low : 0 < 2 ^ 32 = omega arith in low;
+  }
+
+  mine : StandsForBorn after sp told_slot opened_born
+  mine = record {
+    id = own_part.id;
+    id_small = own_part.id_small;
+    parent = own_part.parent;
+    env_type = own_part.env_type;
+    runs = tt;
+    upcall = own_part.upcall ∙ sym (ap upcall_at same_place);
+    descriptors = upd-all (λ q (o : Option ℕ). o ≡ descriptor_seen after sp dir q) b.descriptors fd (Some name) (sym descriptor_shows)
+        (λ q ne. own_part.descriptors q
+        ∙ sym (descriptor_shown after after s.spaces sp dir q (shown_kept (descriptor_page q) (λ same. ne (omega (arith, same))))));
+    memory = λ q. own_part.memory q ∙ sym (memory_kept q (is_programs q) refl);
+    library = library_moved (place_of from) (place_of told_slot) from.extra told_slot.extra (rows_of sp dir) (sym (ap has_copy same_place))
+        (sym (ap (λ (x : Place). has_working x from.extra) same_place))
+        (library_kept (place_of from) from.extra (rows_of s.spaces dir) (rows_of sp dir) fd below
+        (λ q ne. row_elsewhere page_given.placed dir q (λ is too. ne too))
+        (λ x is. ap (λ (y : Entry). y.perm) (sym (same_Some e x (sym (row_placed page_given.placed) ∙ is)))) own_part.library);
+    regions_have = tables_have;
+    regions_only = tables_only;
+    stack = own_part.stack;
+    flags = own_part.flags;
+    at = subst (λ (x : Place). StandsAt x (view_of sp dir) told_slot opened_born) (sym (same_place ∙ there)) (self, has_opened come);
+  }
+
+  -- ---- each frame
+
+  plain : is_plain (place_of from) ≡ true
+  plain = ap is_plain there
+
+  frame_is : (y : Entry) → Some e ≡ Some y → y.frame ≡ opens.source.frame
+  frame_is y is = ap (λ (z : Entry). z.frame) (sym (same_Some e y is))
+
+  row_there : rows_of s.spaces (slot_at s 0).directory (place_page number) ≡ Some (lasting opens.source)
+  unfolding rows_of
+  row_there = ap (λ (o : Option Entry). option_map lasting o) opens.stands
+
+  new_named : IsNamed after sp.pages a.shared (things_in s a) a.next_name p opens.source.frame
+  new_named =
+      let f = opens.source.frame in
+      let name_is : upd names.name f name f ≡ name = upd-at names.name f name in
+      let object : upd names.is_object name true name ≡ true = upd-at names.is_object name true in
+      let shows : HasObject (things_in s a) name f (a.objects name) (sp.pages f) =
+      subst (λ (o : Object). HasObject (things_in s a) name f o (sp.pages f)) (sym opens.object)
+      (subst (λ (l : List ℕ). IsOpenFile (things_in s a) name f opens.file_is l) (sym page_given.same) opens.told) in
+      let facts = subst (λ (m : ℕ). (upd names.frame name f m ≡ f) × (upd names.is_object name true m ≡ is_descriptor p)
+      × ShowsBy (things_in s a) m f (upd names.is_object name true m) (a.shared m) (sp.pages f) × (m < a.next_name)) (sym name_is) (
+        upd-at names.frame name f,
+        object ∙ sym (is_descriptors fd below),
+        subst (λ (c : Bool). ShowsBy (things_in s a) name f c (a.shared name) (sp.pages f)) (sym object) shows,
+        opens.old,
+      ) in
+      record { home = facts.0; kind = facts.1; shows = facts.2; old = facts.3 }
+
+  -- beside the server's page, which is that of a place
+  had : (q : ℕ) → q ≡ place_page number → MayBeHad (q == page_number REQUEST) p e
+  had q is =
+      let low = opens.below in
+      let off : (q == page_number REQUEST) ≡ false = grind (arith, nat_tests, is, low) in
+      subst (λ (c : Bool). MayBeHad c p e) (sym off) (record { descriptor = is_descriptors fd below; shared = refl })
+
+  row : PutsRow after after s.spaces.pages a.shared sp.pages a.shared (things_in s a) a.next_name a.next_name (logical s.spaces s.environments.slots)
+      client p (Some e)
+  row = record {
+    bytes = bytes_elsewhere now client b at puts;
+    agree = λ m q x y ne hx is same. absurd (opens.unused.counted m q x hx (same ∙ frame_is y is));
+    user = λ y is. subst (λ (z : Entry). IsUsers z.perm) (same_Some e y is) descriptor_user;
+    whole = λ y is. subst (λ (z : Entry). IsPage (sp.pages z.frame)) (same_Some e y is)
+        (subst (λ (l : List ℕ). IsPage l) (sym page_given.same) opens.whole);
+    beside = λ q y z is it same. subst (λ (x : Entry). MayBeHad (q == page_number REQUEST) p x) (same_Some e y is)
+        (had q (h.server.alone number q (lasting opens.source) z opens.below row_there it (sym (frame_is y is) ∙ same)));
+    named_new = λ y is shared_page. subst (λ (f : ℕ). IsNamed after sp.pages a.shared (things_in s a) a.next_name p f) (sym (frame_is y is)) new_named;
+    named_old = λ m q x ne hx shared_page was. named_bytes (sym (bytes_elsewhere now client b at puts m q x ne hx)) was;
+  }
+
+  rows : RowsStand after sp.pages a.shared (things_in s a) a.next_name (logical sp (upd s.environments.slots client told_slot))
+  rows =
+      rows_same (put (logical s.spaces s.environments.slots) client p (Some e)) (logical sp (upd s.environments.slots client told_slot))
+      (λ m q. set_counts (with_spaces s sp) client told_slot (sym (born_live own_part)) refl
+      (plain_alike (place_of from) (place_of told_slot) plain (ap is_plain same_place ∙ plain)) m q
+      ∙ counts_put now client b at puts plain m q)
+      (rows_put (rows_stand now) row)
+
+  opened_stands : StandsFor after (with_message (with_spaces s sp) 0 client 0 descriptor_perm) (with_born a client opened_born)
+  opened_stands =
+      own_moves now client b at sp told_slot opened_born a.shared a.next_name refl (stopped_settles from told_slot refl refl refl)
+      (plain_unborne (place_of from) plain) (plain_unborne (place_of told_slot) (ap is_plain same_place ∙ plain)) (others_seen now client b at puts) mine
+      rows (slot_in_order (with_spaces s sp) client told_slot (sym (born_live own_part)) refl in_order)
+
+-- ---- it replies
+
+-- the abstract state behind the reply
+abbrev pub opened_state : AbstractState → ℕ → Service → Born → ℕ → ℕ → AbstractState
+opened_state a client by b name fd = reply_to a client by [] (with_descriptor b fd (Some name), fd)
+
+-- The client waits: the page has come to it, where there is a frame for a table.
+pub record HasGivenFile (names : Names) (s : KernelState) (a : AbstractState) (client number name : ℕ) (by : Service) (b : Born) (sp : SpacesState) :
+    Type 0 where
+  pub fd : ℕ
+  pub call : open_reply_call s b.id number ≡ giving (with_message (with_spaces s sp) 0 client 0 descriptor_perm) (Answered 0)
+  pub step : abs_step a 0 ≡ Some (opened_state a client by b name fd)
+  pub stands : IsInOrder (with_spaces s sp) →
+      (after : Names) × StandsFor after (with_message (with_spaces s sp) 0 client 0 descriptor_perm) (opened_state a client by b name fd)
+
+module _ {names : Names} {s : KernelState} {a : AbstractState} (h : StandsFor names s a) (client number name answer path mode : ℕ)
+    (is : a.server ≡ acted client answer [] (Some name)) (b : Born) (at : a.slots client ≡ born b)
+    (phase : b.phase ≡ in_service (service.OpenFile path mode) awaiting) (opens : HasOpenedFile names s a number name) where
+  abbrev opening : Service
+  opening = service.OpenFile path mode
+
+  own_too : StandsForBorn names s.spaces (slot_at s client) b
+  own_too = born_at h client b at
+
+  pub opener : AwaitingPlace (place_of (slot_at s client)) (view_of s.spaces (slot_at s client).directory) (slot_at s client) b
+      (service.OpenFile path mode)
+  opener =
+      let k : Slot = slot_at s client in awaiting_place (place_of k) (view_of s.spaces k.directory) k b opening own_too.at phase
+
+  status : IsServerStatus (acted client answer [] (Some name)) (slot_at s 0)
+  status = status_at h (acted client answer [] (Some name)) is
+
+  names_client : found s.environments b.id 0 false ≡ Some client
+  names_client =
+      subst (λ (m : ℕ). found s.environments b.id 0 false ≡ Some m) number_is
+      (found_where s.environments b.id 0 some (ap (λ (m : ℕ). is_live_slot (slot_at s m)) number_is ∙ born_live own_too)
+      (ap (λ (m : ℕ). (slot_at s m).id) number_is ∙ own_too.id))
+    where
+      number_is : b.id % NENV ≡ client
+      number_is = sym (ap (λ (i : ℕ). i % NENV) own_too.id) ∙ h.tabled.ids client (born_live own_too)
+
+      some : b.id ≢ 0
+      some zero_is = born_not_first h client b at (sym (ap (λ (i : ℕ). i % NENV) zero_is) ∙ number_is)
+
+  waits_for_it : accepts (slot_at s client).rendezvous (slot_at s 0).id ≡ true
+  waits_for_it = λ i. opener.so.rendezvous i && ((opener.so.wanted i == 0) || (opener.so.wanted i == (first_slot h).id_is i))
+
+  -- its next step
+  pub open_reply_step : abs_step a 0 ≡ Some (opened_state a client (service.OpenFile path mode) b name opener.fd)
+  open_reply_step =
+      served_is h (acted client answer [] (Some name)) is
+      ∙ ap (λ (slot : AbstractSlot). reply a client answer [] (Some name) (born_in slot)) at
+      ∙ ap (λ (p : Phase). reply_at a client b answer [] (Some name) p) phase
+      ∙ ap (λ (o : Option ℕ). Some (reply_to a client opening [] (given b (Some name) o answer)))
+      (lowest_seen h client b at opener.fd opener.expects_it.lowest)
+
+  -- where the page goes
+  goes : page_number (slot_at s client).rendezvous.destination ≡ descriptor_page opener.fd
+  goes = let there = opener.expects_it.destination in let low = opener.expects_it.lowest.below in omega (arith, there, low)
+
+  given_on : shared_entry (entry_at s 0 (FDTABLE + PGSIZE * number)) descriptor_perm ≡ Some (descriptor_entry opens.source)
+  given_on =
+      let place_is : page_number (FDTABLE + PGSIZE * number) ≡ place_page number = omega arith in
+      ap (λ (q : ℕ). shared_entry (s.spaces.entries (slot_at s 0).directory q) descriptor_perm) place_is
+      ∙ ap (λ (o : Option Entry). shared_entry o descriptor_perm) opens.stands
+      ∙ given_with opens.source descriptor_perm refl (λ writes. opens.writes)
+
+  pub file_given : (sp : SpacesState) →
+      inserted s.spaces (slot_at s client).directory (descriptor_page opener.fd) (descriptor_entry opens.source) ≡ Some sp →
+      HasGivenFile names s a client number name (service.OpenFile path mode) b sp
+  file_given sp put_is = record {
+    fd = opener.fd;
+    call = page_comes s 0 b.id 0 (FDTABLE + PGSIZE * number) descriptor_perm (0 ∷ []) (first_slot h).lives status.1 client names_client waits_for_it
+        (let low = opens.below in omega (arith, low)) (omega arith) (descriptor_entry opens.source) given_on
+        (let there = opener.expects_it.destination in let low = opener.expects_it.lowest.below in omega (arith, there, low)) sp
+        (ap (λ (q : ℕ). inserted s.spaces (slot_at s client).directory q (descriptor_entry opens.source)) goes ∙ put_is);
+    step = open_reply_step;
+    stands = λ order. (
+      named_too names name opens.source.frame,
+      server_goes_on (opened_stands h client number name path mode opener.id opener.fd b at opens opener.at opener.self opener.expects_it sp put_is order)
+          leaving
+          (subst (λ (x : Slot). IsServerStatus leaving x)
+          (sym (slot_kept (with_spaces s sp) client (received_in (slot_at s client) (slot_at s 0).id 0 descriptor_perm) 0 (born_not_first h client b at)))
+          status),
+    );
+  }
