@@ -3,8 +3,9 @@
 
     bench/act_steps.py     tables: acts over disks of two sizes, with a cold and a warm cache; what a block more costs, and of what may be
 
-The steps are those of the server alone, calls of its cache among them, from the one behind the request's coming up to the act. They may be
-65,536, and 8,192 for each block of the disk; where no page is refused, as here, the hand of the cache never goes round.
+The steps are those of the server alone, calls of its cache among them, from the one behind the request's coming up to the act. They are
+65,504 at most, and 8,192 for each block of the disk (`server_calls_max` of fs_seen), where no page is refused: so here, where the hand of the
+cache never goes round.
 """
 import sys
 
@@ -162,7 +163,7 @@ def table(title, makes, small, large):
             many, answer = count(other, same, cache == "warm")
             blocks = len(other) // BLOCK
             print(f"| {name} | {answer} | {cache} | {few:,} | {many:,} of {blocks} blocks | {(many - few) / (large - small):,.1f} | "
-                  f"{100 * many / (65536 + 8192 * blocks):.1f} % |", flush=True)
+                  f"{100 * many / (65504 + 8192 * blocks):.1f} % |", flush=True)
     print()
 
 

@@ -1,5 +1,5 @@
 -- Where a fetch begins, and a flush, the cache stands as where it stood, and what is cached is as it was.
-use Rattle.std.proofs.Common.{◌≡◌, ◌<◌, ◌-◌, ◌%◌, ◌==◌, ℕ, Bool, true, false, refl, arith, if◌then◌else◌}
+use Rattle.std.proofs.Common.{◌≡◌, ◌∙◌, ◌<◌, ◌+◌, ◌-◌, ◌%◌, ◌==◌, ◌&&◌, ℕ, Bool, true, false, refl, sym, arith, if◌then◌else◌}
 use Rattle.std.specs.Prelude.{nat_le}
 use Rattle.jos_base.specs.declared.numbers.TheConstants.{NPTENTRIES}
 use Rattle.lib_os.specs.declared.numbers.TheConstants.{CACHE_BLOCKS}
@@ -9,7 +9,7 @@ use Rattle.fs_blocks.specs.declared.place.CachePlace.TheVariants as at
 use Rattle.fs_blocks.specs.declared.plan.CacheNext.{CacheNext}
 use Rattle.fs_blocks.specs.declared.plan.Told.{Told}
 use Rattle.fs_blocks.specs.declared.plan.Told.TheVariants as told
-use Rattle.fs_blocks.specs.CachePlans.{IsOwnAsk, ask_by, ask_entry, ask_region, block_of, fetching, flushing, further}
+use Rattle.fs_blocks.specs.CachePlans.{IsOwnAsk, ask_by, ask_entry, ask_region, block_of, fetching, flush_from, flushing, further}
 use Rattle.fs_blocks.specs.CachePlans.{go_on, is_there, is_used, is_written, next_by, pass, rest_of_region, weigh}
 use Rattle.fs_cache.specs.CacheStands.{CacheView, CacheStands, cached_at}
 use Rattle.fs_cache.proofs.Views.{IsFetching}
@@ -92,6 +92,7 @@ fetch_stands d v at.Resting hand block below s = record {
   hand_below = s.hand_below;
   cache = s.cache;
   entries = s.entries;
+  dirty = s.dirty;
   pages = s.pages;
   apart = s.apart;
   at = tt;
@@ -101,6 +102,7 @@ fetch_stands d v (at.Found b) hand block below s = record {
   hand_below = s.hand_below;
   cache = s.cache;
   entries = s.entries;
+  dirty = s.dirty;
   pages = s.pages;
   apart = s.apart;
   at = tt;
@@ -123,6 +125,7 @@ fetch_stands d v (at.FlushRegion b) hand block below s = record {
   hand_below = s.hand_below;
   cache = s.cache;
   entries = s.entries;
+  dirty = s.dirty;
   pages = s.pages;
   apart = s.apart;
   at = tt;
@@ -132,6 +135,7 @@ fetch_stands d v (at.FlushPage b) hand block below s = record {
   hand_below = s.hand_below;
   cache = s.cache;
   entries = s.entries;
+  dirty = s.dirty;
   pages = s.pages;
   apart = s.apart;
   at = tt;
@@ -141,6 +145,7 @@ fetch_stands d v (at.FlushWriting b) hand block below s = record {
   hand_below = s.hand_below;
   cache = s.cache;
   entries = s.entries;
+  dirty = s.dirty;
   pages = s.pages;
   apart = s.apart;
   at = tt;
@@ -150,6 +155,7 @@ fetch_stands d v (at.FlushSettling b) hand block below s = record {
   hand_below = s.hand_below;
   cache = s.cache;
   entries = s.entries;
+  dirty = s.dirty;
   pages = s.pages;
   apart = s.apart;
   at = tt;
@@ -205,6 +211,7 @@ flush_stands d v at.Resting hand s = record {
   hand_below = s.hand_below;
   cache = s.cache;
   entries = s.entries;
+  dirty = s.dirty;
   pages = s.pages;
   apart = s.apart;
   at = λ n less. absurd (omega (arith, less));
@@ -214,6 +221,7 @@ flush_stands d v (at.Found b) hand s = record {
   hand_below = s.hand_below;
   cache = s.cache;
   entries = s.entries;
+  dirty = s.dirty;
   pages = s.pages;
   apart = s.apart;
   at = λ n less. absurd (omega (arith, less));
@@ -291,6 +299,65 @@ fetch_tells (at.FlushRegion b) hand word fetches = absurd fetches
 fetch_tells (at.FlushPage b) hand word fetches = absurd fetches
 fetch_tells (at.FlushWriting b) hand word fetches = absurd fetches
 fetch_tells (at.FlushSettling b) hand word fetches = absurd fetches
+
+-- ---- where it rests
+
+-- what tells that no page is dirty rests
+abbrev RestsClean : CacheNext → Type 0
+RestsClean next = next.told ≡ told.Clean → next.state.place ≡ at.Resting
+
+rests_by : (t : Bool) (a b : CacheNext) → RestsClean a → RestsClean b → RestsClean (if t then a else b)
+rests_by true a b first second = first
+rests_by false a b first second = second
+
+goes_unclean : (p : CachePlace) (hand : ℕ) → RestsClean (go_on p hand)
+goes_unclean p hand is = absurd cc
+
+rests_flushed : (block hand : ℕ) → RestsClean (flush_from block hand)
+rests_flushed block hand =
+    let later = if block % NPTENTRIES == 0 then go_on (at.FlushRegion block) hand else go_on (at.FlushPage block) hand in
+    rests_by (nat_le CACHE_BLOCKS block) (record { state = record { place = at.Resting; hand = hand }; told = told.Clean }) later (λ is. refl)
+    (rests_by (block % NPTENTRIES == 0) (go_on (at.FlushRegion block) hand) (go_on (at.FlushPage block) hand)
+    (goes_unclean (at.FlushRegion block) hand) (goes_unclean (at.FlushPage block) hand))
+
+rests_fetched : (p : CachePlace) (hand word : ℕ) → IsFetching p → RestsClean (next_by p hand word)
+rests_fetched p hand word fetches = by_end (fetch_tells p hand word fetches)
+  where
+    by_end : FetchEnds p word (next_by p hand word).told → RestsClean (next_by p hand word)
+    by_end (goes_on going) is = absurd (let contradiction : told.Going ≡ told.Clean = sym going ∙ is in cc)
+    by_end (gives_up b place off none) is = absurd (let contradiction : told.NoPage ≡ told.Clean = sym none ∙ is in cc)
+
+pub rests_clean : (p : CachePlace) (hand word : ℕ) → RestsClean (next_by p hand word)
+rests_clean at.Resting hand word = λ is. refl
+rests_clean (at.Found b) hand word = goes_unclean (at.Found b) hand
+rests_clean (at.LookingRegion b) hand word = rests_fetched (at.LookingRegion b) hand word tt
+rests_clean (at.LookingPage b) hand word = rests_fetched (at.LookingPage b) hand word tt
+rests_clean (at.Taking b) hand word = rests_fetched (at.Taking b) hand word tt
+rests_clean (at.Filling b) hand word = rests_fetched (at.Filling b) hand word tt
+rests_clean (at.Settling b) hand word = rests_fetched (at.Settling b) hand word tt
+rests_clean (at.HandRegion b left) hand word = rests_fetched (at.HandRegion b left) hand word tt
+rests_clean (at.HandPage b left) hand word = rests_fetched (at.HandPage b left) hand word tt
+rests_clean (at.WritingBack b) hand word = rests_fetched (at.WritingBack b) hand word tt
+rests_clean (at.Passing b) hand word = rests_fetched (at.Passing b) hand word tt
+rests_clean (at.Moving b) hand word = rests_fetched (at.Moving b) hand word tt
+rests_clean (at.Leaving b) hand word = rests_fetched (at.Leaving b) hand word tt
+rests_clean (at.Freeing b) hand word = rests_fetched (at.Freeing b) hand word tt
+rests_clean (at.TakingLast b) hand word = rests_fetched (at.TakingLast b) hand word tt
+rests_clean (at.FlushRegion b) hand word =
+    rests_by (is_there word) (go_on (at.FlushPage b) hand) (flush_from (block_of b + rest_of_region b) hand) (goes_unclean (at.FlushPage b) hand)
+    (rests_flushed (block_of b + rest_of_region b) hand)
+rests_clean (at.FlushPage b) hand word =
+    rests_by (is_there word && is_written word) (go_on (at.FlushWriting b) hand) (flush_from (block_of b + 1) hand)
+    (goes_unclean (at.FlushWriting b) hand) (rests_flushed (block_of b + 1) hand)
+rests_clean (at.FlushWriting b) hand word = goes_unclean (at.FlushSettling b) hand
+rests_clean (at.FlushSettling b) hand word = rests_flushed (block_of b + 1) hand
+
+-- and so does what has no page, where it was asked for last
+pub rests_without : (p : CachePlace) (hand word b : ℕ) → p ≡ at.TakingLast b → (word == 0) ≡ false → (next_by p hand word).state.place ≡ at.Resting
+rests_without p hand word b is off =
+    (λ i. (next_by (is i) hand word).state.place)
+    ∙ (λ i. (if off i then go_on (at.Filling b) hand
+    else record { state = record { place = at.Resting; hand = hand }; told = told.NoPage }).state.place)
 
 -- ---- what is asked
 

@@ -1,7 +1,7 @@
 -- From a step of the cache to what it keeps and what it tells: each call has done to what is seen of the pages what its place asks, by the
 -- laws of its kind; behind it the cache stands where its words say, and each block holds what it held.
-use Rattle.std.proofs.Common.{◌≡◌, ◌≢◌, ◌∙◌, ◌<◌, ◌^◌, ◌-◌, ◌/◌, ◌==◌, inl, inr, ℕ, true, false, is_some, List, length, Option, Some, None}
-use Rattle.std.proofs.Common.{Ok, Err, refl, sym, ap, subst, mod-eq_of_lt}
+use Rattle.std.proofs.Common.{◌≡◌, ◌≢◌, ◌∙◌, ◌<◌, ◌-◌, ◌/◌, ◌==◌, ◌⊎◌, inl, inr, ℕ, Bool, true, false, is_some, List, length, Option, Some, None}
+use Rattle.std.proofs.Common.{Ok, Err, refl, sym, ap, subst, mod-eq_of_lt, if◌then◌else◌}
 use Rattle.std.proofs.lemmas.Bool.{cases_lt}
 use Rattle.jos_host.specs.Files.{Files}
 use Rattle.jos_host.specs.Frames.{Around, from_to}
@@ -30,17 +30,20 @@ use Rattle.fs_blocks.specs.CachePlaces.{state_in, with_state}
 use Rattle.fs_blocks.specs.CachePlans.{ask_by, block_of, fetching, flushing, next_by}
 use Rattle.fs_cache.specs.CacheStands.{CacheAt, CacheStands, CacheView, HoldsBlock, cache_view, cached_at, cached_in, was_used}
 use Rattle.fs_cache.specs.CacheSteps.{Caller, FilesAfter, HasGone, by_word, stopped, IsReply, KeepsCache}
-use Rattle.fs_cache.specs.CacheSteps.{FetchTells, FetchTold, FlushTells, FlushTold, IsBlockStep, as_cached, as_flushed}
+use Rattle.fs_cache.specs.CacheSteps.{ComesOn, FetchTells, FetchTold, FlushTells, FlushTold, IsBlockStep, IsReady, WasRefused, as_cached, as_flushed}
+use Rattle.fs_cache.specs.CacheSteps.{block_calls, fetch_calls, flush_calls, is_fetching}
 use Rattle.fs_cache.specs.CacheSteps.{cache_state, fetch_left, fetch_state, flush_left, flush_state, gone_on, is_found, left_in, row_in, wait_left}
 use Rattle.fs_cache.proofs.CacheBegins.{IsUnderWay, fetch_caches, fetch_fetches, fetch_goes, fetch_stands}
 use Rattle.fs_cache.proofs.CacheBegins.{fetch_tells, FetchEnds, goes_on, gives_up}
-use Rattle.fs_cache.proofs.CacheBegins.{flush_caches, flush_goes, flush_stands, own_ask}
+use Rattle.fs_cache.proofs.CacheBegins.{flush_caches, flush_goes, flush_stands, own_ask, rests_clean, rests_without}
 use Rattle.fs_blocks.proofs.CacheWords.{length_with, state_back}
 use Rattle.fs_cache.proofs.Interfaces.{BlockIsRead, BlockIsWritten, CallerStays, EntryIsRead, IsServer}
 use Rattle.fs_cache.proofs.Interfaces.{LoadsGive, PageIsMapped, PageIsTaken, PageIsUnmapped}
 use Rattle.fs_cache.proofs.Interfaces.{RegionIsRead, view_in}
 use Rattle.fs_cache.proofs.Loads.{row_past}
+use Rattle.fs_cache.proofs.FallsCalls.{flush_calls_fall, flushing_fetches_none}
 use Rattle.fs_cache.proofs.FallsHeld.{held_falls}
+use Rattle.fs_cache.proofs.NearFalls.{NearFollows, begins, comes, lacks, near-falls}
 use Rattle.fs_cache.proofs.Waits.{found_by, wait_falls}
 use Rattle.fs_cache.proofs.Views.{DoneAt, EndsRightly, FetchFalls, FlushFalls, StandsBehind, left_by}
 
@@ -235,18 +238,28 @@ pub record Stepped (c : Caller) (before : Files) (place : CachePlace) (hand : �
   pub cache : CacheAt (disk_in files c.disk) after c.slot
   pub values : KeepsValues (disk_in before c.disk) (cached_at (view_in c.state c.slot) place) (disk_in files c.disk) (cached_in after c.slot)
   -- where a page was asked for last, and refused
-  pub refused : (b : ℕ) → place ≡ at.TakingLast b → (word == 0) ≡ false → c.state.refusals < 2 ^ 64 - 1 → c.state.refusals < after.refusals
+  pub refused : (b : ℕ) → place ≡ at.TakingLast b → (word == 0) ≡ false → WasRefused c.state after
+  -- and where it was asked for first
+  pub refused_first : (b : ℕ) → place ≡ at.Taking b → (word == 0) ≡ false → WasRefused c.state after
 
 module _ (p : Pieces) (c : Caller) (before : Files) (behind : Option Files) (place : CachePlace) (hand : ℕ) (tells : Told) (output : Output)
     (server : IsServer c.state c.slot) (whole : HasBlocks (Some before) c.disk) (twelve : length (slot_at c.state c.slot).extra ≡ 12)
     (stands : CacheStands (disk_in before c.disk) (view_in c.state c.slot) place hand) (goes : IsUnderWay place) where
   refused_last : (word : ℕ) (mid : KernelState) → IsReply (ask_by place hand) c (Some before) (Ok word) mid output →
-      (b : ℕ) → place ≡ at.TakingLast b → (word == 0) ≡ false → c.state.refusals < 2 ^ 64 - 1 → c.state.refusals < mid.refusals
+      (b : ℕ) → place ≡ at.TakingLast b → (word == 0) ≡ false → WasRefused c.state mid
   refused_last word mid reply b is refused few =
       let last : CacheStands (disk_in before c.disk) (view_in c.state c.slot) (at.TakingLast b) hand =
       subst (λ (x : CachePlace). CacheStands (disk_in before c.disk) (view_in c.state c.slot) x hand) is stands in
       let asked = subst (λ (x : CachePlace). IsReply (ask_by x hand) c (Some before) (Ok word) mid output) is reply in
       (p.page_is_taken c (Some before) b word mid output server last.block_below (last.at b last.block_below) asked).1 refused few
+
+  refused_at_first : (word : ℕ) (mid : KernelState) → IsReply (ask_by place hand) c (Some before) (Ok word) mid output →
+      (b : ℕ) → place ≡ at.Taking b → (word == 0) ≡ false → WasRefused c.state mid
+  refused_at_first word mid reply b is refused few =
+      let first : CacheStands (disk_in before c.disk) (view_in c.state c.slot) (at.Taking b) hand =
+      subst (λ (x : CachePlace). CacheStands (disk_in before c.disk) (view_in c.state c.slot) x hand) is stands in
+      let asked = subst (λ (x : CachePlace). IsReply (ask_by x hand) c (Some before) (Ok word) mid output) is reply in
+      (p.page_is_taken c (Some before) b word mid output server first.block_below first.at asked).1 refused few
 
   by_its_word : (word : ℕ) (mid : KernelState) → IsReply (ask_by place hand) c (Some before) (Ok word) mid output →
       FilesAfter (ask_by place hand) c (Ok word) (from_to (Some before) behind) → tells ≡ (next_by place hand word).told →
@@ -277,6 +290,7 @@ module _ (p : Pieces) (c : Caller) (before : Files) (behind : Option Files) (pla
             subst (λ (k : CachedBlocks). KeepsValues d (cached_at v place) e k)
             (sym (λ i. cached_at (view_behind mid n next i) (state_behind mid n next long e after.0 i).place)) after.1;
         refused = refused_last word mid reply;
+        refused_first = refused_at_first word mid reply;
       }
 
   pub stepped : (after : KernelState) → IsInOrder after →
@@ -298,6 +312,12 @@ left_behind : (number : CachePlace → ℕ → ℕ → ℕ) (c : Caller) (before
     (after : KernelState) (x : Stepped c before place hand behind tells after) →
     left_in number (cache_state after c.slot).place after c.slot ≡ left_by number (next_by place hand x.word).state.place x.view
 left_behind number c before place hand behind tells after x = λ i. left_by number (x.state_is i).place (x.view_is i)
+
+-- where the cache stands behind a step, and the row of its pages
+place_behind : (c : Caller) (before : Files) (place : CachePlace) (hand : ℕ) (behind : Option Files) (tells : Told)
+    (after : KernelState) (x : Stepped c before place hand behind tells after) →
+    (cache_state after c.slot).place ≡ (next_by place hand x.word).state.place
+place_behind c before place hand behind tells after x = λ i. (x.state_is i).place
 
 -- the rows of all numbers
 all_rows : (P : Option Entry → Type 0) → P None → (s : KernelState) (n : ℕ) (v : CacheView) → view_in s n ≡ v →
@@ -387,7 +407,23 @@ module _ (p : Pieces) (block : ℕ) (c : Caller) (tells : Told) (output : Output
           x.refused b place_is refused,
           all_rows (λ o. o ≡ None) refl after c.slot x.view x.view_is
               ((p.ends_rightly d e v x.view fetch_place fetch_hand x.word (fetch_at before cache) x.done).0 (sym x.tells_is ∙ is)),
+          place_behind c before fetch_place fetch_hand behind tells after x
+              ∙ rests_without fetch_place fetch_hand x.word b place_is refused,
         )
+
+    -- where no page is refused, there is one call fewer
+    fetch_came : is_found block (cache_state c.state c.slot).place ≡ false →
+        NearFollows block fetch_place x.word (next_by fetch_place fetch_hand x.word) →
+        ComesOn block (cache_state c.state c.slot).place (cache_state after c.slot).place ⊎ WasRefused c.state after
+    fetch_came not_found (comes going ready fewer) =
+        let now = sym (place_behind c before fetch_place fetch_hand behind tells after x) in
+        inl (
+          subst (λ (p : CachePlace). IsReady block p) now ready,
+          subst (λ (p : CachePlace). block_calls block p < block_calls block (cache_state c.state c.slot).place) now
+              (subst (λ (k : ℕ). block_calls block (next_by fetch_place fetch_hand x.word).state.place < k)
+              (sym (ap (λ (t : Bool). if t then 0 else fetch_calls fetch_place) not_found)) fewer),
+        )
+    fetch_came not_found (lacks is off) = inr (x.refused_first block is off)
 
     fetch_fell : is_found block (cache_state c.state c.slot).place ≡ false → tells ≡ told.Going →
         FetchTells block cached.Going c.slot (from_to c.state after)
@@ -404,6 +440,8 @@ module _ (p : Pieces) (block : ℕ) (c : Caller) (tells : Told) (output : Output
               (wait_falls (cache_state c.state c.slot).place fetch_hand x.word block v x.view not_found (sym x.tells_is ∙ is)
               (held_falls d e v x.view fetch_place fetch_hand x.word (fetch_at before cache) x.done
               (fetch_fetches (cache_state c.state c.slot).place block))),
+          λ ready. fetch_came not_found
+              (near-falls block fetch_hand x.word (begins block (cache_state c.state c.slot).place ready)),
         )
 
     fetch_not_clean : FetchEnds fetch_place x.word (next_by fetch_place fetch_hand x.word).told → tells ≡ told.Clean → ⊥
@@ -472,18 +510,38 @@ module _ (p : Pieces) (c : Caller) (tells : Told) (output : Output) where
     flush_ended is =
         let d = disk_in before c.disk in
         let e = disk_in x.files c.disk in
+        let v = view_in c.state c.slot in (
+          all_rows (λ o. is_dirty o ≡ false) refl after c.slot x.view x.view_is
+              ((p.ends_rightly d e v x.view flush_place flush_hand x.word (flush_at before cache) x.done).1 (sym x.tells_is ∙ is)),
+          place_behind c before flush_place flush_hand behind tells after x
+              ∙ rests_clean flush_place flush_hand x.word (sym x.tells_is ∙ is),
+        )
+
+    -- where no fetch was under way, there is one call fewer
+    flush_came : (tells ≡ told.Clean → ⊥) → is_fetching (cache_state c.state c.slot).place ≡ false →
+        (is_fetching (cache_state after c.slot).place ≡ false)
+        × (flush_calls (flushing (cache_state after c.slot).place) (row_in after c.slot) < flush_calls flush_place (row_in c.state c.slot))
+    flush_came other off =
+        let d = disk_in before c.disk in
+        let e = disk_in x.files c.disk in
         let v = view_in c.state c.slot in
-        all_rows (λ o. is_dirty o ≡ false) refl after c.slot x.view x.view_is
-        ((p.ends_rightly d e v x.view flush_place flush_hand x.word (flush_at before cache) x.done).1 (sym x.tells_is ∙ is))
+        let fell = flush_calls_fall d e v x.view flush_place flush_hand x.word (flush_at before cache) x.done
+        (flushing_fetches_none (cache_state c.state c.slot).place off) (λ is. other (x.tells_is ∙ is)) in (
+          (λ i. is_fetching (x.state_is i).place) ∙ fell.0,
+          subst (λ (k : ℕ). k < flush_calls flush_place (row_in c.state c.slot))
+              (sym (λ i. flush_calls (flushing (x.state_is i).place) (x.view_is i).row)) fell.1,
+        )
 
     flush_fell : (tells ≡ told.Clean → ⊥) → FlushTells flushed.Going c.slot (from_to c.state after)
     flush_fell other =
         let d = disk_in before c.disk in
         let e = disk_in x.files c.disk in
-        let v = view_in c.state c.slot in
-        subst (λ (k : ℕ). k < left_in flush_left flush_place c.state c.slot)
-        (sym (left_behind flush_left c before flush_place flush_hand behind tells after x))
-        (p.flush_falls d e v x.view flush_place flush_hand x.word (flush_at before cache) x.done (λ is. other (x.tells_is ∙ is)))
+        let v = view_in c.state c.slot in (
+          subst (λ (k : ℕ). k < left_in flush_left flush_place c.state c.slot)
+              (sym (left_behind flush_left c before flush_place flush_hand behind tells after x))
+              (p.flush_falls d e v x.view flush_place flush_hand x.word (flush_at before cache) x.done (λ is. other (x.tells_is ∙ is))),
+          flush_came other,
+        )
 
     flush_is : (t : Told) → tells ≡ t → FlushTells (as_flushed t) c.slot (from_to c.state after)
     flush_is told.NoPage is = flush_fell (λ clean. subst IsNoPage (sym is ∙ clean) tt)

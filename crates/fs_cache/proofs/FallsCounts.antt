@@ -1,6 +1,8 @@
 -- How many blocks are cached, and how many of their pages were used, where one block has another entry.
-use Rattle.std.proofs.Common.{◌≡◌, ◌≢◌, ◌∙◌, ◌<◌, ◌≤◌, ◌+◌, ◌*◌, ℕ, Bool, true, false, is_some, Option, Some, None, inl, inr, refl, sym, ap, arith}
+use Rattle.std.proofs.Common.{◌≡◌, ◌≢◌, ◌∙◌, ◌<◌, ◌≤◌, ◌+◌, ◌*◌, ℕ, zero, suc, Bool, true, false, is_some, Option, Some, None}
+use Rattle.std.proofs.Common.{inl, inr, refl, sym, ap, arith}
 use Rattle.std.proofs.lemmas.Bool.{cases_eq, cases_lt}
+use Rattle.jos_base.specs.Counting.{total}
 use Rattle.jos_base.specs.Environments.{bit_of}
 use Rattle.jos_base.specs.Reach.{Entry}
 use Rattle.jos_base.proofs.Sums.{total-change, total-le, total-mono, total-same}
@@ -21,26 +23,42 @@ bits-le : (a b : Bool) → (a ≡ true → b ≡ true) → bit_of a ≤ bit_of b
 bits-le false b so = omega arith
 bits-le true b so = let is : bit_of b ≡ 1 = ap bit_of (so refl) in omega (arith, is)
 
-count-le : (n : ℕ) (g : ℕ → Bool) → count_below n g ≤ n
+pub count-le : (n : ℕ) (g : ℕ → Bool) → count_below n g ≤ n
 count-le n g =
     let most = total-le n 1 (λ k. bit_of (g k)) (λ k. bit-le (g k)) in
     let same : n * 1 ≡ n = grind arith in
     omega (arith, most, same)
 
-count-same : (n : ℕ) (g h : ℕ → Bool) → ((k : ℕ) → g k ≡ h k) → count_below n g ≡ count_below n h
+pub count-same : (n : ℕ) (g h : ℕ → Bool) → ((k : ℕ) → g k ≡ h k) → count_below n g ≡ count_below n h
 count-same n g h same = total-same n (λ k. bit_of (g k)) (λ k. bit_of (h k)) (λ k lt. ap bit_of (same k))
 
-count-mono : (n : ℕ) (g h : ℕ → Bool) → ((k : ℕ) → g k ≡ true → h k ≡ true) → count_below n g ≤ count_below n h
+pub count-mono : (n : ℕ) (g h : ℕ → Bool) → ((k : ℕ) → g k ≡ true → h k ≡ true) → count_below n g ≤ count_below n h
 count-mono n g h so = total-mono n (λ k. bit_of (g k)) (λ k. bit_of (h k)) (λ k lt. bits-le (g k) (h k) (so k))
 
 -- one of them passes no more
-count-off : (n k : ℕ) (g h : ℕ → Bool) → k < n → ((q : ℕ) → q ≢ k → g q ≡ h q) → g k ≡ false → h k ≡ true →
+pub count-off : (n k : ℕ) (g h : ℕ → Bool) → k < n → ((q : ℕ) → q ≢ k → g q ≡ h q) → g k ≡ false → h k ≡ true →
     count_below n h ≡ count_below n g + 1
 count-off n k g h lt same off on =
     let change = total-change n k (λ q. bit_of (g q)) (λ q. bit_of (h q)) lt (λ q ne. ap bit_of (same q ne)) in
     let now : bit_of (g k) ≡ 0 = ap bit_of off in
     let before : bit_of (h k) ≡ 1 = ap bit_of on in
     omega (arith, change, now, before)
+
+-- those that pass are below m
+pub count-under : (n m : ℕ) (g : ℕ → Bool) → ((k : ℕ) → g k ≡ true → k < m) → count_below n g ≤ m
+unfolding total
+count-under zero m g so = omega arith
+count-under (suc n) m g so = elim (cases_lt n m) [
+  | inl lt ↦ let all = count-le (suc n) g in omega (arith, all, lt)
+  | inr past ↦
+      let rest = count-under n m g so in
+      let off = none_past (g n) (so n) past in
+      omega (arith, rest, off)
+]
+  where
+    none_past : (t : Bool) → (t ≡ true → n < m) → m ≤ n → bit_of t ≡ 0
+    none_past false lt past = refl
+    none_past true lt past = let below = lt refl in absurd (omega (arith, below, past))
 
 -- ---- of any row
 

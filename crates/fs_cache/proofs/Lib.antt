@@ -24,3 +24,5 @@ pub mod Moves
 pub mod StepMade
 pub mod CachePieces
 pub mod GoneMade
+pub mod NearFalls
+pub mod FallsCalls

@@ -1,8 +1,9 @@
 -- A call of the cache, place by place: the cache stands where it goes, and each block holds what it held.
 use Rattle.std.proofs.Common.{◌≡◌, ◌≢◌, ◌∙◌, ◌<◌, ◌≤◌, ◌+◌, ◌/◌, ◌%◌, ◌==◌, ◌&&◌, ◌⊎◌, inl, inr, ℕ, Bool, true, false, Option, Some, None, refl, sym, ap, subst, arith}
 use Rattle.std.proofs.lemmas.Bool.{cases_eq}
-use Rattle.jos_base.specs.declared.numbers.TheConstants.{NPTENTRIES}
+use Rattle.jos_base.specs.declared.numbers.TheConstants.{NPTENTRIES, PTE_D}
 use Rattle.jos_base.specs.Reach.{Entry}
+use Rattle.jos_base.specs.Words.{has_bit}
 use Rattle.lib_os.specs.declared.numbers.TheConstants.{CACHE_BLOCKS}
 use Rattle.lib_os.specs.BlockCache.{is_dirty}
 use Rattle.lib_os.specs.Disk.{Disk}
@@ -54,7 +55,8 @@ holds_by d v n x h stands below =
 mapped_anew_there : (d : Disk) (v w : CacheView) (b : ℕ) (x : Entry) → Bears d v None Nobody → v.row b ≡ Some x →
     RowSet v w b (Some (mapped_anew x.frame)) → BytesKept v w → (b < d.count → v.bytes x.frame ≡ d.block b) → Carried d d v w None None Nobody
 mapped_anew_there d v w b x h stands set bytes holds =
-    page_entered d v w b d x (mapped_anew x.frame) h stands set refl (anew_stands x.frame) bytes refl (λ m ne. refl) (λ below clean. holds below)
+    page_entered d v w b d x (mapped_anew x.frame) h stands set refl (anew_stands x.frame)
+    (λ on. not_both (has_bit (mapped_anew x.frame).perm PTE_D) on (anew_clean x.frame)) bytes refl (λ m ne. refl) (λ below clean. holds below)
 
 -- a page that was written to its block
 written_holds : (d e : Disk) (v w : CacheView) (n : ℕ) (x y : Entry) → v.row n ≡ Some x → DiskSet d e n (v.bytes x.frame) →
@@ -130,7 +132,7 @@ module _ (d : Disk) (v w : CacheView) (b hand word : ℕ) where
   filling : CacheStands d v (at.Filling b) hand → Filled d v w b → Rightly d d v w (at.Filling b) (next_by (at.Filling b) hand word)
   filling h (filled x y stands few set same entry bytes page others) =
       going d d v w (at.Filling b) (at.Settling b) hand
-      (page_filled d v w b x y (bears d v (at.Filling b) hand h) stands set same entry bytes page others) h.block_below h.hand_below
+      (page_filled d v w b x y (bears d v (at.Filling b) hand h) stands few set same entry bytes page others) h.block_below h.hand_below
       (record { entry = y; stands = set.set; holds = λ below. ap w.bytes same ∙ bytes })
   filling h (not_there past k) =
       let there = entry_of (v.row b) h.at in
@@ -237,7 +239,8 @@ module _ (d e : Disk) (v w : CacheView) (b hand word : ℕ) where
       Rightly d e v w (at.WritingBack b) (next_by (at.WritingBack b) hand word)
   writing_back h (written x y stands few disk set same entry bits used bytes) =
       going d e v w (at.WritingBack b) (at.Passing b) hand
-      (page_entered d v w hand e x y (bears d v (at.WritingBack b) hand h) stands set same entry bytes disk.count disk.rest
+      (page_entered d v w hand e x y (bears d v (at.WritingBack b) hand h) stands set same entry
+      (λ on. subst (λ (k : ℕ). hand < k) (sym disk.count) few) bytes disk.count disk.rest
       (λ below clean. sym disk.set))
       h.block_below h.hand_below (
         record {
@@ -317,7 +320,8 @@ module _ (d e : Disk) (v w : CacheView) (b hand word : ℕ) where
       Rightly d e v w (at.FlushWriting b) (next_by (at.FlushWriting b) hand word)
   flush_writing h (written x y stands few disk set same entry bits used bytes) =
       going d e v w (at.FlushWriting b) (at.FlushSettling b) hand
-      (page_entered d v w b e x y (bears d v (at.FlushWriting b) hand h) stands set same entry bytes disk.count disk.rest
+      (page_entered d v w b e x y (bears d v (at.FlushWriting b) hand h) stands set same entry
+      (λ on. subst (λ (k : ℕ). b < k) (sym disk.count) few) bytes disk.count disk.rest
       (λ below clean. sym disk.set))
       h.block_below h.hand_below (
         clean_before v w b y set h.at.0,

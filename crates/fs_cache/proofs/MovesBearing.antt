@@ -67,6 +67,7 @@ pub record Bears (d : Disk) (v : CacheView) (filling : Option ℕ) (P : ℕ → 
   pub clean : (n : ℕ) (e : Entry) → v.row n ≡ Some e → is_exactly n filling ≡ false → n < d.count → has_bit e.perm PTE_D ≡ false →
       v.bytes e.frame ≡ d.block n
   pub entries : (n : ℕ) (e : Entry) → v.row n ≡ Some e → IsBlockEntry e
+  pub dirty : (n : ℕ) (e : Entry) → v.row n ≡ Some e → has_bit e.perm PTE_D ≡ true → n < d.count
   pub pages : (n : ℕ) (e : Entry) → v.row n ≡ Some e → IsPage (v.bytes e.frame)
   pub apart : (n m : ℕ) (e f : Entry) → v.row n ≡ Some e → v.row m ≡ Some f → e.frame ≡ f.frame → (n ≡ m) ⊎ P n m
 
@@ -78,6 +79,7 @@ bears d v place hand h = record {
       let dirty : (cached_at v place).dirty n ≡ false = rw (out, is) clean in
       h.cache.clean n (v.bytes e.frame) below page dirty;
   entries = h.entries;
+  dirty = h.dirty;
   pages = h.pages;
   apart = h.apart;
 }
@@ -111,6 +113,7 @@ goes d e v w place to hand c block below at = (
     hand_below = below;
     cache = is_cache e w (filling_at to) (ArePassingOn to hand) c.still;
     entries = c.still.entries;
+    dirty = c.still.dirty;
     pages = c.still.pages;
     apart = c.still.apart;
     at = at;
@@ -128,6 +131,7 @@ kept d v w f g P h k same = record {
         let was = sym (k.row n) ∙ is in
         k.bytes n e was ∙ h.clean n e was (sym (same n below) ∙ out) below clean;
     entries = λ n e is. h.entries n e (sym (k.row n) ∙ is);
+    dirty = λ n e is on. h.dirty n e (sym (k.row n) ∙ is) on;
     pages = λ n e is.
         let was = sym (k.row n) ∙ is in
         subst (λ (x : List ℕ). IsPage x) (sym (k.bytes n e was)) (h.pages n e was);
@@ -148,6 +152,7 @@ pub record Putting (d e : Disk) (v w : CacheView) (b : ℕ) (f g : Option ℕ) (
   pub blocks : (m : ℕ) → m ≢ b → e.block m ≡ d.block m
   pub outside : (m : ℕ) → m ≢ b → is_exactly m g ≡ is_exactly m f
   pub entry : (y : Entry) → w.row b ≡ Some y → IsBlockEntry y
+  pub dirty : (y : Entry) → w.row b ≡ Some y → has_bit y.perm PTE_D ≡ true → b < e.count
   pub page : (y : Entry) → w.row b ≡ Some y → IsPage (w.bytes y.frame)
   pub clean : (y : Entry) → w.row b ≡ Some y → is_exactly b g ≡ false → b < e.count → has_bit y.perm PTE_D ≡ false →
       w.bytes y.frame ≡ e.block b
@@ -175,6 +180,12 @@ module _ (d e : Disk) (v w : CacheView) (b : ℕ) (f g : Option ℕ) (P Q : ℕ 
   entries_put n x is = elim (cases_eq n b) [
     | inl same ↦ p.entry x (ap w.row (sym same) ∙ is)
     | inr ne ↦ h.entries n x (was n x ne is)
+  ]
+
+  dirty_put : (n : ℕ) (x : Entry) → w.row n ≡ Some x → has_bit x.perm PTE_D ≡ true → n < e.count
+  dirty_put n x is on = elim (cases_eq n b) [
+    | inl same ↦ subst (λ (m : ℕ). m < e.count) (sym same) (p.dirty x (ap w.row (sym same) ∙ is) on)
+    | inr ne ↦ subst (λ (k : ℕ). n < k) (sym p.count) (h.dirty n x (was n x ne is) on)
   ]
 
   pages_put : (n : ℕ) (x : Entry) → w.row n ≡ Some x → IsPage (w.bytes x.frame)
@@ -214,4 +225,7 @@ module _ (d e : Disk) (v w : CacheView) (b : ℕ) (f g : Option ℕ) (P Q : ℕ 
   ]
 
   pub put : Carried d e v w f g Q
-  put = record { still = record { clean = clean_put; entries = entries_put; pages = pages_put; apart = apart_put }; keeps = keeps_put }
+  put = record {
+    still = record { clean = clean_put; entries = entries_put; dirty = dirty_put; pages = pages_put; apart = apart_put };
+    keeps = keeps_put;
+  }

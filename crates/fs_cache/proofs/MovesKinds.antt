@@ -37,6 +37,12 @@ module _ (d : Disk) (v w : CacheView) (b : ℕ) where
   page_by : (y : Entry) → RowSet v w b (Some y) → IsPage (w.bytes y.frame) → (z : Entry) → w.row b ≡ Some z → IsPage (w.bytes z.frame)
   page_by y set stands z is = subst (λ (e : Entry). IsPage (w.bytes e.frame)) (is_entry y set z is) stands
 
+  -- a page that is mapped anew is not dirty
+  dirty_by : (frame : ℕ) (k : ℕ) → RowSet v w b (Some (mapped_anew frame)) → (z : Entry) → w.row b ≡ Some z → has_bit z.perm PTE_D ≡ true → b < k
+  dirty_by frame k set z is on =
+      not_both (has_bit z.perm PTE_D) on
+      (sym (ap (λ (e : Entry). has_bit e.perm PTE_D) (is_entry (mapped_anew frame) set z is)) ∙ anew_clean frame)
+
   value_out : (t : Bool) → t ≡ true → value_by d w.bytes b t (w.row b) ≡ d.block b
   value_out t is = ap (λ (x : Bool). value_by d w.bytes b x (w.row b)) is
 
@@ -50,6 +56,7 @@ module _ (d : Disk) (v w : CacheView) (b : ℕ) where
     blocks = λ m ne. refl;
     outside = λ m ne. exactly_other m b ne;
     entry = entry_by (mapped_anew frame) set (anew_stands frame);
+    dirty = dirty_by frame d.count set;
     page = page_by (mapped_anew frame) set page;
     clean = λ y is out below clean. not_both (is_exactly b (Some b)) (exactly_at b) out;
     value = λ below. value_out (is_exactly b (Some b)) (exactly_at b) ∙ sym (ap (λ (o : Option Entry). value_by d v.bytes b false o) none);
@@ -59,15 +66,16 @@ module _ (d : Disk) (v w : CacheView) (b : ℕ) where
   })
 
   -- The block is read into its page.
-  pub page_filled : (x y : Entry) → Bears d v (Some b) Nobody → v.row b ≡ Some x → RowSet v w b (Some y) → y.frame ≡ x.frame → IsBlockEntry y →
-      w.bytes x.frame ≡ d.block b → IsPage (d.block b) → BytesBeside v w x.frame → Carried d d v w (Some b) None Nobody
-  page_filled x y h stands set same entry bytes page beside = put d d v w b (Some b) None Nobody Nobody h (record {
+  pub page_filled : (x y : Entry) → Bears d v (Some b) Nobody → v.row b ≡ Some x → b < d.count → RowSet v w b (Some y) → y.frame ≡ x.frame →
+      IsBlockEntry y → w.bytes x.frame ≡ d.block b → IsPage (d.block b) → BytesBeside v w x.frame → Carried d d v w (Some b) None Nobody
+  page_filled x y h stands few set same entry bytes page beside = put d d v w b (Some b) None Nobody Nobody h (record {
     rest = set.rest;
     others = λ m z ne is. beside m z is (λ frames. apart m z ne is frames);
     count = refl;
     blocks = λ m ne. refl;
     outside = λ m ne. sym (exactly_other m b ne);
     entry = entry_by y set entry;
+    dirty = λ z is on. few;
     page = page_by y set (subst (λ (l : List ℕ). IsPage l) (sym holds) page);
     clean = λ z is out below clean. ap (λ (e : Entry). w.bytes e.frame) (sym (is_entry y set z is)) ∙ holds;
     value = λ below.
@@ -86,15 +94,16 @@ module _ (d : Disk) (v w : CacheView) (b : ℕ) where
 
   -- The page has an entry of the same frame, and where that is clean, the disk's block has its bytes.
   pub page_entered : (e : Disk) (x y : Entry) → Bears d v None Nobody → v.row b ≡ Some x → RowSet v w b (Some y) → y.frame ≡ x.frame →
-      IsBlockEntry y → BytesKept v w → e.count ≡ d.count → ((m : ℕ) → m ≢ b → e.block m ≡ d.block m) →
+      IsBlockEntry y → (has_bit y.perm PTE_D ≡ true → b < e.count) → BytesKept v w → e.count ≡ d.count → ((m : ℕ) → m ≢ b → e.block m ≡ d.block m) →
       (b < e.count → has_bit y.perm PTE_D ≡ false → v.bytes x.frame ≡ e.block b) → Carried d e v w None None Nobody
-  page_entered e x y h stands set same entry bytes count blocks clean = put d e v w b None None Nobody Nobody h (record {
+  page_entered e x y h stands set same entry dirty bytes count blocks clean = put d e v w b None None Nobody Nobody h (record {
     rest = set.rest;
     others = λ m z ne is. bytes m z is;
     count = count;
     blocks = blocks;
     outside = λ m ne. refl;
     entry = entry_by y set entry;
+    dirty = λ z is on. dirty (ap (λ (k : Entry). has_bit k.perm PTE_D) (is_entry y set z is) ∙ on);
     page = page_by y set (subst (λ (l : List ℕ). IsPage l) (sym holds) (h.pages b x stands));
     clean = λ z is out below unset.
         ap (λ (e : Entry). w.bytes e.frame) (sym (is_entry y set z is)) ∙ holds
@@ -123,6 +132,7 @@ module _ (d : Disk) (v w : CacheView) (b : ℕ) where
     blocks = λ m ne. refl;
     outside = λ m ne. exactly_other m b ne;
     entry = entry_by (mapped_anew x.frame) set (anew_stands x.frame);
+    dirty = dirty_by x.frame d.count set;
     page = page_by (mapped_anew x.frame) set (subst (λ (l : List ℕ). IsPage l) (sym (bytes hand x stands)) (h.pages hand x stands));
     clean = λ y is out below clean. not_both (is_exactly b (Some b)) (exactly_at b) out;
     value = λ below. value_out (is_exactly b (Some b)) (exactly_at b) ∙ sym (ap (λ (o : Option Entry). value_by d v.bytes b false o) none);
@@ -145,6 +155,7 @@ module _ (d : Disk) (v w : CacheView) (b : ℕ) where
     blocks = λ m ne. refl;
     outside = λ m ne. refl;
     entry = λ y is. not_some (w.row b) y gone.row.set is;
+    dirty = λ y is on. not_some (w.row b) y gone.row.set is;
     page = λ y is. not_some (w.row b) y gone.row.set is;
     clean = λ y is inside below clean. not_some (w.row b) y gone.row.set is;
     value = λ below.

@@ -124,6 +124,8 @@ pub record CacheStands (d : Disk) (v : CacheView) (place : CachePlace) (hand : �
   pub hand_below : hand < CACHE_BLOCKS
   pub cache : IsCache d (cached_at v place)
   pub entries : (n : ℕ) (e : Entry) → v.row n ≡ Some e → IsBlockEntry e
+  -- what is to be written is one of the disk's blocks
+  pub dirty : (n : ℕ) (e : Entry) → v.row n ≡ Some e → has_bit e.perm PTE_D ≡ true → n < d.count
   pub pages : (n : ℕ) (e : Entry) → v.row n ≡ Some e → IsPage (v.bytes e.frame)
   pub apart : (n m : ℕ) (e f : Entry) → v.row n ≡ Some e → v.row m ≡ Some f → e.frame ≡ f.frame →
       (n ≡ m) ⊎ ArePassingOn place hand n m

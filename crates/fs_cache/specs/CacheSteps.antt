@@ -1,10 +1,12 @@
 -- A step of the cache: what is asked is done by one call, and the cache goes on by the reply. What a block holds stays, and the steps
 -- come to an end.
-use Rattle.std.specs.Prelude.{◌≡◌, ◌≢◌, ◌<◌, ℕ, ◌+◌, ◌-◌, ◌*◌, ◌^◌, ◌==◌, Bool, true, false, is_some, [], Option, Some, None, Result, Ok, Err}
+use Rattle.std.specs.Prelude.{◌≡◌, ◌≢◌, ◌<◌, ◌⊎◌, ℕ, ◌+◌, ◌-◌, ◌*◌, ◌/◌, ◌^◌, ◌==◌, ◌&&◌, nat_le, Bool, true, false, is_some, []}
+use Rattle.std.specs.Prelude.{Option, Some, None, Result, Ok, Err, if◌then◌else◌}
 use Rattle.jos_host.specs.declared.host.Failed.{Failed}
 use Rattle.jos_host.specs.Files.{Files}
 use Rattle.jos_host.specs.Frames.{Around}
 use Rattle.jos_base.specs.declared.called.Called.{Called}
+use Rattle.jos_base.specs.declared.numbers.TheConstants.{NPTENTRIES}
 use Rattle.jos_base.specs.KernelState.{KernelState, slot_at, with_extra}
 use Rattle.lib_os.specs.declared.numbers.TheConstants.{CACHE_BLOCKS}
 use Rattle.lib_os.specs.declared.user_os.Stop.{Stop}
@@ -235,10 +237,67 @@ flush_left place cached used = 5 * CACHE_BLOCKS + 5 + fetch_left place cached us
 abbrev pub left_in : (CachePlace → ℕ → ℕ → ℕ) → CachePlace → KernelState → ℕ → ℕ
 left_in number place s n = number place (cached_count (row_in s n)) (used_count (row_in s n))
 
+-- ---- the calls, where no page is refused
+
+-- Then the hand never goes round: what is left of a fetch is five calls at most.
+abbrev pub fetch_calls : CachePlace → ℕ
+fetch_calls (at.LookingRegion block) = 5
+fetch_calls (at.LookingPage block) = 4
+fetch_calls (at.Taking block) = 3
+fetch_calls (at.Filling block) = 2
+fetch_calls (at.Settling block) = 1
+fetch_calls _ = 0
+
+-- A fetch of this block is under way, for which no page was refused.
+pub data IsNear (block : ℕ) : CachePlace → Type 0 where
+  looks : IsNear block (at.LookingRegion block)
+  reads : IsNear block (at.LookingPage block)
+  takes : IsNear block (at.Taking block)
+  fills : IsNear block (at.Filling block)
+  settles : IsNear block (at.Settling block)
+
+-- no fetch is under way, or one of this block
+abbrev pub IsReady : ℕ → CachePlace → Type 0
+IsReady block place = (is_fetching place ≡ false) ⊎ IsNear block place
+
+-- before this block is found
+abbrev pub block_calls : ℕ → CachePlace → ℕ
+block_calls block place = if is_found block place then 0 else fetch_calls (fetching place block)
+
+-- Of a flush: each region and each page from a block on is looked at, and a page that is dirty is written and made clean.
+unfoldable pub dirty_from : EntryRow → ℕ → ℕ
+dirty_from row block = count_below CACHE_BLOCKS (λ n. nat_le block n && is_dirty (row n))
+
+abbrev pub looks_from : ℕ → ℕ
+looks_from block = let blocks = CACHE_BLOCKS - block in blocks + blocks / NPTENTRIES
+
+abbrev pub calls_from : EntryRow → ℕ → ℕ
+calls_from row block = looks_from block + 2 * dirty_from row block
+
+abbrev pub flush_calls : CachePlace → EntryRow → ℕ
+flush_calls (at.FlushRegion block) row = looks_from (block + 1) + 2 + 2 * dirty_from row block
+flush_calls (at.FlushPage block) row = looks_from (block + 1) + 1 + 2 * dirty_from row block
+flush_calls (at.FlushWriting block) row = calls_from row (block + 1) + 2
+flush_calls (at.FlushSettling block) row = calls_from row (block + 1) + 1
+flush_calls _ row = 0
+
+-- no flush is more calls than this, over a disk of so many blocks
+abbrev pub flush_calls_max : ℕ → ℕ
+flush_calls_max count = CACHE_BLOCKS + CACHE_BLOCKS / NPTENTRIES + 2 * count
+
+-- a page was refused in a step
+abbrev pub WasRefused : KernelState → KernelState → Type 0
+WasRefused s after = s.refusals < 2 ^ 64 - 1 → s.refusals < after.refusals
+
 -- ---- what a step tells
 
+-- where a fetch of this block comes on, or no other was under way
+abbrev pub ComesOn : ℕ → CachePlace → CachePlace → Type 0
+ComesOn block place next = IsReady block next × (block_calls block next < block_calls block place)
+
 -- A block that is ready has its page. Where there is more to do, a number is less than before, and so is that of a wait, where another block may
--- be under way. No page is to be had only where one was refused in this step, and no block is cached.
+-- be under way; and it is one call fewer, or a page was refused. No page is to be had only where one was refused in this step, and no block is
+-- cached.
 abbrev pub FetchTells : ℕ → Cached → ℕ → Around KernelState → Type 0
 FetchTells block (cached.Ready va) n states = is_some (row_in states.before n block) ≡ true
 FetchTells block cached.Going n states =
@@ -246,16 +305,22 @@ FetchTells block cached.Going n states =
     < left_in fetch_left (fetching (cache_state states.before n).place block) states.before n)
     × (left_in (wait_left block) (cache_state states.after n).place states.after n
     < left_in (wait_left block) (cache_state states.before n).place states.before n)
+    × (IsReady block (cache_state states.before n).place →
+    ComesOn block (cache_state states.before n).place (cache_state states.after n).place ⊎ WasRefused states.before states.after)
 FetchTells block cached.NoPage n states =
-    (states.before.refusals < 2 ^ 64 - 1 → states.before.refusals < states.after.refusals)
-    × ((m : ℕ) → row_in states.after n m ≡ None)
+    WasRefused states.before states.after × ((m : ℕ) → row_in states.after n m ≡ None) × ((cache_state states.after n).place ≡ at.Resting)
 
--- Clean is told where no page is dirty. Where there is more to do, a number is less than before.
+-- Clean is told where no page is dirty. Where there is more to do, a number is less than before, and where no fetch was under way, so is that of the
+-- calls.
 abbrev pub FlushTells : Flushed → ℕ → Around KernelState → Type 0
-FlushTells flushed.Clean n states = (m : ℕ) → is_dirty (row_in states.after n m) ≡ false
+FlushTells flushed.Clean n states = ((m : ℕ) → is_dirty (row_in states.after n m) ≡ false) × ((cache_state states.after n).place ≡ at.Resting)
 FlushTells flushed.Going n states =
-    left_in flush_left (cache_state states.after n).place states.after n
-    < left_in flush_left (flushing (cache_state states.before n).place) states.before n
+    (left_in flush_left (cache_state states.after n).place states.after n
+    < left_in flush_left (flushing (cache_state states.before n).place) states.before n)
+    × (is_fetching (cache_state states.before n).place ≡ false →
+    (is_fetching (cache_state states.after n).place ≡ false)
+    × (flush_calls (flushing (cache_state states.after n).place) (row_in states.after n)
+    < flush_calls (flushing (cache_state states.before n).place) (row_in states.before n)))
 
 -- This holds where the host tells its files and the cache stands over the disk.
 abbrev pub WhereCached : DiskFile → ℕ → KernelState → Option Files → Type 0 → Type 0

@@ -12,8 +12,9 @@ use Rattle.fs_jobs.specs.declared.place.Job.{Job}
 use Rattle.fs_jobs.specs.declared.place.Wanted.{Wanted}
 use Rattle.fs_changes.specs.ChangePlans.{place_for}
 use Rattle.fs_jobs.specs.TreeBounds.{is_block, is_bounded_changed, is_bounded_wanted, is_place}
+use Rattle.fs_runs.specs.JobCalls.{change_weight}
 use Rattle.fs_runs.specs.TreeRuns.{Memory}
-use Rattle.fs_runs.proofs.Leads.{Leads}
+use Rattle.fs_runs.proofs.Leads.{LeadsIn}
 use Rattle.fs_runs.proofs.Pieces.{HasBytes, NumbersAreFound, NumbersAreRead, at_file}
 use Rattle.fs_runs.proofs.DatasRuns.{is-block}
 
@@ -72,8 +73,8 @@ below-ten i own = grind (arith, nat_tests)
 pub record ComesTo (count : ℕ) (j : Job) (c : Changed) (i : ℕ) (w : Wanted) (m : Memory) (before : ℕ) : Type 0 where
   pub indirect : ℕ
   pub bounded : is_block indirect ≡ true
-  pub run : Leads count (at_file j count (with_indirect c indirect) (place_for (block_number_at m.disk c.home i) w)) m
-      (at_file j count (with_indirect c before) (file.Number i w)) m
+  pub run : LeadsIn count (at_file j count (with_indirect c indirect) (place_for (block_number_at m.disk c.home i) w)) m
+      (change_weight count c (file.Number i w)) (at_file j count (with_indirect c before) (file.Number i w)) m
 
 pub number-comes : NumbersAreRead → NumbersAreFound → (count : ℕ) (j : Job) (c : Changed) (i : ℕ) (w : Wanted) (m : Memory) (before : ℕ) →
     HasBytes count j c m → is_block before ≡ true → i < blocks_of c.size → is_bounded_wanted w ≡ true → ComesTo count j c i w m before

@@ -10,7 +10,7 @@ use Rattle.fs_jobs.specs.declared.place.Job.{Job}
 use Rattle.fs_jobs.specs.declared.place.TreeState.{TreeState}
 use Rattle.fs_jobs.specs.declared.asks.TreeNext.TheVariants.{Answer, GoOn}
 use Rattle.fs_jobs.specs.TreeBounds.{is_block, is_bounded, is_bounded_changed, is_bounded_file, is_bounded_job, is_count, is_place}
-use Rattle.fs_runs.specs.JobSteps.{reads_size}
+use Rattle.fs_runs.specs.JobCalls.{weight}
 use Rattle.fs_runs.specs.TreePlans.{ask_at, next_at}
 use Rattle.fs_runs.specs.TreeRuns.{IsInside, Memory, memory_after, reply_of}
 use Rattle.fs_jobs.specs.TreeTests.{low_byte}
@@ -27,14 +27,14 @@ ends_on state m run ends = leads_to_end state m run ends.0 ends.1
 -- behind one step
 pub ends_behind : {count answer : ℕ} {after : Memory} (state next : TreeState) (m now : Memory) → is_bounded state ≡ true →
     IsInside count (ask_at state) → next_at state (reply_of (ask_at state) m) ≡ GoOn next → memory_after (ask_at state) m ≡ now →
-    EndsWith count answer after next now → EndsAfter count answer after (reads_size state + 0) state m
+    EndsWith count answer after next now → EndsAfter count answer after (weight state + 0) state m
 ends_behind {count} {answer} {after} state next m now bounded inside goes is ends =
     (suc ends.0, later ends.0 state next m bounded inside goes (subst (λ (x : Memory). EndsIn count answer after 0 ends.0 next x) (sym is) ends.1))
 
 -- with it
 pub ends_here : {count answer : ℕ} {after : Memory} (state : TreeState) (m : Memory) → is_bounded state ≡ true →
     IsInside count (ask_at state) → next_at state (reply_of (ask_at state) m) ≡ Answer answer → memory_after (ask_at state) m ≡ after →
-    EndsWith count answer after state m
+    EndsAfter count answer after (weight state) state m
 ends_here state m bounded inside goes is = (1, at_once state m bounded inside goes is)
 
 -- ---- bounds

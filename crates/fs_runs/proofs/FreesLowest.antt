@@ -1,7 +1,7 @@
 -- The words of the bitmap are read one after another until the lowest free data block is found.
 use Rattle.std.proofs.Common.{◌≡◌, ◌∙◌, ◌+◌, ◌-◌, ◌*◌, ◌<◌, ◌≤◌, ◌&&◌, inl, inr, ℕ, zero, suc, Bool, true, false, Option, Some, None}
 use Rattle.std.proofs.Common.{refl, sym, ap, subst, arith}
-use Rattle.std.specs.Prelude.{find, nat_le, nat_lt}
+use Rattle.std.specs.Prelude.{◌==◌, if◌then◌else◌, find, nat_le, nat_lt}
 use Rattle.std.specs.List.{range_with_len}
 use Rattle.std.proofs.lemmas.Bool.{cases_eq}
 use Rattle.std.proofs.lemmas.Bool.Decides.{nat_tests}
@@ -15,10 +15,11 @@ use Rattle.fs_jobs.specs.declared.place.Job.{Job}
 use Rattle.fs_jobs.specs.declared.place.TreeState.{TreeState}
 use Rattle.fs_changes.specs.ChangePlans.{bitmap_word, is_free_bit, lowest_in_word}
 use Rattle.fs_jobs.specs.TreeBounds.{is_bounded, is_bounded_changed, is_bounded_job}
+use Rattle.fs_runs.specs.JobCalls.{change_weight, take_calls}
 use Rattle.fs_runs.specs.TreeRuns.{AreSmall, Memory}
 use Rattle.fs_changes.proofs.FreesBits.{free-bit, is_free_block}
 use Rattle.fs_runs.proofs.FreesCounted.{word-bounded, word-inside}
-use Rattle.fs_runs.proofs.Leads.{Leads, here, leads_on, on}
+use Rattle.fs_runs.proofs.Leads.{LeadsIn, here, leads_on, on}
 use Rattle.fs_runs.proofs.Numbers.{file-bounded}
 use Rattle.fs_runs.proofs.Pieces.{IsCounted, LowestIsFound, at_file}
 
@@ -183,32 +184,48 @@ module _ (count : ℕ) (j : Job) (c : Changed) (x : Change) (m : Memory) (block 
   at-bounded : (word : ℕ) → 32 * word < count → is_bounded (at_word word) ≡ true
   at-bounded word lt = file-bounded j count c (file.Lowest x word) counted.2 job changed (word-bounded count word counted.2 lt)
 
+  -- what begins at a word, and nothing at a later one
+  abbrev weight_at : ℕ → ℕ
+  weight_at word = change_weight count c (file.Lowest x word)
+
+  alone : (n : ℕ) → n + 0 ≡ n
+  alone n = omega arith
+
+  later-none : (word : ℕ) → weight_at (word + 1) ≡ 0
+  later-none word = ap (λ (b : Bool). if b then take_calls count else 0) (never word)
+    where
+      never : (word : ℕ) → (word + 1 == 0) ≡ false
+      never word = grind (arith, nat_tests)
+
   word-below : (word : ℕ) → 32 * word ≤ block → 32 * word < count
   word-below word le = let lt = lowest.below in omega (arith, le, lt)
 
-  this-word : (word : ℕ) → 32 * word ≤ block → block < 32 * (word + 1) → Leads count found m (at_word word) m
+  this-word : (word : ℕ) → 32 * word ≤ block → block < 32 * (word + 1) → LeadsIn count found m (weight_at word) (at_word word) m
   this-word word le lt =
-      subst (λ (n : ℕ). Leads count (at_file j count c (file.Mark x n)) m (at_word word) m) place
+      subst (λ (n : ℕ). LeadsIn count (at_file j count c (file.Mark x n)) m (weight_at word) (at_word word) m) place
+      (subst (λ (k : ℕ). LeadsIn count (at_file j count c (file.Mark x (32 * word + (block - 32 * word)))) m k (at_word word) m)
+      (alone (weight_at word))
       (on (at_word word) (at_file j count c (file.Mark x (32 * word + (block - 32 * word)))) m (at-bounded word (word-below word le))
       (word-inside count word counted.1 counted.2 (word-below word le))
       (rw (in-this m.disk count word block small.0 lowest le lt) refl)
-      here)
+      here))
     where
       place : 32 * word + (block - 32 * word) ≡ block
       place = omega (arith, le)
 
-  next-word : (word : ℕ) → 32 * (word + 1) ≤ block → Leads count (at_word (word + 1)) m (at_word word) m
+  next-word : (word : ℕ) → 32 * (word + 1) ≤ block → LeadsIn count (at_word (word + 1)) m (weight_at word) (at_word word) m
   next-word word le =
       let this : 32 * word < count = word-below word (omega (arith, le)) in
-      on (at_word word) (at_word (word + 1)) m (at-bounded word this)
+      subst (λ (k : ℕ). LeadsIn count (at_word (word + 1)) m k (at_word word) m) (alone (weight_at word))
+      (on (at_word word) (at_word (word + 1)) m (at-bounded word this)
       (word-inside count word counted.1 counted.2 this)
       (rw (not-yet m.disk count word block small.0 lowest le, more (word-below (word + 1) le)) refl)
-      here
+      here)
     where
       more : 32 * (word + 1) < count → nat_lt (32 * (word + 1)) count ≡ true
       more lt = grind (arith, nat_tests)
 
-  from-word : (left word : ℕ) → 32 * word ≤ block → block < 32 * (word + left) → Leads count found m (at_word word) m
+  from-word : (left word : ℕ) → 32 * word ≤ block → block < 32 * (word + left) → LeadsIn count found m (weight_at word) (at_word word) m
   from-word zero word le lt = absurd (omega (arith, le, lt))
   from-word (suc left) word le lt = by_test (from-word left (word + 1)) (nat_lt block (32 * (word + 1))) refl
     where
@@ -221,10 +238,12 @@ module _ (count : ℕ) (j : Job) (c : Changed) (x : Change) (m : Memory) (block 
       fewer : block < 32 * (word + 1 + left)
       fewer = omega (arith, lt)
 
-      by_test : (32 * (word + 1) ≤ block → block < 32 * (word + 1 + left) → Leads count found m (at_word (word + 1)) m) →
-          (b : Bool) → nat_lt block (32 * (word + 1)) ≡ b → Leads count found m (at_word word) m
+      by_test : (32 * (word + 1) ≤ block → block < 32 * (word + 1 + left) → LeadsIn count found m (weight_at (word + 1)) (at_word (word + 1)) m) →
+          (b : Bool) → nat_lt block (32 * (word + 1)) ≡ b → LeadsIn count found m (weight_at word) (at_word word) m
       by_test onward true test = this-word word le (here-below test)
-      by_test onward false test = leads_on (at_word word) m (next-word word (behind test)) (onward (behind test) fewer)
+      by_test onward false test =
+          subst (λ (k : ℕ). LeadsIn count found m k (at_word word) m) (ap (λ (k : ℕ). weight_at word + k) (later-none word) ∙ alone (weight_at word))
+          (leads_on (at_word word) m (next-word word (behind test)) (onward (behind test) fewer))
 
 pub lowest_is_found : LowestIsFound
 lowest_is_found count j c x m block counted small job changed e =

@@ -1,5 +1,5 @@
 -- Each job ends, and does what its act does.
-use Rattle.std.proofs.Common.{◌≡◌, ◌∙◌, ◌^◌, ◌<◌, ℕ, Bool, true, false, List, [], ◌∷◌}
+use Rattle.std.proofs.Common.{◌≡◌, ◌∙◌, ◌+◌, ◌^◌, ◌<◌, ℕ, Bool, true, false, List, [], ◌∷◌}
 use Rattle.std.proofs.Common.{Option, Some, None, refl, sym, ap, subst, arith}
 use Rattle.std.specs.Prelude.{◌||◌, ◌&&◌, nat_lt, if◌then◌else◌}
 use Rattle.std.proofs.lemmas.Bool.Decides.{nat_tests}
@@ -20,7 +20,8 @@ use Rattle.fs_jobs.specs.TreeBounds.{is_bounded_job, is_place}
 use Rattle.fs_runs.specs.TreeRuns.{FindsAreLooks, HasPath, IsJobOf, IsOnItsWay, IsSound, JobsAreActs, Memory, begun_with, bytes_given, found_place}
 use Rattle.fs_runs.specs.TreeRuns.{opens, reads, removes, sizes, stats, writes}
 use Rattle.fs_walks.specs.WalkPlans.{begun}
-use Rattle.fs_runs.proofs.StepsCounted.{ends-few, ends-of, with_path, with_super}
+use Rattle.fs_runs.proofs.CallsCounted.{ends-of}
+use Rattle.fs_runs.proofs.StepsCounted.{finds-few}
 use Rattle.fs_runs.proofs.Leads.{Leads, leads_on, leads_to_end}
 use Rattle.fs_runs.proofs.Pieces.{EndsWith, IsWalking, at_walk, finding, opening}
 use Rattle.fs_runs.proofs.JobsFacts.{Found, Pieces, facts, home-small}
@@ -98,7 +99,7 @@ follows pieces count j path m sound has_path walks good =
 
 open-led-acts : Pieces → (count mode : ℕ) (path : List ℕ) (m : Memory) → IsSound count m → HasPath m.page path → is_good_path path ≡ true →
     (led : Led) → led_to m.disk path ≡ led →
-    Acts count (open_led m.disk mode led) m (at_walk (job.Open mode) count (walk.Component 0 root_place)) m
+    Acts (count + 50000) count (open_led m.disk mode led) m (at_walk (job.Open mode) count (walk.Component 0 root_place)) m
 open-led-acts pieces count mode path m sound has_path good too_long e = good-leads m.disk path good e
 open-led-acts pieces count mode path m sound has_path good astray e =
     acts-none count (negated E_NOT_FOUND) m (at_walk (job.Open mode) count (walk.Component 0 root_place))
@@ -121,18 +122,19 @@ open-led-acts pieces count mode path m sound has_path good (a_record place way) 
     (λ old. acts-behind (at_walk j count (walk.Component 0 root_place)) m (walked.1 old) (opens-file pieces count mode way place m found))
 
 open-acts : Pieces → (count mode : ℕ) (path : List ℕ) (m : Memory) → IsSound count m → HasPath m.page path →
-    Acts count (open_led m.disk mode (led_to m.disk path)) m (at_walk (job.Open mode) 0 (walk.Path 0 0)) m
+    Acts (count + 50000) count (open_led m.disk mode (led_to m.disk path)) m (at_walk (job.Open mode) 0 (walk.Path 0 0)) m
 open-acts pieces count mode path m sound has_path = by (is_good_path path) refl
   where
     j : Job
     j = job.Open mode
 
-    by : (b : Bool) → is_good_path path ≡ b → Acts count (open_led m.disk mode (led_to m.disk path)) m (at_walk j 0 (walk.Path 0 0)) m
+    by : (b : Bool) → is_good_path path ≡ b → Acts (count + 50000) count (open_led m.disk mode (led_to m.disk path)) m (at_walk j 0 (walk.Path 0 0)) m
     by true good =
         acts-behind (at_walk j 0 (walk.Path 0 0)) m (follows pieces count j path m sound has_path (opening mode) good)
         (open-led-acts pieces count mode path m sound has_path good (led_to m.disk path) refl)
     by false bad =
-        subst (λ (led : Led). Acts count (open_led m.disk mode led) m (at_walk j 0 (walk.Path 0 0)) m) (sym (bad-leads m.disk path bad))
+        subst (λ (led : Led). Acts (count + 50000) count (open_led m.disk mode led) m (at_walk j 0 (walk.Path 0 0)) m)
+        (sym (bad-leads m.disk path bad))
         (acts-none count (negated E_BAD_PATH) m (at_walk j 0 (walk.Path 0 0))
         ((pieces.paths_are_read count j path m sound.small has_path (opening mode)).1 bad))
 
@@ -145,9 +147,9 @@ low-bounded home at a low = λ i. a i && below at low i
     below n lt = grind (arith, nat_tests)
 
 -- the super block is read before the record
-behind-super : Pieces → (count : ℕ) (j : Job) (home : ℕ) (m : Memory) (plan : Planned) → IsSound count m → is_bounded_job j ≡ true →
-    begun (at_walk j count walk.RootKind) j ≡ GoOn (at_kind j count home) → Acts count plan m (at_kind j count home) m →
-    Acts count plan m (at_walk j 0 walk.Magic) m
+behind-super : {most : ℕ} → Pieces → (count : ℕ) (j : Job) (home : ℕ) (m : Memory) (plan : Planned) → IsSound count m → is_bounded_job j ≡ true →
+    begun (at_walk j count walk.RootKind) j ≡ GoOn (at_kind j count home) → Acts most count plan m (at_kind j count home) m →
+    Acts most count plan m (at_walk j 0 walk.Magic) m
 behind-super pieces count j home m plan sound bounded begins acts =
     acts-behind (at_walk j 0 walk.Magic) m (pieces.supers_are_read count j m sound bounded (at_kind j count home) begins) acts
 
@@ -164,21 +166,22 @@ job-acts : Pieces → (count : ℕ) (is_open : List ℕ → Bool) (m : Memory) �
     IsOnItsWay count is_open act m (begun_with j) m
 unfolding plan_of
 job-acts pieces count is_open m sound act j (opens path mode has_path) =
-    on-its-way count is_open (open_path path mode) m (job.Open mode) (walk.Path 0 0) sound with_path (open-acts pieces count mode path m sound has_path)
+    on-its-way count is_open (open_path path mode) m (job.Open mode) sound (opens path mode has_path)
+    (open-acts pieces count mode path m sound has_path)
 job-acts pieces count is_open m sound act j (removes path way home led regular closed) =
     let found = led-found count path way home m sound led in
     let acts = remove-acts pieces count way home m found regular in
-    on-its-way count is_open (remove_path path) m (job.Remove home) walk.Magic sound with_super
+    on-its-way count is_open (remove_path path) m (job.Remove home) sound (removes path way home led regular closed)
     (behind-super pieces count (job.Remove home) home m (remove_led is_open m.disk (led_to m.disk path)) sound
     (place-small pieces count way home m found) refl
-    (subst (λ (l : Led). Acts count (remove_led is_open m.disk l) m (at_kind (job.Remove home) count home) m) (sym led)
-    (subst (λ (p : Planned). Acts count p m (at_kind (job.Remove home) count home) m)
+    (subst (λ (l : Led). Acts (count + 50000) count (remove_led is_open m.disk l) m (at_kind (job.Remove home) count home) m) (sym led)
+    (subst (λ (p : Planned). Acts (count + 50000) count p m (at_kind (job.Remove home) count home) m)
     (sym (removed-plan is_open m.disk home way _ regular closed)) acts)))
 job-acts pieces count is_open m sound act j (reads way home at n stands low) =
     let found : Found count way home m = record { sound = sound; stands = stands } in
     let it : Job = job.Read home at n in
     let bounded : is_bounded_job it ≡ true = low-bounded home at (place-small pieces count way home m found) low in
-    on-its-way count is_open (read_file way at n) m it walk.Magic sound with_super
+    on-its-way count is_open (read_file way at n) m it sound (reads way home at n stands low)
     (behind-super pieces count it home m (plan_of is_open m.disk (read_file way at n)) sound bounded refl
     (acts-file pieces count it way home m (λ place. read_plan m.disk place at n) found bounded
     (λ regular. read-acts pieces count way home at n m found regular low)))
@@ -186,7 +189,7 @@ job-acts pieces count is_open m sound act j (writes way home at n stands low few
     let found : Found count way home m = record { sound = sound; stands = stands } in
     let it : Job = job.Write home at n in
     let bounded : is_bounded_job it ≡ true = low-bounded home at (place-small pieces count way home m found) low in
-    on-its-way count is_open (write_file way at (bytes_given m.page n)) m it walk.Magic sound with_super
+    on-its-way count is_open (write_file way at (bytes_given m.page n)) m it sound (writes way home at n stands low few)
     (behind-super pieces count it home m (plan_of is_open m.disk (write_file way at (bytes_given m.page n))) sound bounded refl
     (acts-file pieces count it way home m (λ place. write_plan m.disk place at (bytes_given m.page n)) found bounded
     (λ regular. write-acts pieces count way home at n m found regular low few)))
@@ -194,7 +197,7 @@ job-acts pieces count is_open m sound act j (sizes way home size stands) =
     let found : Found count way home m = record { sound = sound; stands = stands } in
     let it : Job = job.SetSize home size in
     let bounded : is_bounded_job it ≡ true = place-small pieces count way home m found in
-    on-its-way count is_open (set_file_size way size) m it walk.Magic sound with_super
+    on-its-way count is_open (set_file_size way size) m it sound (sizes way home size stands)
     (behind-super pieces count it home m (plan_of is_open m.disk (set_file_size way size)) sound bounded refl
     (acts-file pieces count it way home m (λ place. size_plan m.disk place size) found bounded
     (λ regular. size-acts pieces count way home size m found regular)))
@@ -202,7 +205,7 @@ job-acts pieces count is_open m sound act j (stats way home stands) =
     let found : Found count way home m = record { sound = sound; stands = stands } in
     let it : Job = job.Stat home in
     let bounded : is_bounded_job it ≡ true = place-small pieces count way home m found in
-    on-its-way count is_open (stat_file way) m it walk.Magic sound with_super
+    on-its-way count is_open (stat_file way) m it sound (stats way home stands)
     (behind-super pieces count it home m (plan_of is_open m.disk (stat_file way)) sound bounded refl
     (acts-file pieces count it way home m (stat_plan m.disk) found bounded (λ regular. stat-acts pieces count way home m found regular)))
 
@@ -239,11 +242,9 @@ find-led pieces count path m sound has_path good (a_record place way) e =
 
 pub finds_are_looks : Pieces → FindsAreLooks
 finds_are_looks pieces count path m sound has_path =
-    let ends = by (is_good_path path) refl in (
-      ends.0,
-      ends-few m job.Find (walk.Path 0 0) sound with_path (omega arith) ends.1,
-      ends-of ends.1,
-    )
+    let ends = by (is_good_path path) refl in
+    let soon = finds-few m sound ends.1 in
+    (ends.0, soon.0, ends-of ends.1, soon.1)
   where
     by : (b : Bool) → is_good_path path ≡ b → EndsWith count (found_place m.disk (led_to m.disk path)) m
         (at_walk job.Find 0 (walk.Path 0 0)) m

@@ -3,6 +3,7 @@ use Rattle.std.proofs.Common.{◌≡◌, ◌<◌, ◌≤◌, ◌+◌, ◌-◌, �
 use Rattle.std.proofs.Common.{refl, sym, ap, subst, arith, min}
 use Rattle.std.specs.Prelude.{◌&&◌, nat_le, nat_lt, if◌then◌else◌}
 use Rattle.std.proofs.lemmas.Bool.Decides.{nat_tests}
+use Rattle.jos_base.specs.declared.numbers.TheConstants.{PGSIZE}
 use Rattle.fs_layout.specs.declared.numbers.TheConstants.{BLKSIZE, MAXFILESIZE, NDIRECT}
 use Rattle.fs_layout.specs.DiskFiles.{IsDiskImage, free_blocks}
 use Rattle.fs_layout.specs.DiskImage.{blocks_needed, has_indirect, indirect_of, is_data_block, size_of}
@@ -20,8 +21,9 @@ use Rattle.fs_jobs.specs.declared.asks.TreeNext.{TreeNext}
 use Rattle.fs_jobs.specs.declared.asks.TreeNext.TheVariants.{GoOn}
 use Rattle.fs_changes.specs.ChangePlans.{fill_end, gives_back, go_on, has_one, next_change, settled}
 use Rattle.fs_jobs.specs.TreeBounds.{is_bounded_job, is_block, is_place}
+use Rattle.fs_runs.specs.JobCalls.{take_calls}
 use Rattle.fs_runs.specs.TreeRuns.{AreSmall, Memory}
-use Rattle.fs_runs.proofs.Leads.{Leads, LeadsIn, here, leads_on}
+use Rattle.fs_runs.proofs.Leads.{LeadsIn, here, leads_on}
 use Rattle.fs_runs.proofs.Pieces.{at_file, with_disk}
 use Rattle.fs_runs.proofs.JobsFacts.{Facts, Pieces, apart-now, blocks-now, changes-now, indirect-small, none-there, read_now, size-small}
 use Rattle.fs_runs.proofs.JobsRuns.{before, deciding, reads-again}
@@ -33,18 +35,18 @@ pub record Came (count : ℕ) (j : Job) (home end most : ℕ) (from : TreeState)
   pub indirect : ℕ
   pub size_small : is_place size ≡ true
   pub indirect_small : is_block indirect ≡ true
-  pub rounds : ℕ
-  pub few : rounds ≤ most
-  pub leads : LeadsIn count (before j count home end size indirect) after rounds from m
+  pub weighs : ℕ
+  pub few : weighs ≤ most
+  pub leads : LeadsIn count (before j count home end size indirect) after weighs from m
 
--- whatever was read of the record last, and with at most so many changes
+-- whatever was read of the record last; so much the changes weigh at most that begin on the way
 abbrev pub Comes : ℕ → Job → ℕ → ℕ → ℕ → Memory → Memory → Type 0
 Comes count j home end most m after =
     (size indirect : ℕ) → is_place size ≡ true → is_block indirect ≡ true → Came count j home end most (before j count home end size indirect) m after
 
 pub comes-none : (count : ℕ) (j : Job) (home end most : ℕ) (m : Memory) → Comes count j home end most m m
 comes-none count j home end most m size indirect a b =
-    record { size = size; indirect = indirect; size_small = a; indirect_small = b; rounds = 0; few = omega arith; leads = here }
+    record { size = size; indirect = indirect; size_small = a; indirect_small = b; weighs = 0; few = omega arith; leads = here }
 
 pub comes-on : (count : ℕ) (j : Job) (home end most more : ℕ) (m mid after : Memory) → Comes count j home end most m mid →
     Comes count j home end more mid after → Comes count j home end (most + more) m after
@@ -56,13 +58,31 @@ comes-on count j home end most more m mid after one two size indirect a b =
       indirect = second.indirect;
       size_small = second.size_small;
       indirect_small = second.indirect_small;
-      rounds = first.rounds + second.rounds;
-      few = both_few first.rounds second.rounds most more first.few second.few;
+      weighs = first.weighs + second.weighs;
+      few = both_few first.weighs second.weighs most more first.few second.few;
       leads = leads_on (before j count home end size indirect) m first.leads second.leads;
     }
   where
     both_few : (a b c d : ℕ) → a ≤ c → b ≤ d → a + b ≤ c + d
     both_few a b c d one two = omega arith
+
+-- it weighs no more than a greater number
+pub comes-most : (count : ℕ) (j : Job) (home end most more : ℕ) (m after : Memory) → most ≤ more → Comes count j home end most m after →
+    Comes count j home end more m after
+comes-most count j home end most more m after le comes size indirect a b =
+    let came = comes size indirect a b in
+    record {
+      size = came.size;
+      indirect = came.indirect;
+      size_small = came.size_small;
+      indirect_small = came.indirect_small;
+      weighs = came.weighs;
+      few = at_most came.weighs came.few;
+      leads = came.leads;
+    }
+  where
+    at_most : (n : ℕ) → n ≤ most → n ≤ more
+    at_most n few = omega (arith, few, le)
 
 -- ---- what comes next
 
@@ -136,24 +156,27 @@ pub record Works (count : ℕ) (j : Job) (home end : ℕ) (m : Memory) : Type 0 
   pub job : is_bounded_job j ≡ true
   pub short : end ≤ MAXFILESIZE
 
-comes-one : (count : ℕ) (j : Job) (home end : ℕ) (m after : Memory) → Works count j home end m → (place : FilePlace) →
+comes-one : (count : ℕ) (j : Job) (home end weighs : ℕ) (m after : Memory) → Works count j home end m → (place : FilePlace) →
     ((indirect : ℕ) → next_change (deciding j count home end m.disk indirect) (read_now home end m.disk)
     ≡ GoOn (at_file j count (read_now home end m.disk) place)) →
-    Leads count (at_file j count (read_now home end m.disk) file.SizeNow) after (at_file j count (read_now home end m.disk) place) m →
-    Comes count j home end 1 m after
-comes-one count j home end m after works place goes run size indirect a b =
+    LeadsIn count (at_file j count (read_now home end m.disk) file.SizeNow) after weighs (at_file j count (read_now home end m.disk) place) m →
+    Comes count j home end weighs m after
+comes-one count j home end weighs m after works place goes run size indirect a b =
     record {
       size = size_of m.disk home;
       indirect = indirect_of m.disk home;
       size_small = size-small (size_of m.disk home) works.facts.short;
       indirect_small = indirect-small works.facts;
-      rounds = 1;
-      few = omega arith;
+      weighs = 0 + weighs;
+      few = alone weighs;
       leads =
           leads_on (before j count home end size indirect) m
           (reads-again count j home end m size indirect works.facts works.job works.short a b (at_file j count (read_now home end m.disk) place)
           (goes indirect)) run;
     }
+  where
+    alone : (n : ℕ) → 0 + n ≤ n
+    alone n = omega arith
 
 both : (a b : Bool) → a ≡ true → b ≡ true → (a && b) ≡ true
 both a b e f = λ i. e i && f i
@@ -176,10 +199,10 @@ some-bytes : (end size : ℕ) → blocks_of end < blocks_of size → 0 < size
 some-bytes end size less = omega arith
 
 pub comes-given : Pieces → (count : ℕ) (j : Job) (home end : ℕ) (m : Memory) → Works count j home end m → gives_back j ≡ true →
-    blocks_of end < blocks_needed m.disk home → Comes count j home end 1 m (with_disk m (written (give_block home m.disk) m.disk))
+    blocks_of end < blocks_needed m.disk home → Comes count j home end 48 m (with_disk m (written (give_block home m.disk) m.disk))
 comes-given pieces count j home end m works gives less =
     let c = read_now home end m.disk in
-    comes-one count j home end m (with_disk m (written (give_block home m.disk) m.disk)) works (file.Number (blocks_of c.size - 1) wanted.Giving)
+    comes-one count j home end 48 m (with_disk m (written (give_block home m.disk) m.disk)) works (file.Number (blocks_of c.size - 1) wanted.Giving)
     (λ indirect. next-gives (deciding j count home end m.disk indirect) c
     (both (gives_back j) (nat_lt (blocks_of end) (blocks_of c.size)) gives (is-less (blocks_of end) (blocks_of c.size) less)))
     (pieces.blocks_are_given count j c m (changes-now count j home end m works.facts works.small works.job works.short)
@@ -187,10 +210,10 @@ comes-given pieces count j home end m works gives less =
 
 pub comes-unmarked : Pieces → (count : ℕ) (j : Job) (home end : ℕ) (m : Memory) → Works count j home end m → gives_back j ≡ true →
     blocks_needed m.disk home ≤ blocks_of end → needs_indirect end ≡ false → has_indirect m.disk home ≡ true →
-    Comes count j home end 1 m (with_disk m (written (give_indirect home m.disk) m.disk))
+    Comes count j home end 30 m (with_disk m (written (give_indirect home m.disk) m.disk))
 comes-unmarked pieces count j home end m works gives few needs has =
     let c = read_now home end m.disk in
-    comes-one count j home end m (with_disk m (written (give_indirect home m.disk) m.disk)) works (file.PutIndirect change.GiveIndirect c.indirect)
+    comes-one count j home end 30 m (with_disk m (written (give_indirect home m.disk) m.disk)) works (file.PutIndirect change.GiveIndirect c.indirect)
     (λ indirect. next-unmarks (deciding j count home end m.disk indirect) c
     (right-not (gives_back j) (nat_lt (blocks_of end) (blocks_of c.size)) (not-less (blocks_of end) (blocks_of c.size) few))
     (λ i. gives i && not (needs i) && has i))
@@ -203,10 +226,10 @@ Unmarked end indirect = (not (needs_indirect end) && indirect) ≡ false
 
 pub comes-cut : Pieces → (count : ℕ) (j : Job) (home end : ℕ) (m : Memory) → Works count j home end m → gives_back j ≡ true →
     blocks_needed m.disk home ≤ blocks_of end → Unmarked end (has_indirect m.disk home) → end < size_of m.disk home →
-    Comes count j home end 1 m (with_disk m (written (cut home end m.disk) m.disk))
+    Comes count j home end 18 m (with_disk m (written (cut home end m.disk) m.disk))
 comes-cut pieces count j home end m works gives few unmarked less =
     let c = read_now home end m.disk in
-    comes-one count j home end m (with_disk m (written (cut home end m.disk) m.disk)) works (file.PutSize c.end)
+    comes-one count j home end 18 m (with_disk m (written (cut home end m.disk) m.disk)) works (file.PutSize c.end)
     (λ indirect. next-cuts (deciding j count home end m.disk indirect) c
     (right-not (gives_back j) (nat_lt (blocks_of end) (blocks_of c.size)) (not-less (blocks_of end) (blocks_of c.size) few))
     (right-none (gives_back j) (not (needs_indirect end)) (has_indirect m.disk home) unmarked)
@@ -241,16 +264,21 @@ keeps-now j home end byte given = by (gives_back j) refl
 
 pub comes-filled : Pieces → (count : ℕ) (j : Job) (home end : ℕ) (m : Memory) → Works count j home end m → Keeps j (read_now home end m.disk) →
     (most : ℕ) → most ≡ min end (BLKSIZE * blocks_needed m.disk home) → size_of m.disk home < most →
-    Comes count j home end 1 m (with_disk m (written (fill home most m.disk) m.disk))
+    Comes count j home end (6 * PGSIZE + 36) m (with_disk m (written (fill home most m.disk) m.disk))
 comes-filled pieces count j home end m works keeps most e less =
     let c = read_now home end m.disk in
     let below : c.size < fill_end c = subst (λ (n : ℕ). c.size < n) e less in
-    subst (λ (n : ℕ). Comes count j home end 1 m (with_disk m (written (fill home n m.disk) m.disk))) (sym e)
-    (comes-one count j home end m (with_disk m (written (fill home (fill_end c) m.disk) m.disk)) works
-    (file.Number (c.size / BLKSIZE) (wanted.Filling c.size))
+    let filled : Memory = with_disk m (written (fill home (fill_end c) m.disk) m.disk) in
+    subst (λ (n : ℕ). Comes count j home end (6 * PGSIZE + 36) m (with_disk m (written (fill home n m.disk) m.disk))) (sym e)
+    (comes-most count j home end (6 * (fill_end c - c.size) + 36) (6 * PGSIZE + 36) m filled (in-block c.size end)
+    (comes-one count j home end (6 * (fill_end c - c.size) + 36) m filled works (file.Number (c.size / BLKSIZE) (wanted.Filling c.size))
     (λ indirect. next-fills (deciding j count home end m.disk indirect) c keeps (is-less c.size (fill_end c) below))
     (pieces.ends_are_filled count j c m (changes-now count j home end m works.facts works.small works.job works.short)
-    (blocks-now end works.facts) (apart-now end works.facts) below))
+    (blocks-now end works.facts) (apart-now end works.facts) below)))
+  where
+    -- no more than a block is filled
+    in-block : (size end : ℕ) → 6 * (min end (4096 * ((size + 4095) / 4096)) - size) + 36 ≤ 6 * 4096 + 36
+    in-block size end = omega arith
 
 -- all blocks are full, more are wanted, and one is free
 pub record Takes (count home end : ℕ) (m : Memory) : Type 0 where
@@ -261,11 +289,11 @@ pub record Takes (count home end : ℕ) (m : Memory) : Type 0 where
 
 pub comes-marked : Pieces → (count : ℕ) (j : Job) (home end : ℕ) (m : Memory) → Works count j home end m → Keeps j (read_now home end m.disk) →
     Takes count home end m → NDIRECT ≤ blocks_needed m.disk home → has_indirect m.disk home ≡ false →
-    Comes count j home end 1 m (with_disk m (written (take_indirect home m.disk) m.disk))
+    Comes count j home end (take_calls count) m (with_disk m (written (take_indirect home m.disk) m.disk))
 comes-marked pieces count j home end m works keeps room many has =
     let c = read_now home end m.disk in
     let found = free-found (BLKSIZE * count) m.disk room.disk room.free in
-    comes-one count j home end m (with_disk m (written (take_indirect home m.disk) m.disk)) works (file.Lowest change.TakeIndirect 0)
+    comes-one count j home end (take_calls count) m (with_disk m (written (take_indirect home m.disk) m.disk)) works (file.Lowest change.TakeIndirect 0)
     (λ indirect. next-marks (deciding j count home end m.disk indirect) c keeps (not-less c.size (fill_end c) room.full)
     (is-less (blocks_of c.size) (blocks_of end) room.more)
     (both (nat_le NDIRECT (blocks_of c.size)) (not (has_indirect m.disk home)) (is-most (blocks_of c.size) many) (ap (λ (b : Bool). not b) has)))
@@ -277,13 +305,13 @@ comes-marked pieces count j home end m works keeps room many has =
 
 pub comes-taken : Pieces → (count : ℕ) (j : Job) (home end : ℕ) (m : Memory) → Works count j home end m → Keeps j (read_now home end m.disk) →
     Takes count home end m → (blocks_needed m.disk home < NDIRECT) ⊎ (has_indirect m.disk home ≡ true) →
-    Comes count j home end 1 m (with_disk m (written (take_block home end m.disk) m.disk))
+    Comes count j home end (take_calls count) m (with_disk m (written (take_block home end m.disk) m.disk))
 comes-taken pieces count j home end m works keeps room counted =
     let c = read_now home end m.disk in
     let found = free-found (BLKSIZE * count) m.disk room.disk room.free in
     let whole : c.size % BLKSIZE ≡ 0 = is-whole c.size end room.full room.more in
     let few : blocks_of c.size < 1034 = is-few (blocks_of c.size) end room.more works.short in
-    comes-one count j home end m (with_disk m (written (take_block home end m.disk) m.disk)) works (file.Lowest change.TakeBlock 0)
+    comes-one count j home end (take_calls count) m (with_disk m (written (take_block home end m.disk) m.disk)) works (file.Lowest change.TakeBlock 0)
     (λ indirect. next-takes (deciding j count home end m.disk indirect) c keeps (not-less c.size (fill_end c) room.full)
     (is-less (blocks_of c.size) (blocks_of end) room.more) (none-wanted counted))
     (pieces.blocks_are_taken count j c m found.0 (changes-now count j home end m works.facts works.small works.job works.short)

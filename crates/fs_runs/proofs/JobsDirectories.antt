@@ -15,11 +15,12 @@ use Rattle.fs_acts.proofs.ComposedSizes.{idle, mark-counted, mark-grows, more-bl
 use Rattle.fs_acts.proofs.ComposedSteps.{left_by}
 use Rattle.fs_jobs.specs.declared.place.Job.{Job}
 use Rattle.fs_changes.specs.ChangePlans.{gives_back}
+use Rattle.fs_runs.specs.JobCalls.{take_calls}
 use Rattle.fs_runs.specs.TreeRuns.{Memory}
 use Rattle.fs_runs.proofs.Pieces.{with_disk}
 use Rattle.fs_runs.proofs.JobsFacts.{Found, read_now}
 use Rattle.fs_runs.proofs.JobsChanges.{Keeps, Takes, comes-taken, keeps-now}
-use Rattle.fs_runs.proofs.JobsSizes.{Doing, Has, Run, comes-idle, free-there, marking, ran, run-append, run-one, works}
+use Rattle.fs_runs.proofs.JobsSizes.{Doing, Has, Run, comes-idle, free-there, marking, ran, run-append, run-most, run-one, works}
 
 never : {A : Type 0} (b : Bool) → b ≡ false → b ≡ true → A
 never b e f = let both : false ≡ true = sym e ∙ f in absurd (cc both)
@@ -29,7 +30,8 @@ takes-records : {count : ℕ} {j : Job} {home : ℕ} {way : List ℕ} (m : Memor
     Doing count j home end → Has count way home m (a_directory (records_from list) indirect) → gives_back j ≡ false →
     blocks_taken end (indirect || needs_indirect end) ≤ blocks_taken (RECORDSIZE * length list) indirect + free_blocks m.disk →
     (mark : Bool)
-    × Run count j home end way m (take_indirect home ∷ take_block home end ∷ []) (a_directory (records_from (list ++ replicate BLKFILES None)) mark)
+    × Run count j home end way (take_calls count + take_calls count) m (take_indirect home ∷ take_block home end ∷ [])
+    (a_directory (records_from (list ++ replicate BLKFILES None)) mark)
 takes-records {count} {j} {home} {way} m list indirect does has back free =
     let size : ℕ = BLKSIZE * count in
     let long : ℕ = RECORDSIZE * length list in
@@ -42,12 +44,12 @@ takes-records {count} {j} {home} {way} m list indirect does has back free =
     let above : blocks_of long < blocks_of end = more-blocks long end is.whole more in
     let full : min end (BLKSIZE * blocks_of long) ≤ long = all-full long is.whole in
     let keeps : Keeps j (read_now home end m.disk) = keeps-now j home end m.disk (λ so. never (gives_back j) back so) in
-    let one : Run count j home end way m (take_indirect home ∷ []) (a_directory (records_from list) mark) =
+    let one : Run count j home end way (take_calls count) m (take_indirect home ∷ []) (a_directory (records_from list) mark) =
     run-one m (take_indirect home) (a_directory (records_from list) mark) pair.first.turns
-    (marking does m (a_directory (records_from list) indirect) has keeps
+    (marking does (take_calls count) m (a_directory (records_from list) indirect) has keeps
     (subst (λ (n : ℕ). min end (BLKSIZE * blocks_of n) ≤ n) (sym is.size) full)
     (subst (λ (n : ℕ). blocks_of n < blocks_of end) (sym is.size) above)
-    (free-there indirect (needs_indirect end) (blocks_of long) (blocks_of end) (free_blocks m.disk) above free)) in
+    (free-there indirect (needs_indirect end) (blocks_of long) (blocks_of end) (free_blocks m.disk) above free) (λ many none. omega arith)) in
     let mid : Memory = with_disk m (left_by (take_indirect home ∷ []) m.disk) in
     let next : Has count way home mid (a_directory (records_from list) mark) = ran has one in
     let now = directory-is changes-acts size mid.disk way home list mark next.holds in
@@ -65,7 +67,7 @@ takes-records {count} {j} {home} {way} m list indirect does has back free =
           room-left indirect mark (needs_indirect end) (blocks_of long) (blocks_of end) (free_blocks m.disk) (free_blocks mid.disk) above
           (mark-grows indirect mark (blocks_of long) (blocks_of end) above pair.first.is) free kept;
     } in
-    let two : Run count j home end way mid (take_block home end ∷ []) (a_directory (records_from both) mark) =
+    let two : Run count j home end way (take_calls count) mid (take_block home end ∷ []) (a_directory (records_from both) mark) =
     run-one mid (take_block home end) (a_directory (records_from both) mark) pair.second
     (comes-taken does.pieces count j home end mid (works does next) still room counted) in (
       mark,
@@ -80,7 +82,9 @@ pub grows-directory : {count : ℕ} {j : Job} {home : ℕ} {way : List ℕ} (m :
     let end : ℕ = RECORDSIZE * length list + BLKSIZE in
     Doing count j home end → Has count way home m (a_directory (records_from list) indirect) → gives_back j ≡ false →
     blocks_taken end (indirect || needs_indirect end) ≤ blocks_taken (RECORDSIZE * length list) indirect + free_blocks m.disk →
-    (mark : Bool) × Run count j home end way m (growth m.disk home end) (a_directory (records_from (list ++ replicate BLKFILES None)) mark)
+    (mark : Bool)
+    × Run count j home end way (take_calls count + take_calls count) m (growth m.disk home end)
+    (a_directory (records_from (list ++ replicate BLKFILES None)) mark)
 unfolding growth
 grows-directory {count} {j} {home} {way} m list indirect does has back free =
     let size : ℕ = BLKSIZE * count in
@@ -90,10 +94,10 @@ grows-directory {count} {j} {home} {way} m list indirect does has back free =
     let is = directory-is changes-acts size m.disk way home list indirect has.holds in
     let most : ℕ = min end (BLKSIZE * blocks_needed m.disk home) in
     let none = unfilled m.disk home most (full (size_of m.disk home) long is.size is.whole) in
-    let one : Run count j home end way m (fill home most ∷ []) (a_directory (records_from list) indirect) =
+    let one : Run count j home end way 0 m (fill home most ∷ []) (a_directory (records_from list) indirect) =
     run-one m (fill home most) (a_directory (records_from list) indirect)
     (idle size m.disk way home (a_directory (records_from list) indirect) (fill home most) has.holds none)
-    (comes-idle count j home end m (fill home most) none) in
+    (comes-idle count j home end 0 m (fill home most) none) in
     let kept = directory-kept changes-acts size m.disk way home list indirect indirect (fill home most ∷ []) has.holds one.turns in
     let second =
     takes-records (with_disk m (left_by (fill home most ∷ []) m.disk)) list indirect does (ran has one) back
@@ -101,12 +105,15 @@ grows-directory {count} {j} {home} {way} m list indirect does has back free =
     (blocks_taken long indirect) (free_blocks (left_by (fill home most ∷ []) m.disk)) (free_blocks m.disk) free kept refl) in
     let mark : Bool = second.0 in (
       mark,
-      subst (λ (n : ℕ). Run count j home end way m (fill home most ∷ take_blocks n home end) (a_directory (records_from both) mark))
+      subst (λ (n : ℕ). Run count j home end way (take_calls count + take_calls count) m (fill home most ∷ take_blocks n home end)
+          (a_directory (records_from both) mark))
           (sym (one-block (size_of m.disk home) long is.size is.whole))
-          (subst (λ (l : List Change). Run count j home end way m (fill home most ∷ l) (a_directory (records_from both) mark))
+          (subst (λ (l : List Change). Run count j home end way (take_calls count + take_calls count) m (fill home most ∷ l)
+          (a_directory (records_from both) mark))
           (sym (one-taken home end))
+          (run-most (take_calls count + take_calls count) (omega arith)
           (run-append m (fill home most ∷ []) (take_indirect home ∷ take_block home end ∷ []) (a_directory (records_from list) indirect)
-          (a_directory (records_from both) mark) one second.1)),
+          (a_directory (records_from both) mark) one second.1))),
     )
   where
     full : (size long : ℕ) → size ≡ long → long % 4096 ≡ 0 → min (long + 4096) (4096 * blocks_of size) ≤ size
@@ -120,12 +127,12 @@ pub grows-by-block : {count : ℕ} {j : Job} {home : ℕ} {way : List ℕ} (m : 
     RECORDSIZE * length list ≡ long → Doing count j home (long + BLKSIZE) → Has count way home m (a_directory (records_from list) indirect) →
     gives_back j ≡ false →
     blocks_taken (long + BLKSIZE) (indirect || needs_indirect (long + BLKSIZE)) ≤ blocks_taken long indirect + free_blocks m.disk →
-    (mark : Bool) × Run count j home (long + BLKSIZE) way m (growth m.disk home (long + BLKSIZE))
+    (mark : Bool) × Run count j home (long + BLKSIZE) way (take_calls count + take_calls count) m (growth m.disk home (long + BLKSIZE))
     (a_directory (records_from (list ++ replicate BLKFILES None)) mark)
 grows-by-block {count} {j} {home} {way} m list indirect long e =
     subst (λ (n : ℕ). Doing count j home (n + BLKSIZE) → Has count way home m (a_directory (records_from list) indirect) → gives_back j ≡ false →
     blocks_taken (n + BLKSIZE) (indirect || needs_indirect (n + BLKSIZE)) ≤ blocks_taken n indirect + free_blocks m.disk →
-    (mark : Bool) × Run count j home (n + BLKSIZE) way m (growth m.disk home (n + BLKSIZE))
+    (mark : Bool) × Run count j home (n + BLKSIZE) way (take_calls count + take_calls count) m (growth m.disk home (n + BLKSIZE))
     (a_directory (records_from (list ++ replicate BLKFILES None)) mark)) e
     (λ does has back free. grows-directory m list indirect does has back free)
 

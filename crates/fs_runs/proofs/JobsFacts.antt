@@ -18,7 +18,7 @@ use Rattle.fs_jobs.specs.declared.place.Changed.{Changed}
 use Rattle.fs_jobs.specs.declared.place.Job.{Job}
 use Rattle.fs_jobs.specs.TreeBounds.{is_bounded_changed, is_bounded_job, is_block, is_place}
 use Rattle.fs_runs.specs.TreeRuns.{AreSmall, IsSound, Memory}
-use Rattle.fs_runs.proofs.WalksLowered.{own-few}
+use Rattle.fs_runs.proofs.WalksKnown.{own-few}
 use Rattle.fs_runs.proofs.Pieces.{BlocksAreGiven, BlocksAreTaken, BytesAreRead, BytesAreWritten, Changes, EndsAreFilled, FreeIsCounted, HasBlocks}
 use Rattle.fs_runs.proofs.Pieces.{IndirectsAreGiven, IndirectsAreTaken, IsCounted, LiesApart, LiesOn, LowestIsFound, NamesAreSought}
 use Rattle.fs_runs.proofs.Pieces.{NumbersAreFound, NumbersAreRead, PathsAreRead, PlacesLie, RecordsAreEmptied, RecordsAreMade, SizesAreCut}

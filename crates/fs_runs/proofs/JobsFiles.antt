@@ -1,22 +1,18 @@
 -- The jobs of a file whose record is known: its size, its bytes, what stat tells of it, and its removal.
-use Rattle.std.proofs.Common.{◌≡◌, ◌∙◌, ◌+◌, ◌-◌, ◌*◌, ◌/◌, ◌^◌, ◌<◌, ◌≤◌, ℕ, zero, suc, Bool, true, false, not, List, [], ◌∷◌, ◌++◌}
+use Rattle.std.proofs.Common.{◌≡◌, ◌∙◌, ◌+◌, ◌-◌, ◌*◌, ◌/◌, ◌^◌, ◌<◌, ◌≤◌, ◌⊎◌, inl, inr, ℕ, Bool, true, false, not, List, [], ◌∷◌, ◌++◌}
 use Rattle.std.proofs.Common.{length, Option, refl, sym, ap, subst, arith, min}
-use Rattle.std.specs.Prelude.{◌==◌, ◌||◌, ◌&&◌, nat_le, nat_lt, replicate, if◌then◌else◌}
-use Rattle.std.proofs.lemmas.Bool.{eqb-true}
+use Rattle.std.specs.Prelude.{◌==◌, ◌||◌, ◌&&◌, nat_le, nat_lt, if◌then◌else◌}
+use Rattle.std.proofs.lemmas.Bool.{cases_lt, eqb-true}
 use Rattle.std.proofs.lemmas.Bool.Decides.{nat_tests}
-use Rattle.std.proofs.lemmas.List.{length-append, length-replicate}
 use Rattle.jos_base.specs.declared.numbers.TheConstants.{E_INVAL, E_NO_DISK}
-use Rattle.jos_base.specs.Environments.{bit_of}
 use Rattle.jos_base.specs.Words.{negated}
-use Rattle.jos_base.proofs.Sums.{total-le}
 use Rattle.jos_base.proofs.Below.{length-values}
 use Rattle.fs_layout.specs.declared.numbers.TheConstants.{BLKSIZE, FTYPE_REG, MAXFILESIZE}
 use Rattle.fs_layout.specs.FileTree.{a_file, blocks_of, blocks_taken, needs_indirect}
 use Rattle.fs_layout.specs.FileActs.{resized}
-use Rattle.fs_layout.specs.DiskImage.{block_count, blocks_needed, has_indirect, indirect_of, is_directory_at, is_marked_free, kind_at, size_of}
+use Rattle.fs_layout.specs.DiskImage.{blocks_needed, has_indirect, indirect_of, is_directory_at, kind_at, size_of}
 use Rattle.fs_layout.specs.DiskFiles.{file_bytes, free_blocks}
 use Rattle.fs_layout.proofs.FileBytes.{length-resized}
-use Rattle.fs_acts.specs.BlockActs.{Change, cut, fill, give_block, give_indirect, take_blocks}
 use Rattle.fs_acts.specs.BlockActs.{Planned, blocks_grown, empty_it, growth, of_file, overwrite, place_at, planned, planned_if_it_fits}
 use Rattle.fs_acts.specs.BlockActs.{read_plan, resizing, size_plan, stat_plan, turned_down, write_plan, write_some, written}
 use Rattle.fs_acts.proofs.ComposedChanges.{changes-acts}
@@ -31,9 +27,8 @@ use Rattle.fs_jobs.specs.declared.place.TreeState.{TreeState}
 use Rattle.fs_jobs.specs.declared.place.Wanted.TheVariants as wanted
 use Rattle.fs_jobs.specs.declared.asks.TreeNext.{TreeNext}
 use Rattle.fs_jobs.specs.declared.asks.TreeNext.TheVariants.{Answer, GoOn}
-use Rattle.fs_changes.specs.ChangePlans.{bytes_read}
+use Rattle.fs_changes.specs.ChangePlans.{bytes_read, gives_back}
 use Rattle.fs_jobs.specs.TreeBounds.{is_bounded_job, is_block, is_place}
-use Rattle.fs_runs.specs.JobSteps.{rounds_max}
 use Rattle.fs_runs.specs.TreeRuns.{AreSmall, Memory, bytes_given}
 use Rattle.fs_jobs.specs.TreeTests.{refused}
 use Rattle.fs_runs.proofs.Leads.{Leads, leads_to_end}
@@ -42,12 +37,10 @@ use Rattle.fs_runs.proofs.JobsFacts.{Facts, Found, Pieces, bounded-changed, boun
 use Rattle.fs_runs.proofs.JobsFacts.{indirect-small, read_now, size-small}
 use Rattle.fs_runs.proofs.JobsRuns.{before, bounded-file}
 use Rattle.fs_runs.proofs.JobsChanges.{Unmarked}
-use Rattle.fs_runs.proofs.JobsSizes.{Doing, Has, Run, grows, has-found, ran, resizes}
+use Rattle.fs_runs.proofs.JobsSizes.{Doing, Has, Run, growth_calls, grows, has-found, ran, resizes, run-most}
 use Rattle.fs_runs.proofs.JobsRecords.{Acts, EndsSoon, acts-after, acts-behind, acts-either, acts-none, at_indirect, at_kind}
 use Rattle.fs_runs.proofs.JobsRecords.{ends-at, fits-or-not, kind-one}
-use Rattle.fs_runs.proofs.JobsRecords.{soon-behind}
-use Rattle.fs_runs.proofs.JobsRecords.{kind-refused}
-use Rattle.fs_runs.proofs.JobsRecords.{settled-ends, settled-goes, size-ends, size-goes}
+use Rattle.fs_runs.proofs.JobsRecords.{ends-most, kind-refused, settled-ends, settled-goes, size-ends, size-goes, soon-behind}
 
 -- ---- a file
 
@@ -61,11 +54,11 @@ has-file {count} {way} {home} {m} found regular =
     }
 
 -- what is done to the file at a way, and what is refused where it is a directory
-pub acts-file : Pieces → (count : ℕ) (j : Job) (way : List ℕ) (home : ℕ) (m : Memory) (plan : ℕ → Planned) → Found count way home m →
-    is_bounded_job j ≡ true → (is_directory_at m.disk home ≡ false → Acts count (plan home) m (at_kind j count home) m) →
-    Acts count (of_file m.disk (place_at m.disk way) plan) m (at_kind j count home) m
-acts-file pieces count j way home m plan found job acts =
-    subst (λ (place : Option ℕ). Acts count (of_file m.disk place plan) m (at_kind j count home) m) (sym found.stands)
+pub acts-file : {most : ℕ} → Pieces → (count : ℕ) (j : Job) (way : List ℕ) (home : ℕ) (m : Memory) (plan : ℕ → Planned) → Found count way home m →
+    is_bounded_job j ≡ true → (is_directory_at m.disk home ≡ false → Acts most count (plan home) m (at_kind j count home) m) →
+    Acts most count (of_file m.disk (place_at m.disk way) plan) m (at_kind j count home) m
+acts-file {most} pieces count j way home m plan found job acts =
+    subst (λ (place : Option ℕ). Acts most count (of_file m.disk place plan) m (at_kind j count home) m) (sym found.stands)
     (acts-either (is_directory_at m.disk home) (turned_down E_INVAL) (plan home)
     (λ is. acts-none count (negated E_INVAL) m (at_kind j count home) (kind-refused pieces count j way home m found job is)) acts)
 
@@ -82,110 +75,68 @@ fits-bytes {count} {way} {home} {m} found regular wanted fit =
     subst (λ (n : ℕ). wanted ≤ blocks_taken n (has_indirect m.disk home) + free_blocks m.disk) (sym is.long)
     (within (blocks_taken (size_of m.disk home) (has_indirect m.disk home)) wanted (free_blocks m.disk) fit)
 
--- ---- how many changes it makes
-
-long-taken : (n place end : ℕ) → length (take_blocks n place end) ≡ 2 * n
-unfolding take_blocks
-long-taken zero place end = refl
-long-taken (suc n) place end = let rest = long-taken n place end in omega (arith, rest)
-
-abbrev marked : Bool → ℕ
-marked b = if b then 1 else 0
-
-marked-few : (b : Bool) → marked b ≤ 1
-marked-few true = omega arith
-marked-few false = omega arith
-
-bit-few : (b : Bool) → bit_of b ≤ 1
-bit-few true = omega arith
-bit-few false = omega arith
-
--- there are no more free blocks than blocks
-free-few : (byte : ℕ → ℕ) → free_blocks byte ≤ block_count byte
-unfolding free_blocks
-free-few byte =
-    let all = total-le (block_count byte) 1 (λ block. bit_of (is_marked_free byte block)) (λ block. bit-few (is_marked_free byte block)) in
-    omega (arith, all)
-
--- what fits takes at most all blocks and its indirect block more
-pub room-few : (count : ℕ) (byte : ℕ → ℕ) (place end long : ℕ) (had wants : Bool) → block_count byte ≡ count → long ≡ size_of byte place →
-    blocks_taken end wants ≤ blocks_taken long had + free_blocks byte → blocks_of end ≤ blocks_needed byte place + (count + 1)
-room-few count byte place end long had wants is same fits =
-    within (blocks_of end) (blocks_of long) (blocks_needed byte place) (marked wants) (marked had) (free_blocks byte) (block_count byte) count fits
-    (ap (λ (n : ℕ). blocks_of n) same) (marked-few had) (free-few byte) is
-  where
-    within : (e l n w h free blocks count : ℕ) → e + w ≤ l + h + free → l ≡ n → h ≤ 1 → free ≤ blocks → blocks ≡ count → e ≤ n + (count + 1)
-    within e l n w h free blocks count a b c d f = omega (arith, a, b, c, d, f)
-
-pub few-growth : (count : ℕ) (byte : ℕ → ℕ) (place end : ℕ) → blocks_of end ≤ blocks_needed byte place + (count + 1) →
-    length (growth byte place end) < rounds_max count
-unfolding growth
-few-growth count byte place end room =
-    let taken = long-taken (blocks_of end - blocks_needed byte place) place end in
-    within (blocks_of end) (blocks_needed byte place) (length (take_blocks (blocks_of end - blocks_needed byte place) place end)) room taken
-  where
-    within : (a b n : ℕ) → a ≤ b + (count + 1) → n ≡ 2 * (a - b) → suc n < 2 * count + 6
-    within a b n few is = omega (arith, few, is)
-
-few-resizing : (count : ℕ) (byte : ℕ → ℕ) (place end : ℕ) → blocks_needed byte place ≤ count →
-    blocks_of end ≤ blocks_needed byte place + (count + 1) → length (resizing byte place end) < rounds_max count
-unfolding resizing growth
-few-resizing count byte place end old room =
-    let n : ℕ = blocks_needed byte place in
-    let given : List Change = replicate (n - blocks_of end) (give_block place) in
-    let its : List Change = if needs_indirect end then [] else give_indirect place ∷ [] in
-    let more : List Change = take_blocks (blocks_of end - n) place end in
-    let grown : List Change = cut place end ∷ fill place (min end (BLKSIZE * n)) ∷ more in
-    let all = length-append (given ++ its) grown in
-    let both = length-append given its in
-    let back = length-replicate {A = Change} (n - blocks_of end) (give_block place) in
-    let own = own_few (needs_indirect end) in
-    within n (blocks_of end) (length given) (length its) (length more) (length (given ++ its)) (length (given ++ its ++ grown)) old room back own
-    (long-taken (blocks_of end - n) place end) both all
-  where
-    own_few : (b : Bool) → length (if b then [] else give_indirect place ∷ []) ≤ 1
-    own_few true = omega arith
-    own_few false = omega arith
-
-    within : (n e given its more both whole : ℕ) → n ≤ count → e ≤ n + (count + 1) → given ≡ n - e → its ≤ 1 →
-        more ≡ 2 * (e - n) → both ≡ given + its → whole ≡ both + suc (suc more) → whole < 2 * count + 6
-    within n e given its more both whole a b c d f g h = omega (arith, a, b, c, d, f, g, h)
-
 -- ---- its size
+
+-- what its changes weigh, where it grows, and where it doesn't
+run-resized : {count : ℕ} {j : Job} {home end : ℕ} {way : List ℕ} {m : Memory} → Doing count j home end → gives_back j ≡ true → (bytes : List ℕ)
+    (indirect : Bool) → Has count way home m (a_file bytes indirect) →
+    blocks_taken end (needs_indirect end) ≤ blocks_taken (length bytes) indirect + free_blocks m.disk → (most : ℕ) →
+    (size_of m.disk home < end → growth_calls count + 48 ≤ most) →
+    (end ≤ size_of m.disk home → 48 * blocks_needed m.disk home + 48 ≤ most) →
+    Run count j home end way most m (resizing m.disk home end) (a_file (resized bytes end) (needs_indirect end))
+run-resized {count} {j} {home} {end} {way} {m} does back bytes indirect has free most grown cut = by (cases_lt (length bytes) end)
+  where
+    long : length bytes ≡ size_of m.disk home
+    long = (file-is changes-acts (BLKSIZE * count) m.disk way home bytes indirect has.holds).long
+
+    none-given : (n end all most : ℕ) → n < end → all + 48 ≤ most → 48 * (blocks_of n - blocks_of end) + 48 + all ≤ most
+    none-given n end all most less le = omega (arith, less, le)
+
+    all-given : (n size end most : ℕ) → n ≡ size → 48 * blocks_of size + 48 ≤ most → 48 * (blocks_of n - blocks_of end) + 48 + 0 ≤ most
+    all-given n size end most e le = let same : blocks_of n ≡ blocks_of size = ap (λ (k : ℕ). blocks_of k) e in omega (arith, same, le)
+
+    by : (length bytes < end) ⊎ (end ≤ length bytes) →
+        Run count j home end way most m (resizing m.disk home end) (a_file (resized bytes end) (needs_indirect end))
+    by (inl less) =
+        run-most most
+        (none-given (length bytes) end (growth_calls count) most less (grown (subst (λ (k : ℕ). k < end) long less)))
+        (resizes does back (growth_calls count) m bytes indirect has free (λ more. omega arith))
+    by (inr past) =
+        run-most most (all-given (length bytes) (size_of m.disk home) end most long (cut (subst (λ (k : ℕ). end ≤ k) long past)))
+        (resizes does back 0 m bytes indirect has free (λ more. absurd (omega (arith, more, past))))
 
 not-both : (b : Bool) → (not b && b) ≡ false
 not-both true = refl
 not-both false = refl
 
--- from before the changes to the end of the job
+-- From before the changes to the end of the job: what they weigh, where the file grows, and where it doesn't.
 pub resized-ends : Pieces → (count : ℕ) (way : List ℕ) (home end : ℕ) (m : Memory) → Found count way home m → is_directory_at m.disk home ≡ false →
     end ≤ MAXFILESIZE → blocks_taken end (needs_indirect end) ≤ blocks_taken (length (file_bytes m.disk home))
-    (has_indirect m.disk home) + free_blocks m.disk →
+    (has_indirect m.disk home) + free_blocks m.disk → (most : ℕ) →
+    (size_of m.disk home < end → growth_calls count + 48 ≤ most) →
+    (end ≤ size_of m.disk home → 48 * blocks_needed m.disk home + 48 ≤ most) →
     (size indirect : ℕ) → is_place size ≡ true → is_block indirect ≡ true →
-    EndsSoon count 0 (with_disk m (left_by (resizing m.disk home end) m.disk)) (before (job.SetSize home end) count home end size indirect) m
-resized-ends pieces count way home end m found regular short free size indirect a b =
+    EndsSoon most count 0 (with_disk m (left_by (resizing m.disk home end) m.disk)) (before (job.SetSize home end) count home end size indirect) m
+resized-ends pieces count way home end m found regular short free most grown cut size indirect a b =
     let j : Job = job.SetSize home end in
     let known = facts pieces count way home m found in
     let bounded : is_bounded_job j ≡ true = home-small count home known.lies known.counted.2 in
     let bytes : List ℕ = file_bytes m.disk home in
     let has = has-file found regular in
     let does : Doing count j home end = record { pieces = pieces; job = bounded; short = short } in
-    let run : Run count j home end way m (resizing m.disk home end) (a_file (resized bytes end) (needs_indirect end)) =
-    resizes does refl m bytes (has_indirect m.disk home) has free in
-    let first = file-is changes-acts (BLKSIZE * count) m.disk way home bytes (has_indirect m.disk home) has.holds in
-    let room =
-    room-few count m.disk home end (length bytes) (has_indirect m.disk home) (needs_indirect end) known.counted.0 first.long free in
+    let run : Run count j home end way most m (resizing m.disk home end) (a_file (resized bytes end) (needs_indirect end)) =
+    run-resized does refl bytes (has_indirect m.disk home) has free most grown cut in
     let after : Memory = with_disk m (left_by (resizing m.disk home end) m.disk) in
     let now = ran has run in
     let is = file-is changes-acts (BLKSIZE * count) after.disk way home (resized bytes end) (needs_indirect end) now.holds in
     let then_known = facts pieces count way home after (has-found now) in
-    acts-after m (resizing m.disk home end) 0 after run.comes (few-resizing count m.disk home end known.few room) size indirect a b
+    acts-after m (resizing m.disk home end) 0 after run.comes size indirect a b
     (λ s i c d.
     settled-ends count j home end after s i 0 then_known bounded short c d (sym is.long ∙ length-resized bytes end)
     (λ back. subst (λ (t : Bool). Unmarked end t) (sym is.mark) (not-both (needs_indirect end))) refl)
 
 pub size-acts : Pieces → (count : ℕ) (way : List ℕ) (home end : ℕ) (m : Memory) → Found count way home m → is_directory_at m.disk home ≡ false →
-    Acts count (size_plan m.disk home end) m (at_kind (job.SetSize home end) count home) m
+    Acts (6410 * count + 26000) count (size_plan m.disk home end) m (at_kind (job.SetSize home end) count home) m
 unfolding size_plan
 size-acts pieces count way home end m found regular =
     acts-either (nat_lt MAXFILESIZE end) (turned_down E_NO_DISK)
@@ -203,14 +154,15 @@ size-acts pieces count way home end m found regular =
     goes : TreeNext
     goes = GoOn (at_indirect j count home end m.disk)
 
-    past : nat_lt MAXFILESIZE end ≡ true → Acts count (turned_down E_NO_DISK) m (at_kind j count home) m
+    past : nat_lt MAXFILESIZE end ≡ true → Acts (6410 * count + 26000) count (turned_down E_NO_DISK) m (at_kind j count home) m
     past far =
         acts-none count (negated E_NO_DISK) m (at_kind j count home)
         (size-ends pieces count j way home m (negated E_NO_DISK) found bounded regular
         (ap (λ (b : Bool). if b then refused E_NO_DISK else goes) far))
 
     fitting : nat_lt MAXFILESIZE end ≡ false →
-        Acts count (planned_if_it_fits m.disk home (blocks_taken end (needs_indirect end)) 0 (resizing m.disk home end)) m (at_kind j count home) m
+        Acts (6410 * count + 26000) count
+        (planned_if_it_fits m.disk home (blocks_taken end (needs_indirect end)) 0 (resizing m.disk home end)) m (at_kind j count home) m
     fitting near =
         let short : end ≤ MAXFILESIZE = not-past end near in
         let wanted : ℕ = blocks_taken end (needs_indirect end) in
@@ -223,7 +175,8 @@ size-acts pieces count way home end m found regular =
         (planned (resizing m.disk home end) 0) (turned_down E_NO_DISK)
         (λ fit.
         let ends =
-        resized-ends pieces count way home end m found regular short (fits-bytes found regular wanted fit) (size_of m.disk home) _
+        resized-ends pieces count way home end m found regular short (fits-bytes found regular wanted fit) (6410 * count + 26000)
+        (λ more. omega arith) (λ less. kept-few (blocks_needed m.disk home) known.few) (size_of m.disk home) _
         (size-small (size_of m.disk home) known.short) (indirect-small known) in
         record {
           after = with_disk m (left_by (resizing m.disk home end) m.disk);
@@ -233,6 +186,9 @@ size-acts pieces count way home end m found regular =
           rest = λ k past. refl;
         })
         (λ lacks. acts-none count (negated E_NO_DISK) m (at_indirect j count home end m.disk) (free.1 lacks)))
+      where
+        kept-few : (n : ℕ) → n ≤ count → 48 * n + 48 ≤ 6410 * count + 26000
+        kept-few n few = omega (arith, few)
 
 -- ---- its bytes
 
@@ -265,7 +221,7 @@ bytes-apart {count} {home} {byte} indirect end known =
 -- what is read
 pub read-acts : Pieces → (count : ℕ) (way : List ℕ) (home at n : ℕ) (m : Memory) → Found count way home m → is_directory_at m.disk home ≡ false →
     at < 2 ^ 31 →
-    Acts count (read_plan m.disk home at n) m (at_kind (job.Read home at n) count home) m
+    Acts 0 count (read_plan m.disk home at n) m (at_kind (job.Read home at n) count home) m
 unfolding read_plan left_by
 read-acts pieces count way home at n m found regular low = by (read == 0) refl
   where
@@ -296,13 +252,13 @@ read-acts pieces count way home at n m found regular low = by (read == 0) refl
     next : TreeState
     next = at_file j count (changed home (size_of m.disk home) 0 0) (file.Number (at / BLKSIZE) (wanted.Reading 0))
 
-    by : (b : Bool) → (read == 0) ≡ b → Acts count plan m (at_kind j count home) m
+    by : (b : Bool) → (read == 0) ≡ b → Acts 0 count plan m (at_kind j count home) m
     by true none =
         let zero_long : length plan.bytes ≡ 0 = long ∙ eqb-true read 0 none in
         record {
           after = m;
           ends =
-              subst (λ (a : ℕ). EndsSoon count a m (at_kind j count home) m) (sym zero_long)
+              subst (λ (a : ℕ). EndsSoon 0 count a m (at_kind j count home) m) (sym zero_long)
               (ends-at (size-ends pieces count j way home m 0 found bounded regular (ap (λ (b : Bool). if b then Answer 0 else GoOn next) none)));
           disk = refl;
           bytes = λ k below. absurd (omega (arith, below, zero_long));
@@ -328,7 +284,7 @@ read-acts pieces count way home at n m found regular low = by (read == 0) refl
 
 -- what stat tells
 pub stat-acts : Pieces → (count : ℕ) (way : List ℕ) (home : ℕ) (m : Memory) → Found count way home m → is_directory_at m.disk home ≡ false →
-    Acts count (stat_plan m.disk home) m (at_kind (job.Stat home) count home) m
+    Acts 0 count (stat_plan m.disk home) m (at_kind (job.Stat home) count home) m
 unfolding stat_plan left_by
 stat-acts pieces count way home m found regular =
     let j : Job = job.Stat home in
@@ -371,7 +327,7 @@ write_n byte place at new n =
 
 pub write-acts : Pieces → (count : ℕ) (way : List ℕ) (home at n : ℕ) (m : Memory) → Found count way home m → is_directory_at m.disk home ≡ false →
     at < 2 ^ 31 →
-    n + 8 ≤ 4096 → Acts count (write_plan m.disk home at (bytes_given m.page n)) m (at_kind (job.Write home at n) count home) m
+    n + 8 ≤ 4096 → Acts (6410 * count + 26000) count (write_plan m.disk home at (bytes_given m.page n)) m (at_kind (job.Write home at n) count home) m
 unfolding left_by
 write-acts pieces count way home at n m found regular low few = by (n == 0) refl
   where
@@ -437,14 +393,14 @@ write-acts pieces count way home at n m found regular low few = by (n == 0) refl
         not-zero : (n : ℕ) → (n == 0) ≡ false → 0 < n
         not-zero n e = grind (arith, nat_tests)
 
-    past : (n == 0) ≡ false → nat_lt MAXFILESIZE end ≡ true → Acts count (turned_down E_NO_DISK) m state m
+    past : (n == 0) ≡ false → nat_lt MAXFILESIZE end ≡ true → Acts (6410 * count + 26000) count (turned_down E_NO_DISK) m state m
     past some far =
         acts-none count (negated E_NO_DISK) m state
         (size-ends pieces count j way home m (negated E_NO_DISK) found bounded regular
         (ap going whole ∙ (λ i. gone (some i) (far i) (nat_le end (size_of m.disk home)))))
 
     inside : (n == 0) ≡ false → nat_lt MAXFILESIZE end ≡ false → nat_le end (size_of m.disk home) ≡ true →
-        Acts count (planned (overwrite home at new ∷ []) n) m state m
+        Acts (6410 * count + 26000) count (planned (overwrite home at new ∷ []) n) m state m
     inside some near fit =
         let run =
         size-goes pieces count j way home m straight found bounded regular (ap going whole ∙ (λ i. gone (some i) (near i) (fit i))) in
@@ -461,7 +417,7 @@ write-acts pieces count way home at n m found regular low few = by (n == 0) refl
         is-le n k e = grind (arith, nat_tests)
 
     beyond : (n == 0) ≡ false → nat_lt MAXFILESIZE end ≡ false → nat_le end (size_of m.disk home) ≡ false →
-        Acts count (planned_if_it_fits m.disk home (blocks_grown m.disk home end) n
+        Acts (6410 * count + 26000) count (planned_if_it_fits m.disk home (blocks_grown m.disk home end) n
         (growth m.disk home end ++ overwrite home at new ∷ [])) m state m
     beyond some near over =
         let short : end ≤ MAXFILESIZE = not-past end near in
@@ -484,12 +440,12 @@ write-acts pieces count way home at n m found regular low few = by (n == 0) refl
         grows-and-writes : (n == 0) ≡ false → end ≤ MAXFILESIZE → nat_le end (size_of m.disk home) ≡ false →
             Leads count (before j count home end (size_of m.disk home) (indirect_of m.disk home)) m grown m →
             nat_le (blocks_grown m.disk home end - blocks_taken (size_of m.disk home) (has_indirect m.disk home)) (free_blocks m.disk) ≡ true →
-            Acts count (planned (growth m.disk home end ++ overwrite home at new ∷ []) n) m grown m
+            Acts (6410 * count + 26000) count (planned (growth m.disk home end ++ overwrite home at new ∷ []) n) m grown m
         grows-and-writes some_ short over_ lead fit =
             let has = has-file found regular in
             let is = file-is changes-acts (BLKSIZE * count) m.disk way home bytes (has_indirect m.disk home) has.holds in
             let does : Doing count j home end = record { pieces = pieces; job = bounded; short = short } in
-            let grow : Run count j home end way m (growth m.disk home end)
+            let grow : Run count j home end way (growth_calls count) m (growth m.disk home end)
             (a_file (resized bytes end) (has_indirect m.disk home || needs_indirect end)) =
             grows does m bytes (has_indirect m.disk home) has (fits-bytes found regular (blocks_grown m.disk home end) fit) refl
             (ends-past end (size_of m.disk home) (length bytes) is.long over_) in
@@ -500,10 +456,7 @@ write-acts pieces count way home at n m found regular low few = by (n == 0) refl
             let size_is : size_of after.disk home ≡ end = sym then_is.long ∙ length-resized bytes end in
             let last : ℕ → ℕ = written (overwrite home at new after.disk) after.disk in
             let ends =
-            acts-after m (growth m.disk home end) n (with_disk m last) grow.comes (few-growth count m.disk home end
-            (room-few count m.disk home end (length bytes) (has_indirect m.disk home) (has_indirect m.disk home || needs_indirect end)
-            known.counted.0 is.long
-            (fits-bytes found regular (blocks_grown m.disk home end) fit))) (size_of m.disk home) (indirect_of m.disk home)
+            acts-after m (growth m.disk home end) n (with_disk m last) grow.comes (size_of m.disk home) (indirect_of m.disk home)
             (size-small (size_of m.disk home) known.short) (indirect-small known)
             (λ s i a b.
             let write = behind-writes after (indirect_of after.disk home) end there now.small (indirect-small there) short refl some_
@@ -514,7 +467,7 @@ write-acts pieces count way home at n m found regular low few = by (n == 0) refl
             (λ back. never back) refl) write.0 write.1) in
             record {
               after = with_disk m last;
-              ends = soon-behind grown m lead ends;
+              ends = soon-behind grown m lead (ends-most (6410 * count + 26000) (omega arith) ends);
               disk = sym (left_by-append (growth m.disk home end) (overwrite home at new ∷ []) m.disk);
               bytes = λ k below. absurd (omega (arith, below));
               rest = λ k past. refl;
@@ -526,7 +479,7 @@ write-acts pieces count way home at n m found regular low few = by (n == 0) refl
             same-le : (n m : ℕ) → m ≡ n → n ≤ m
             same-le n m e = omega arith
 
-    some-acts : (n == 0) ≡ false → Acts count (write_n m.disk home at new n) m state m
+    some-acts : (n == 0) ≡ false → Acts (6410 * count + 26000) count (write_n m.disk home at new n) m state m
     some-acts some =
         acts-either (nat_lt MAXFILESIZE end) (turned_down E_NO_DISK)
         (if nat_le end (size_of m.disk home) then planned (overwrite home at new ∷ []) n
@@ -537,24 +490,27 @@ write-acts pieces count way home at n m found regular low few = by (n == 0) refl
         (planned_if_it_fits m.disk home (blocks_grown m.disk home end) n (growth m.disk home end ++ overwrite home at new ∷ []))
         (inside some near) (beyond some near))
 
-    by : (b : Bool) → (n == 0) ≡ b → Acts count (write_plan m.disk home at new) m state m
+    by : (b : Bool) → (n == 0) ≡ b → Acts (6410 * count + 26000) count (write_plan m.disk home at new) m state m
     by true none =
-        subst (λ (p : Planned). Acts count p m state m) (sym (write-none m.disk home at new (long ∙ eqb-true n 0 none)))
+        subst (λ (p : Planned). Acts (6410 * count + 26000) count p m state m) (sym (write-none m.disk home at new (long ∙ eqb-true n 0 none)))
         (acts-none count 0 m state
         (size-ends pieces count j way home m 0 found bounded regular
         (ap going whole ∙ (λ i. gone (none i) (nat_lt MAXFILESIZE end) (nat_le end (size_of m.disk home))))))
     by false some =
-        subst (λ (p : Planned). Acts count p m state m) (sym (write-some m.disk home at new
+        subst (λ (p : Planned). Acts (6410 * count + 26000) count p m state m) (sym (write-some m.disk home at new
         (subst (λ (k : ℕ). 0 < k) (sym long) (not-zero n some))))
-        (subst (λ (k : ℕ). Acts count (write_n m.disk home at new k) m state m) (sym long) (some-acts some))
+        (subst (λ (k : ℕ). Acts (6410 * count + 26000) count (write_n m.disk home at new k) m state m) (sym long) (some-acts some))
       where
         not-zero : (n : ℕ) → (n == 0) ≡ false → 0 < n
         not-zero n e = grind (arith, nat_tests)
 
 -- ---- its removal
 
+pub emptied-few : (count size : ℕ) → size ≤ MAXFILESIZE → 48 * blocks_of size + 48 ≤ count + 50000
+emptied-few count size short = omega (arith, short)
+
 pub remove-acts : Pieces → (count : ℕ) (way : List ℕ) (home : ℕ) (m : Memory) → Found count way home m → is_directory_at m.disk home ≡ false →
-    Acts count (planned (resizing m.disk home 0 ++ empty_it home ∷ []) 0) m (at_kind (job.Remove home) count home) m
+    Acts (count + 50000) count (planned (resizing m.disk home 0 ++ empty_it home ∷ []) 0) m (at_kind (job.Remove home) count home) m
 unfolding left_by
 remove-acts pieces count way home m found regular =
     let j : Job = job.Remove home in
@@ -563,8 +519,9 @@ remove-acts pieces count way home m found regular =
     let bytes : List ℕ = file_bytes m.disk home in
     let has = has-file found regular in
     let does : Doing count j home 0 = record { pieces = pieces; job = bounded; short = omega arith } in
-    let run : Run count j home 0 way m (resizing m.disk home 0) (a_file (resized bytes 0) (needs_indirect 0)) =
-    resizes does refl m bytes (has_indirect m.disk home) has (omega arith) in
+    let run : Run count j home 0 way (count + 50000) m (resizing m.disk home 0) (a_file (resized bytes 0) (needs_indirect 0)) =
+    run-resized does refl bytes (has_indirect m.disk home) has (omega arith) (count + 50000) (λ more. absurd (omega (arith, more)))
+    (λ less. emptied-few count (size_of m.disk home) known.short) in
     let after : Memory = with_disk m (left_by (resizing m.disk home 0) m.disk) in
     let now = ran has run in
     let is = file-is changes-acts (BLKSIZE * count) after.disk way home (resized bytes 0) (needs_indirect 0) now.holds in
@@ -575,8 +532,7 @@ remove-acts pieces count way home m found regular =
     pieces.records_are_emptied count j c after there.lies
     (bounded-file count j c file.Empty (count-small count there.counted.2) bounded (bounded-now 0 there (omega arith)) refl) in
     let ends =
-    acts-after m (resizing m.disk home 0) 0 (with_disk m last) run.comes (few-resizing count m.disk home 0 known.few (omega arith))
-    (size_of m.disk home) 0 (size-small (size_of m.disk home) known.short) refl
+    acts-after m (resizing m.disk home 0) 0 (with_disk m last) run.comes (size_of m.disk home) 0 (size-small (size_of m.disk home) known.short) refl
     (λ s i a b.
     leads_to_end (before j count home 0 s i) after
     (settled-goes count j home 0 after s i (at_file j count c file.Empty) there bounded (omega arith) a b (sym is.long ∙ length-resized bytes 0)

@@ -44,8 +44,9 @@ use Rattle.fs_runs.proofs.JobsFacts.{read_now, size-small}
 use Rattle.fs_runs.proofs.JobsRuns.{before, inside-word}
 use Rattle.fs_runs.proofs.JobsSizes.{Doing, has-found, ran}
 use Rattle.fs_runs.proofs.JobsDirectories.{grows-by-block, has-directory}
-use Rattle.fs_runs.proofs.JobsRecords.{Acts, acts-after, acts-behind, acts-either, acts-none, at_indirect, ends-soon, fits-or-not, kind-one, settled-goes, soon-behind}
-use Rattle.fs_runs.proofs.JobsFiles.{few-growth, resized-ends}
+use Rattle.fs_runs.proofs.JobsRecords.{Acts, acts-after, acts-behind, acts-either, acts-none, at_indirect, ends-at, ends-most, fits-or-not, kind-one}
+use Rattle.fs_runs.proofs.JobsRecords.{settled-goes, soon-behind}
+use Rattle.fs_runs.proofs.JobsFiles.{emptied-few, resized-ends}
 
 -- ---- the record that a path leads to
 
@@ -111,7 +112,7 @@ none-wanted had free = grind (arith, nat_tests)
 
 -- all its blocks are given back
 truncated : Pieces → (count : ℕ) (way : List ℕ) (home : ℕ) (m : Memory) → Found count way home m → is_directory_at m.disk home ≡ false →
-    Acts count (size_plan m.disk home 0) m (before (job.SetSize home 0) count home 0 0 0) m
+    Acts (count + 50000) count (size_plan m.disk home 0) m (before (job.SetSize home 0) count home 0 0 0) m
 unfolding size_plan
 truncated pieces count way home m found regular =
     acts-either (nat_le (blocks_taken 0 (needs_indirect 0) - blocks_taken (size_of m.disk home) (has_indirect m.disk home)) (free_blocks m.disk))
@@ -119,7 +120,9 @@ truncated pieces count way home m found regular =
     (λ fit.
     record {
       after = with_disk m (left_by (resizing m.disk home 0) m.disk);
-      ends = resized-ends pieces count way home 0 m found regular (omega arith) (omega arith) 0 0 refl refl;
+      ends =
+          resized-ends pieces count way home 0 m found regular (omega arith) (omega arith) (count + 50000) (λ more. absurd (omega (arith, more)))
+          (λ less. emptied-few count (size_of m.disk home) (facts pieces count way home m found).short) 0 0 refl refl;
       disk = refl;
       bytes = λ k below. absurd (omega (arith, below));
       rest = λ k past. refl;
@@ -130,7 +133,8 @@ truncated pieces count way home m found regular =
     never e f = let both : true ≡ false = sym e ∙ f in absurd (cc both)
 
 pub opens-file : Pieces → (count mode : ℕ) (way : List ℕ) (home : ℕ) (m : Memory) → Found count way home m →
-    Acts count (if is_directory_at m.disk home then turned_down E_INVAL else if has_bit mode O_TRUNC then size_plan m.disk home 0 else planned [] 0) m
+    Acts (count + 50000) count
+    (if is_directory_at m.disk home then turned_down E_INVAL else if has_bit mode O_TRUNC then size_plan m.disk home 0 else planned [] 0) m
     (at_found (job.Open mode) count home) m
 opens-file pieces count mode way home m found =
     acts-either (is_directory_at m.disk home) (turned_down E_INVAL) (if has_bit mode O_TRUNC then size_plan m.disk home 0 else planned [] 0)
@@ -209,7 +213,7 @@ creates-in-room : Pieces → (count : ℕ) (path name : List ℕ) (directory fro
     Makes count path name directory from m →
     slot < slot_count m.disk directory →
     Leads count (making count directory from slot (size_of m.disk directory) (size_of m.disk directory)) m state m →
-    Acts count (planned (make_record directory slot name ∷ []) 0) m state m
+    Acts (count + 50000) count (planned (make_record directory slot name ∷ []) 0) m state m
 unfolding left_by
 creates-in-room pieces count path name directory from slot m state makes within lead =
     let j : Job = job.Create directory slot from in
@@ -234,7 +238,7 @@ creates-in-room pieces count path name directory from slot m state makes within 
     (inside slot (slot_count m.disk directory) size within makes.whole) in
     record {
       after = with_disk m (written (make_record directory slot name m.disk) m.disk);
-      ends = ends-soon 1 (omega arith) (leads_to_end state m run ends.0 ends.1);
+      ends = ends-at (leads_to_end state m run ends.0 ends.1);
       disk = refl;
       bytes = λ k below. absurd (omega (arith, below));
       rest = λ k past. refl;
@@ -266,7 +270,7 @@ creates-behind : Pieces → (count : ℕ) (path name : List ℕ) (directory from
     let end = size_of m.disk directory + BLKSIZE in
     let slot = slot_count m.disk directory in
     end ≤ MAXFILESIZE → Leads count (making count directory from slot (size_of m.disk directory) end) m state m →
-    Acts count (planned_if_it_fits m.disk directory (blocks_grown m.disk directory end) 0
+    Acts (count + 50000) count (planned_if_it_fits m.disk directory (blocks_grown m.disk directory end) 0
     (growth m.disk directory end ++ make_record directory slot name ∷ [])) m state m
 unfolding left_by
 creates-behind pieces count path name directory from m state makes short lead =
@@ -319,7 +323,7 @@ creates-behind pieces count path name directory from m state makes short lead =
     inside : (slot size now : ℕ) → slot * 256 ≡ size → now ≡ size + 4096 → 256 * slot < now
     inside slot size now a b = omega (arith, a, b)
 
-    grow : nat_le more (free_blocks m.disk) ≡ true → Acts count
+    grow : nat_le more (free_blocks m.disk) ≡ true → Acts (count + 50000) count
         (planned (growth m.disk directory end ++ make_record directory slot name ∷ []) 0) m state m
     grow fit =
         let held = has-directory makes.found makes.kind in
@@ -343,8 +347,7 @@ creates-behind pieces count path name directory from m state makes short lead =
         (blocks-now end there) makes.has_path makes.last.at (few slot size makes.whole short)
         (inside slot size (size_of after.disk directory) makes.whole size_is) in
         let ends =
-        acts-after m (growth m.disk directory end) 0 (with_disk m last) run.1.comes (few-growth count m.disk directory end (omega arith)) size (indirect_of m.disk directory)
-        (size-small size known.short)
+        acts-after m (growth m.disk directory end) 0 (with_disk m last) run.1.comes size (indirect_of m.disk directory) (size-small size known.short)
         (indirect-small known)
         (λ s i a b.
         leads_to_end (before j count directory end s i) after
@@ -353,7 +356,7 @@ creates-behind pieces count path name directory from m state makes short lead =
         (λ back. never back) refl) made.0 made.1) in
         record {
           after = with_disk m last;
-          ends = soon-behind state m (leads_on state m lead (free.0 fit)) ends;
+          ends = soon-behind state m (leads_on state m lead (free.0 fit)) (ends-most (count + 50000) (omega arith) ends);
           disk = sym (left_by-append (growth m.disk directory end) (make_record directory slot name ∷ []) m.disk);
           bytes = λ k below. absurd (omega (arith, below));
           rest = λ k past. refl;
@@ -367,7 +370,7 @@ pub creates-file : Pieces → (count : ℕ) (path name : List ℕ) (directory fr
     Leads count (at_file (job.Create directory (slot_taken seek) from) count
     (changed_to directory (slot_count m.disk directory * RECORDSIZE) (size_wanted seek)) file.Indirect) m
     state m) →
-    Acts count (create_plan m.disk directory name) m state m
+    Acts (count + 50000) count (create_plan m.disk directory name) m state m
 unfolding create_plan
 creates-file pieces count path name directory from m state sound has_path last is far near =
     by (first_slot m.disk directory (is_empty_record m.disk)) refl far near
@@ -406,7 +409,7 @@ creates-file pieces count path name directory from m state sound has_path last i
         (size_wanted (seek_by m.disk directory from empty) ≤ MAXFILESIZE →
         Leads count (making count directory from (slot_taken (seek_by m.disk directory from empty)) (slots * 256)
         (size_wanted (seek_by m.disk directory from empty))) m state m) →
-        Acts count (create_plan_at m.disk directory name empty) m state m
+        Acts (count + 50000) count (create_plan_at m.disk directory name empty) m state m
     by (Some i) e past fits =
         let below : i < slots = first-below m.disk directory i (is_empty_record m.disk) e in
         let other : (i == NONE) ≡ false = not-none i slots size below whole known.short in

@@ -16,18 +16,18 @@ use Rattle.fs_acts.proofs.Undamaged.{way-reached}
 use Rattle.fs_jobs.specs.declared.place.FilePlace.TheVariants as file
 use Rattle.fs_jobs.specs.declared.place.Job.{Job}
 use Rattle.fs_jobs.specs.declared.place.TreeState.{TreeState}
-use Rattle.fs_jobs.specs.declared.place.WalkPlace.{WalkPlace}
 use Rattle.fs_jobs.specs.declared.asks.TreeNext.{TreeNext}
 use Rattle.fs_jobs.specs.declared.asks.TreeNext.TheVariants.{Answer, GoOn}
 use Rattle.fs_jobs.specs.declared.tests.TheConstants.{DAMAGED}
 use Rattle.fs_changes.specs.ChangePlans.{gives_back, more_blocks, next_change, settled, sized}
 use Rattle.fs_jobs.specs.TreeBounds.{is_bounded_changed, is_bounded_job, is_block, is_place}
-use Rattle.fs_runs.specs.JobSteps.{rounds_max}
-use Rattle.fs_runs.specs.TreeRuns.{IsOnItsWay, IsSound, Memory}
+use Rattle.fs_runs.specs.JobCalls.{changes_calls_max}
+use Rattle.fs_runs.specs.TreeRuns.{IsJobOf, IsOnItsWay, IsSound, Memory, begun_with}
 use Rattle.fs_jobs.specs.TreeTests.{refused}
-use Rattle.fs_runs.proofs.StepsCounted.{Begins, ends-few, ends-of}
-use Rattle.fs_runs.proofs.Leads.{EndsIn, Leads, LeadsIn, at_once, here, leads_on, leads_to_end, on}
-use Rattle.fs_runs.proofs.Pieces.{EndsAfter, EndsWith, at_file, at_walk, with_disk}
+use Rattle.fs_runs.proofs.CallsCounted.{ends-of}
+use Rattle.fs_runs.proofs.StepsCounted.{ends-few}
+use Rattle.fs_runs.proofs.Leads.{EndsIn, Leads, at_once, here, leads_on, leads_to_end, on}
+use Rattle.fs_runs.proofs.Pieces.{EndsAfter, EndsWith, at_file, with_disk}
 use Rattle.fs_runs.proofs.JobsFacts.{Facts, Found, Pieces, bounded-changed, bounded-now, changed, count-small, facts, home-small}
 use Rattle.fs_runs.proofs.JobsFacts.{indirect-is, read_now, size-small}
 use Rattle.fs_runs.proofs.JobsRuns.{before, bounded-file, deciding, good-number, inside-word, short-size}
@@ -35,35 +35,42 @@ use Rattle.fs_runs.proofs.JobsChanges.{Comes, Unmarked, keeps-now, next-settles}
 
 -- ---- a plan that is carried out
 
--- it ends with an answer, and reads a size again not too often
-abbrev pub EndsSoon : ℕ → ℕ → Memory → TreeState → Memory → Type 0
-EndsSoon count answer after state m = (n : ℕ) × (rounds : ℕ) × (rounds ≤ rounds_max count) × EndsIn count answer after rounds n state m
+-- it ends with an answer, and its changes weigh no more than so much
+abbrev pub EndsSoon : ℕ → ℕ → ℕ → Memory → TreeState → Memory → Type 0
+EndsSoon most count answer after state m = (n : ℕ) × (weighs : ℕ) × (weighs ≤ most) × EndsIn count answer after weighs n state m
 
-pub ends-soon : {count answer : ℕ} {after : Memory} {state : TreeState} {m : Memory} (rounds : ℕ) → rounds ≤ rounds_max count →
-    EndsAfter count answer after rounds state m → EndsSoon count answer after state m
-ends-soon rounds few ends = (ends.0, rounds, few, ends.1)
+pub ends-soon : {most count answer : ℕ} {after : Memory} {state : TreeState} {m : Memory} (weighs : ℕ) → weighs ≤ most →
+    EndsAfter count answer after weighs state m → EndsSoon most count answer after state m
+ends-soon weighs few ends = (ends.0, weighs, few, ends.1)
 
-pub ends-at : {count answer : ℕ} {after : Memory} {state : TreeState} {m : Memory} → EndsWith count answer after state m →
-    EndsSoon count answer after state m
+pub ends-at : {most count answer : ℕ} {after : Memory} {state : TreeState} {m : Memory} → EndsWith count answer after state m →
+    EndsSoon most count answer after state m
 ends-at ends = ends-soon 0 (omega arith) ends
 
-pub soon-behind : {count answer : ℕ} {to : TreeState} {mid after : Memory} (state : TreeState) (m : Memory) → Leads count to mid state m →
-    EndsSoon count answer after to mid → EndsSoon count answer after state m
-soon-behind {count} state m run ends = ends-soon (0 + ends.1) (same ends.1 ends.2) (leads_to_end state m run ends.0 ends.3)
+pub ends-most : {most count answer : ℕ} {after : Memory} {state : TreeState} {m : Memory} (more : ℕ) → most ≤ more →
+    EndsSoon most count answer after state m → EndsSoon more count answer after state m
+ends-most {most} more le ends = (ends.0, ends.1, both ends.1 ends.2, ends.3)
   where
-    same : (n : ℕ) → n ≤ rounds_max count → 0 + n ≤ rounds_max count
+    both : (n : ℕ) → n ≤ most → n ≤ more
+    both n few = omega (arith, le, few)
+
+pub soon-behind : {most count answer : ℕ} {to : TreeState} {mid after : Memory} (state : TreeState) (m : Memory) → Leads count to mid state m →
+    EndsSoon most count answer after to mid → EndsSoon most count answer after state m
+soon-behind {most} state m run ends = ends-soon (0 + ends.1) (same ends.1 ends.2) (leads_to_end state m run ends.0 ends.3)
+  where
+    same : (n : ℕ) → n ≤ most → 0 + n ≤ most
     same n few = omega (arith, few)
 
--- From here the job ends as a plan says that is made over this memory.
-pub record Acts (count : ℕ) (plan : Planned) (m : Memory) (state : TreeState) (now : Memory) : Type 0 where
+-- From here the job ends as a plan says that is made over this memory; so much its changes weigh at most.
+pub record Acts (most count : ℕ) (plan : Planned) (m : Memory) (state : TreeState) (now : Memory) : Type 0 where
   pub after : Memory
-  pub ends : EndsSoon count plan.answer after state now
+  pub ends : EndsSoon most count plan.answer after state now
   pub disk : after.disk ≡ left_by plan.changes m.disk
   pub bytes : (k : ℕ) → k < length plan.bytes → after.page k ≡ slice_index plan.bytes k
   pub rest : (k : ℕ) → length plan.bytes ≤ k → after.page k ≡ m.page k
 
-pub acts-behind : {count : ℕ} {plan : Planned} {m mid : Memory} {to : TreeState} (state : TreeState) (now : Memory) → Leads count to mid state now →
-    Acts count plan m to mid → Acts count plan m state now
+pub acts-behind : {most count : ℕ} {plan : Planned} {m mid : Memory} {to : TreeState} (state : TreeState) (now : Memory) →
+    Leads count to mid state now → Acts most count plan m to mid → Acts most count plan m state now
 acts-behind state now run acts =
     record {
       after = acts.after;
@@ -74,26 +81,30 @@ acts-behind state now run acts =
     }
 
 -- nothing is stored
-pub acts-none : (count answer : ℕ) (m : Memory) (state : TreeState) → EndsWith count answer m state m → Acts count (planned [] answer) m state m
+pub acts-none : {most : ℕ} (count answer : ℕ) (m : Memory) (state : TreeState) → EndsWith count answer m state m →
+    Acts most count (planned [] answer) m state m
 unfolding left_by
 acts-none count answer m state ends =
     record { after = m; ends = ends-at ends; disk = refl; bytes = λ k below. absurd (omega (arith, below)); rest = λ k past. refl }
 
-pub acts-either : {count : ℕ} {m now : Memory} {state : TreeState} (b : Bool) (one two : Planned) → (b ≡ true → Acts count one m state now) →
-    (b ≡ false → Acts count two m state now) → Acts count (if b then one else two) m state now
+pub acts-either : {most count : ℕ} {m now : Memory} {state : TreeState} (b : Bool) (one two : Planned) →
+    (b ≡ true → Acts most count one m state now) → (b ≡ false → Acts most count two m state now) →
+    Acts most count (if b then one else two) m state now
 acts-either true one two so other = so refl
 acts-either false one two so other = other refl
 
-pub on-its-way : (count : ℕ) (is_open : List ℕ → Bool) (act : FileAct) (m : Memory) (j : Job) (p : WalkPlace) → IsSound count m → Begins p →
-    Acts count (plan_of is_open m.disk act) m (at_walk j 0 p) m →
-    IsOnItsWay count is_open act m (at_walk j 0 p) m
-on-its-way count is_open act m j p sound begins acts =
+pub on-its-way : (count : ℕ) (is_open : List ℕ → Bool) (act : FileAct) (m : Memory) (j : Job) → IsSound count m → IsJobOf is_open m act j →
+    Acts (changes_calls_max act count) count (plan_of is_open m.disk act) m (begun_with j) m →
+    IsOnItsWay count is_open act m (begun_with j) m
+on-its-way count is_open act m j sound is acts =
+    let soon = ends-few act is_open m j sound is acts.ends.2 acts.ends.3 in
     record {
       left = acts.ends.0;
-      soon = ends-few m j p sound begins acts.ends.2 acts.ends.3;
+      soon = soon.0;
       answer = (plan_of is_open m.disk act).answer;
       after = acts.after;
       ends = ends-of acts.ends.3;
+      few = soon.1;
       acted =
           record {
             answer_is = refl;
@@ -273,7 +284,7 @@ deciding-bounded {count} {home} {byte} j end indirect known short small =
 
 reads-size : (count : ℕ) (j : Job) (home end : ℕ) (m : Memory) (size indirect : ℕ) → Facts count home m.disk → is_bounded_job j ≡ true →
     end ≤ MAXFILESIZE → is_place size ≡ true → is_block indirect ≡ true →
-    LeadsIn count (deciding j count home end m.disk indirect) m 1 (before j count home end size indirect) m
+    Leads count (deciding j count home end m.disk indirect) m (before j count home end size indirect) m
 reads-size count j home end m size indirect known job short a b =
     on (before j count home end size indirect) (deciding j count home end m.disk indirect) m
     (bounded-file count j (changed home size indirect end) file.SizeNow (count-small count known.counted.2) job
@@ -297,7 +308,7 @@ pub settled-ends : (count : ℕ) (j : Job) (home end : ℕ) (m : Memory) (size i
     end ≤ MAXFILESIZE → is_place size ≡ true → is_block indirect ≡ true → size_of m.disk home ≡ end →
     (gives_back j ≡ true → Unmarked end (has_indirect m.disk home)) →
     settled (deciding j count home end m.disk indirect) j (read_now home end m.disk) ≡ Answer answer →
-    EndsAfter count answer m 1 (before j count home end size indirect) m
+    EndsWith count answer m (before j count home end size indirect) m
 settled-ends count j home end m size indirect answer known job short a b long clean goes =
     leads_to_end (before j count home end size indirect) m (reads-size count j home end m size indirect known job short a b) 1
     (at_once (deciding j count home end m.disk indirect) m
@@ -312,7 +323,7 @@ pub settled-goes : (count : ℕ) (j : Job) (home end : ℕ) (m : Memory) (size i
     end ≤ MAXFILESIZE → is_place size ≡ true → is_block indirect ≡ true → size_of m.disk home ≡ end →
     (gives_back j ≡ true → Unmarked end (has_indirect m.disk home)) →
     settled (deciding j count home end m.disk indirect) j (read_now home end m.disk) ≡ GoOn next →
-    LeadsIn count next m 1 (before j count home end size indirect) m
+    Leads count next m (before j count home end size indirect) m
 settled-goes count j home end m size indirect next known job short a b long clean goes =
     leads_on (before j count home end size indirect) m (reads-size count j home end m size indirect known job short a b)
     (on (deciding j count home end m.disk indirect) next m
@@ -322,17 +333,17 @@ settled-goes count j home end m size indirect next known job short a b long clea
     (decides count j home end m.disk indirect (GoOn next) known (settles count j home end m.disk indirect long clean ∙ goes)) here)
 
 -- after the changes
-pub acts-after : {count : ℕ} {j : Job} {home end : ℕ} (m : Memory) (changes : List Change) (answer : ℕ) (after : Memory) →
-    Comes count j home end (length changes) m (with_disk m (left_by changes m.disk)) → length changes < rounds_max count →
+pub acts-after : {count : ℕ} {j : Job} {home end most : ℕ} (m : Memory) (changes : List Change) (answer : ℕ) (after : Memory) →
+    Comes count j home end most m (with_disk m (left_by changes m.disk)) →
     (size indirect : ℕ) → is_place size ≡ true → is_block indirect ≡ true →
     ((size indirect : ℕ) → is_place size ≡ true → is_block indirect ≡ true →
-    EndsAfter count answer after 1 (before j count home end size indirect) (with_disk m (left_by changes m.disk))) →
-    EndsSoon count answer after (before j count home end size indirect) m
-acts-after {count} {j} {home} {end} m changes answer after comes few size indirect a b ends =
+    EndsWith count answer after (before j count home end size indirect) (with_disk m (left_by changes m.disk))) →
+    EndsSoon most count answer after (before j count home end size indirect) m
+acts-after {count} {j} {home} {end} {most} m changes answer after comes size indirect a b ends =
     let came = comes size indirect a b in
     let last = ends came.size came.indirect came.size_small came.indirect_small in
-    ends-soon (came.rounds + 1) (one-more came.rounds (length changes) came.few few)
+    ends-soon (came.weighs + 0) (same came.weighs came.few)
     (leads_to_end (before j count home end size indirect) m came.leads last.0 last.1)
   where
-    one-more : (n k : ℕ) → n ≤ k → k < rounds_max count → n + 1 ≤ rounds_max count
-    one-more n k a b = omega arith
+    same : (n : ℕ) → n ≤ most → n + 0 ≤ most
+    same n few = omega (arith, few)

@@ -22,7 +22,7 @@ use Rattle.fs_jobs.specs.TreeBounds.{is_bounded, is_bounded_changed, is_bounded_
 use Rattle.fs_runs.specs.TreePlans.{ask_at}
 use Rattle.fs_runs.specs.TreeRuns.{AreSmall, Memory, memory_after}
 use Rattle.fs_jobs.specs.TreeTests.{low_byte, refused}
-use Rattle.fs_runs.proofs.Leads.{LeadsIn, here, on}
+use Rattle.fs_runs.proofs.Leads.{Leads, LeadsIn, here, on}
 use Rattle.fs_runs.proofs.Pieces.{LiesOn, at_file}
 use Rattle.fs_runs.proofs.JobsFacts.{Facts, changed, count-small, indirect-is, read_now, bounded-changed, home-small, size-small}
 
@@ -63,8 +63,8 @@ step-small (ask.StoreByte at byte) m small = (upd-small m.disk at byte small.0, 
 step-small (ask.Request at) m small = small
 step-small (ask.HandBack at byte) m small = (small.0, upd-small m.page at byte small.1)
 
-pub leads-small : {count : ℕ} {to : TreeState} {after : Memory} {rounds : ℕ} (state : TreeState) (m : Memory) →
-    LeadsIn count to after rounds state m → AreSmall m →
+pub leads-small : {count : ℕ} {to : TreeState} {after : Memory} {weighs : ℕ} (state : TreeState) (m : Memory) →
+    LeadsIn count to after weighs state m → AreSmall m →
     AreSmall after
 leads-small state m here small = small
 leads-small state m (on s next n bounded inside goes run) small =
@@ -103,7 +103,7 @@ deciding j count home end byte indirect = at_file j count (changed home (size_of
 pub reads-again : (count : ℕ) (j : Job) (home end : ℕ) (m : Memory) (size indirect : ℕ) → Facts count home m.disk → is_bounded_job j ≡ true →
     end ≤ MAXFILESIZE → is_place size ≡ true → is_block indirect ≡ true → (next : TreeState) →
     next_change (deciding j count home end m.disk indirect) (read_now home end m.disk) ≡ GoOn next →
-    LeadsIn count next m 1 (before j count home end size indirect) m
+    Leads count next m (before j count home end size indirect) m
 reads-again count j home end m size indirect is job short a b next goes =
     let at = home-small count home is.lies is.counted.2 in
     let small = count-small count is.counted.2 in

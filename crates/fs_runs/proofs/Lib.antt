@@ -42,5 +42,11 @@ pub mod JobsWhole
 pub mod Ways
 pub mod OpensFound
 pub mod StepsCounted
-pub mod StepsLeft
-pub mod WalksLowered
+pub mod CallsLeft
+pub mod WalksKnown
+pub mod CallsWarm
+pub mod CallsFound
+pub mod WalksCalled
+pub mod CallsCounted
+pub mod NamesShort
+pub mod NamesKept

@@ -13,9 +13,10 @@ use Rattle.fs_jobs.specs.declared.place.Job.{Job}
 use Rattle.fs_jobs.specs.declared.place.Wanted.{Wanted}
 use Rattle.fs_changes.specs.ChangePlans.{place_for}
 use Rattle.fs_jobs.specs.TreeBounds.{is_block, is_bounded, is_bounded_changed, is_bounded_file, is_bounded_job, is_bounded_wanted, is_count, is_place}
+use Rattle.fs_runs.specs.JobCalls.{change_weight}
 use Rattle.fs_runs.specs.TreeRuns.{Memory}
 use Rattle.fs_jobs.specs.RecordFields.{direct_at, indirect_at}
-use Rattle.fs_runs.proofs.Leads.{Leads, here, on}
+use Rattle.fs_runs.proofs.Leads.{LeadsIn, here, on}
 use Rattle.fs_runs.proofs.Pieces.{LiesOn, NumbersAreFound, NumbersAreRead, at_file}
 
 -- ---- bounds
@@ -56,6 +57,10 @@ number-bounded i w lt wanted = let low : is_count i ≡ true = few i lt in rw (l
 
 -- ---- a number in the record
 
+-- nothing else begins on the way
+alone : (n : ℕ) → n + 0 ≡ n
+alone n = omega arith
+
 direct-inside : (count home i : ℕ) → LiesOn count home → i < NDIRECT →
     (direct_at home i + 4 ≤ BLKSIZE * count) × (direct_at home i % 4 ≡ 0)
 direct-inside count home i lies lt = inside count home i lies.even lies.inside lt
@@ -67,13 +72,16 @@ direct-inside count home i lies lt = inside count home i lies.even lies.inside l
 direct-read : (count : ℕ) (j : Job) (c : Changed) (i : ℕ) (w : Wanted) (m : Memory) → count ≤ 16384 → LiesOn count c.home →
     is_bounded_job j ≡ true → is_bounded_changed c ≡ true → is_bounded_wanted w ≡ true → i < 1034 → nat_lt i NDIRECT ≡ true → i < NDIRECT →
     is_data_block count (direct_of m.disk c.home i) ≡ true →
-    Leads count (at_file j count c (place_for (direct_of m.disk c.home i) w)) m (at_file j count c (file.Number i w)) m
+    LeadsIn count (at_file j count c (place_for (direct_of m.disk c.home i) w)) m (change_weight count c (file.Number i w))
+    (at_file j count c (file.Number i w)) m
 direct-read count j c i w m most lies job changed wanted lt test low is_one =
-    on (at_file j count c (file.Number i w)) (at_file j count c (place_for (direct_of m.disk c.home i) w)) m
+    subst (λ (k : ℕ). LeadsIn count (at_file j count c (place_for (direct_of m.disk c.home i) w)) m k (at_file j count c (file.Number i w)) m)
+    (alone (change_weight count c (file.Number i w)))
+    (on (at_file j count c (file.Number i w)) (at_file j count c (place_for (direct_of m.disk c.home i) w)) m
     (file-bounded j count c (file.Number i w) most job changed (number-bounded i w lt wanted))
     (rw test (direct-inside count c.home i lies low))
     (rw (test, is_one) refl)
-    here
+    here)
 
 -- ---- a number in the indirect block
 
@@ -92,12 +100,15 @@ indirect-read : (count : ℕ) (j : Job) (c : Changed) (i block : ℕ) (w : Wante
     is_bounded_job j ≡ true → is_bounded_changed c ≡ true → is_bounded_wanted w ≡ true → i < 1034 → nat_lt i NDIRECT ≡ false →
     indirect_of m.disk c.home ≡ block → is_data_block count block ≡ true →
     is_data_block count (number_in_indirect m.disk c.home (i - NDIRECT)) ≡ true →
-    Leads count (at_file j count (record c { indirect = block }) (place_for (number_in_indirect m.disk c.home (i - NDIRECT)) w)) m
-    (at_file j count c (file.Number i w)) m
+    LeadsIn count (at_file j count (record c { indirect = block }) (place_for (number_in_indirect m.disk c.home (i - NDIRECT)) w)) m
+    (change_weight count c (file.Number i w)) (at_file j count c (file.Number i w)) m
 indirect-read count j c i block w m most lies job changed wanted lt test is indirect is_one =
     let below = data-below count block indirect in
     let with_it = indirect-bounded c block changed (block-bounded count block most below) in
-    on (at_file j count c (file.Number i w)) (at_file j count (record c { indirect = block }) (file.NumberIndirect i w)) m
+    subst (λ (k : ℕ). LeadsIn count (at_file j count (record c { indirect = block }) (place_for (number_in_indirect m.disk c.home (i - NDIRECT)) w)) m k
+    (at_file j count c (file.Number i w)) m)
+    (alone (change_weight count c (file.Number i w)))
+    (on (at_file j count c (file.Number i w)) (at_file j count (record c { indirect = block }) (file.NumberIndirect i w)) m
     (file-bounded j count c (file.Number i w) most job changed (number-bounded i w lt wanted))
     (rw test (indirect-inside count c.home lies))
     (rw (test, is, indirect) refl)
@@ -106,7 +117,7 @@ indirect-read count j c i block w m most lies job changed wanted lt test is indi
     (file-bounded j count (record c { indirect = block }) (file.NumberIndirect i w) most job with_it (number-bounded i w lt wanted))
     (rw test (entry-inside count block i below lt))
     (rw (test, ← is, is_one) refl)
-    here)
+    here))
 
 -- ---- the pieces
 
@@ -121,8 +132,8 @@ pub numbers_are_found : NumbersAreFound
 numbers_are_found count j c i w m counted small lies job changed wanted lt high is_one indirect =
     let test = not-below i high in
     let is = number-indirect m.disk c.home i test in
-    subst (λ (block : ℕ). Leads count (at_file j count (record c { indirect = indirect_of m.disk c.home }) (place_for block w)) m
-    (at_file j count c (file.Number i w)) m)
+    subst (λ (block : ℕ). LeadsIn count (at_file j count (record c { indirect = indirect_of m.disk c.home }) (place_for block w)) m
+    (change_weight count c (file.Number i w)) (at_file j count c (file.Number i w)) m)
     (sym is)
     (indirect-read count j c i (indirect_of m.disk c.home) w m counted.2 lies job changed wanted lt test refl indirect
     (subst (λ (block : ℕ). is_data_block count block ≡ true) is is_one))
@@ -144,15 +155,17 @@ numbers_are_read count j c i w m counted small lies job changed wanted lt is_one
     indirect-is i a b (inr low) high = absurd (omega (arith, low, high))
 
     by_test : (b : Bool) → nat_lt i NDIRECT ≡ b →
-        Leads count (at_file j count c (place_for (block_number_at m.disk c.home i) w)) m (at_file j count c (file.Number i w)) m
+        LeadsIn count (at_file j count c (place_for (block_number_at m.disk c.home i) w)) m (change_weight count c (file.Number i w))
+        (at_file j count c (file.Number i w)) m
     by_test true test =
         let is = number-direct m.disk c.home i test in
-        subst (λ (block : ℕ). Leads count (at_file j count c (place_for block w)) m (at_file j count c (file.Number i w)) m) (sym is)
+        subst (λ (block : ℕ). LeadsIn count (at_file j count c (place_for block w)) m (change_weight count c (file.Number i w))
+        (at_file j count c (file.Number i w)) m) (sym is)
         (direct-read count j c i w m counted.2 lies job changed wanted lt test (low-of i test)
         (subst (λ (block : ℕ). is_data_block count block ≡ true) is is_one))
     by_test false test =
         let high = high-of i test in
         let same = indirect-is i c.indirect (indirect_of m.disk c.home) known high in
-        subst (λ (block : ℕ). Leads count (at_file j count (record c { indirect = block }) (place_for (block_number_at m.disk c.home i) w)) m
-        (at_file j count c (file.Number i w)) m)
+        subst (λ (block : ℕ). LeadsIn count (at_file j count (record c { indirect = block }) (place_for (block_number_at m.disk c.home i) w)) m
+        (change_weight count c (file.Number i w)) (at_file j count c (file.Number i w)) m)
         (sym same) (numbers_are_found count j c i w m counted small lies job changed wanted lt high is_one (indirect high))

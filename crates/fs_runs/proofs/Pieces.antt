@@ -29,9 +29,10 @@ use Rattle.fs_jobs.specs.declared.place.Wanted.TheVariants as wanted
 use Rattle.fs_jobs.specs.declared.asks.TreeNext.TheVariants.{GoOn}
 use Rattle.fs_changes.specs.ChangePlans.{fill_end, more_blocks, place_for}
 use Rattle.fs_jobs.specs.TreeBounds.{is_bounded, is_bounded_changed, is_bounded_job, is_bounded_wanted}
+use Rattle.fs_runs.specs.JobCalls.{change_weight, take_calls}
 use Rattle.fs_runs.specs.TreeRuns.{AreSmall, HasPath, IsSound, Memory, bytes_given}
 use Rattle.fs_walks.specs.WalkPlans.{begun, changed_to, creates, size_wanted, slot_taken, wants_new}
-use Rattle.fs_runs.proofs.Leads.{EndsIn, Leads}
+use Rattle.fs_runs.proofs.Leads.{EndsIn, Leads, LeadsIn}
 
 -- ---- words
 
@@ -44,11 +45,11 @@ at_file j count changed place = record { job = j; count = count; place = Changin
 abbrev pub with_disk : Memory → (ℕ → ℕ) → Memory
 with_disk m disk = record m { disk = disk }
 
--- it ends with an answer, and reads the size again so often
+-- it ends with an answer, and so much the changes weigh that begin on the way
 abbrev pub EndsAfter : ℕ → ℕ → Memory → ℕ → TreeState → Memory → Type 0
-EndsAfter count answer after rounds state m = (n : ℕ) × EndsIn count answer after rounds n state m
+EndsAfter count answer after weighs state m = (n : ℕ) × EndsIn count answer after weighs n state m
 
--- or never
+-- or none begins
 abbrev pub EndsWith : ℕ → ℕ → Memory → TreeState → Memory → Type 0
 EndsWith count answer after state m = EndsAfter count answer after 0 state m
 
@@ -150,21 +151,22 @@ WalksMiss = (count : ℕ) (j : Job) (m : Memory) (path name : List ℕ) (directo
 
 -- ---- numbers of blocks, and the bitmap
 
--- The number of a block is read where the record says so, and so is that of the indirect block.
+-- The number of a block is read where the record says so, and so is that of the indirect block. A change may begin with it.
 abbrev pub NumbersAreRead : Type 0
 NumbersAreRead = (count : ℕ) (j : Job) (c : Changed) (i : ℕ) (w : Wanted) (m : Memory) → IsCounted count m.disk → AreSmall m → LiesOn count c.home →
     is_bounded_job j ≡ true → is_bounded_changed c ≡ true → is_bounded_wanted w ≡ true → i < 1034 →
     is_data_block count (block_number_at m.disk c.home i) ≡ true → (NDIRECT ≤ i → is_data_block count (indirect_of m.disk c.home) ≡ true) →
     (c.indirect ≡ indirect_of m.disk c.home) ⊎ (i < NDIRECT) →
-    Leads count (at_file j count c (place_for (block_number_at m.disk c.home i) w)) m (at_file j count c (file.Number i w)) m
+    LeadsIn count (at_file j count c (place_for (block_number_at m.disk c.home i) w)) m (change_weight count c (file.Number i w))
+    (at_file j count c (file.Number i w)) m
 
 -- the same where the number of the indirect block was not read before
 abbrev pub NumbersAreFound : Type 0
 NumbersAreFound = (count : ℕ) (j : Job) (c : Changed) (i : ℕ) (w : Wanted) (m : Memory) → IsCounted count m.disk → AreSmall m → LiesOn count c.home →
     is_bounded_job j ≡ true → is_bounded_changed c ≡ true → is_bounded_wanted w ≡ true → i < 1034 → NDIRECT ≤ i →
     is_data_block count (block_number_at m.disk c.home i) ≡ true → is_data_block count (indirect_of m.disk c.home) ≡ true →
-    Leads count (at_file j count (record c { indirect = indirect_of m.disk c.home }) (place_for (block_number_at m.disk c.home i) w)) m
-    (at_file j count c (file.Number i w)) m
+    LeadsIn count (at_file j count (record c { indirect = indirect_of m.disk c.home }) (place_for (block_number_at m.disk c.home i) w)) m
+    (change_weight count c (file.Number i w)) (at_file j count c (file.Number i w)) m
 
 abbrev pub FreeIsCounted : Type 0
 FreeIsCounted = (count : ℕ) (j : Job) (c : Changed) (m : Memory) → IsCounted count m.disk → AreSmall m → is_bounded_job j ≡ true →
@@ -175,9 +177,9 @@ FreeIsCounted = (count : ℕ) (j : Job) (c : Changed) (m : Memory) → IsCounted
 abbrev pub LowestIsFound : Type 0
 LowestIsFound = (count : ℕ) (j : Job) (c : Changed) (x : Change) (m : Memory) (block : ℕ) → IsCounted count m.disk →
     AreSmall m → is_bounded_job j ≡ true → is_bounded_changed c ≡ true → lowest_free m.disk ≡ Some block →
-    Leads count (at_file j count c (file.Mark x block)) m (at_file j count c (file.Lowest x 0)) m
+    LeadsIn count (at_file j count c (file.Mark x block)) m (take_calls count) (at_file j count c (file.Lowest x 0)) m
 
--- ---- changes, each from where its first put or its block is wanted to where the size is read again
+-- ---- changes, each from where its first put or its block is wanted to where the size is read again, and what it weighs
 
 -- what all of them have
 pub record Changes (count : ℕ) (j : Job) (c : Changed) (m : Memory) : Type 0 where
@@ -197,12 +199,14 @@ pub record Changes (count : ℕ) (j : Job) (c : Changed) (m : Memory) : Type 0 w
 abbrev pub BlocksAreTaken : Type 0
 BlocksAreTaken = (count : ℕ) (j : Job) (c : Changed) (m : Memory) (block : ℕ) → Changes count j c m → lowest_free m.disk ≡ Some block →
     (blocks_of c.size < NDIRECT) ⊎ (is_data_block count c.indirect ≡ true) → c.size % BLKSIZE ≡ 0 → blocks_of c.size < 1034 →
-    Leads count (at_file j count c file.SizeNow) (with_disk m (written (take_block c.home c.end m.disk) m.disk)) (at_file j count c (file.Lowest change.TakeBlock 0)) m
+    LeadsIn count (at_file j count c file.SizeNow) (with_disk m (written (take_block c.home c.end m.disk) m.disk)) (take_calls count)
+    (at_file j count c (file.Lowest change.TakeBlock 0)) m
 
 abbrev pub IndirectsAreTaken : Type 0
 IndirectsAreTaken = (count : ℕ) (j : Job) (c : Changed) (m : Memory) (block : ℕ) → Changes count j c m → lowest_free m.disk ≡ Some block →
     NDIRECT ≤ blocks_of c.size → c.indirect ≡ 0 →
-    Leads count (at_file j count c file.SizeNow) (with_disk m (written (take_indirect c.home m.disk) m.disk)) (at_file j count c (file.Lowest change.TakeIndirect 0)) m
+    LeadsIn count (at_file j count c file.SizeNow) (with_disk m (written (take_indirect c.home m.disk) m.disk)) (take_calls count)
+    (at_file j count c (file.Lowest change.TakeIndirect 0)) m
 
 -- the numbers within the size are those of data blocks
 abbrev pub HasBlocks : ℕ → Changed → (ℕ → ℕ) → Type 0
@@ -218,24 +222,24 @@ LiesApart c byte =
 
 abbrev pub BlocksAreGiven : Type 0
 BlocksAreGiven = (count : ℕ) (j : Job) (c : Changed) (m : Memory) → Changes count j c m → HasBlocks count c m.disk → LiesApart c m.disk → 0 < c.size →
-    Leads count (at_file j count c file.SizeNow) (with_disk m (written (give_block c.home m.disk) m.disk))
+    LeadsIn count (at_file j count c file.SizeNow) (with_disk m (written (give_block c.home m.disk) m.disk)) 48
     (at_file j count c (file.Number (blocks_of c.size - 1) wanted.Giving)) m
 
 abbrev pub IndirectsAreGiven : Type 0
 IndirectsAreGiven = (count : ℕ) (j : Job) (c : Changed) (m : Memory) → Changes count j c m → is_data_block count c.indirect ≡ true →
-    Leads count (at_file j count c file.SizeNow) (with_disk m (written (give_indirect c.home m.disk) m.disk))
+    LeadsIn count (at_file j count c file.SizeNow) (with_disk m (written (give_indirect c.home m.disk) m.disk)) 30
     (at_file j count c (file.PutIndirect change.GiveIndirect c.indirect)) m
 
 abbrev pub SizesAreCut : Type 0
 SizesAreCut = (count : ℕ) (j : Job) (c : Changed) (m : Memory) → Changes count j c m → c.end < c.size →
-    Leads count (at_file j count c file.SizeNow) (with_disk m (written (cut c.home c.end m.disk) m.disk)) (at_file j count c (file.PutSize c.end)) m
+    LeadsIn count (at_file j count c file.SizeNow) (with_disk m (written (cut c.home c.end m.disk) m.disk)) 18 (at_file j count c (file.PutSize c.end)) m
 
 -- zeros up to the end, or to the end of the last block
 abbrev pub EndsAreFilled : Type 0
 EndsAreFilled = (count : ℕ) (j : Job) (c : Changed) (m : Memory) → Changes count j c m → HasBlocks count c m.disk → LiesApart c m.disk →
     let end = fill_end c in
     c.size < end →
-    Leads count (at_file j count c file.SizeNow) (with_disk m (written (fill c.home end m.disk) m.disk))
+    LeadsIn count (at_file j count c file.SizeNow) (with_disk m (written (fill c.home end m.disk) m.disk)) (6 * (end - c.size) + 36)
     (at_file j count c (file.Number (c.size / BLKSIZE) (wanted.Filling c.size))) m
 
 -- ---- the bytes of a file, and a new record

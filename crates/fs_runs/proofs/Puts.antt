@@ -20,7 +20,7 @@ use Rattle.fs_jobs.specs.declared.place.TreeState.{TreeState}
 use Rattle.fs_jobs.specs.declared.asks.TreeNext.TheVariants.{GoOn}
 use Rattle.fs_changes.specs.ChangePlans.{behind_zeros, change_ask, change_next, marked_byte, number_at, takes}
 use Rattle.fs_jobs.specs.TreeBounds.{is_block, is_bounded, is_bounded_changed, is_bounded_file, is_bounded_job, is_count, is_place}
-use Rattle.fs_runs.specs.JobSteps.{reads_at}
+use Rattle.fs_runs.specs.JobCalls.{change_weight}
 use Rattle.fs_runs.specs.TreeRuns.{IsInside, Memory, memory_after, reply_of}
 use Rattle.fs_jobs.specs.TreeTests.{low_byte}
 use Rattle.fs_jobs.specs.RecordFields.{direct_at, indirect_at, size_at}
@@ -56,11 +56,11 @@ bounded count j c p few job changed here =
     (both (is_bounded_changed c) (is_bounded_file p) changed here)
 
 -- a step of a record whose size and indirect block stay as they were read
-pub step : {count : ℕ} {j : Job} {c : Changed} {m0 : Memory} {to : TreeState} {after : Memory} → Changes count j c m0 → (p q : FilePlace)
+pub step : {count : ℕ} {j : Job} {c : Changed} {m0 : Memory} {to : TreeState} {after : Memory} {weighs : ℕ} → Changes count j c m0 → (p q : FilePlace)
     (m : Memory) → is_bounded_file p ≡ true → IsInside count (change_ask j c p) →
     change_next (at_file j count c p) c p (reply_of (change_ask j c p) m) ≡ GoOn (at_file j count c q) →
-    Leads count to after (at_file j count c q) (memory_after (change_ask j c p) m) →
-    LeadsIn count to after (reads_at p + 0) (at_file j count c p) m
+    LeadsIn count to after weighs (at_file j count c q) (memory_after (change_ask j c p) m) →
+    LeadsIn count to after (change_weight count c p + weighs) (at_file j count c p) m
 step {count} {j} {c} changes p q m small inside goes rest =
     on (at_file j count c p) (at_file j count c q) m
     (bounded count j c p changes.counted.2 changes.job changes.bounded small) inside goes rest

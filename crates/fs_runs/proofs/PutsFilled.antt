@@ -24,7 +24,7 @@ use Rattle.fs_changes.specs.ChangePlans.{change_next, fill_end}
 use Rattle.fs_jobs.specs.TreeBounds.{is_block, is_place}
 use Rattle.fs_runs.specs.TreeRuns.{Memory}
 use Rattle.fs_jobs.specs.RecordFields.{size_at}
-use Rattle.fs_runs.proofs.Leads.{Leads, here, leads_on}
+use Rattle.fs_runs.proofs.Leads.{Leads, LeadsIn, here, leads_on}
 use Rattle.fs_runs.proofs.Pieces.{Changes, EndsAreFilled, IsRead, NumbersAreRead, at_file, with_disk}
 use Rattle.fs_runs.proofs.Puts.{block-small, both, data-parts, less, place-small, size-inside, step}
 
@@ -40,18 +40,18 @@ filled-none : (block size : ℕ) (byte : ℕ → ℕ) → filled block size byte
 unfolding values_below written
 filled-none block size byte = refl
 
--- one of them
+-- one of them; what comes behind the last, where the size is put, weighs 18
 fill-turn : {count : ℕ} {j : Job} {c : Changed} {m0 : Memory} {to : TreeState} {after : Memory} → Changes count j c m0 → (block size : ℕ) (m : Memory)
     (byte : ℕ → ℕ) → block < count → (n : ℕ) → size + n < 2 ^ 28 → (q : FilePlace) →
     change_next (at_file j count c (file.Filling block (size + n))) c (file.Filling block (size + n)) 0 ≡ GoOn (at_file j count c q) →
-    Leads count to after (at_file j count c q) (with_disk m (filled block size byte (suc n))) →
-    Leads count to after (at_file j count c (file.Filling block (size + n))) (with_disk m (filled block size byte n))
+    LeadsIn count to after 18 (at_file j count c q) (with_disk m (filled block size byte (suc n))) →
+    LeadsIn count to after 18 (at_file j count c (file.Filling block (size + n))) (with_disk m (filled block size byte n))
 fill-turn {count} {j} {c} {m0} {to} {after} changes block size m byte within n small q goes rest =
     let few = changes.counted.2 in
     let is = both (is_block block) (is_place (size + n)) (block-small block (omega (arith, few, within))) (place-small (size + n) small) in
     let inside : BLKSIZE * block + (size + n) % BLKSIZE < BLKSIZE * count = omega (arith, within) in
     step changes (file.Filling block (size + n)) q (with_disk m (filled block size byte n)) is inside goes
-    (subst (λ (d : ℕ → ℕ). Leads count to after (at_file j count c q) (with_disk m d)) (written-more n (zero_byte block size) byte) rest)
+    (subst (λ (d : ℕ → ℕ). LeadsIn count to after 18 (at_file j count c q) (with_disk m d)) (written-more n (zero_byte block size) byte) rest)
 
 fill-goes : (count : ℕ) (j : Job) (c : Changed) (block at : ℕ) (test : Bool) → nat_le (fill_end c) (at + 1) ≡ test →
     change_next (at_file j count c (file.Filling block at)) c (file.Filling block at) 0
@@ -68,29 +68,29 @@ not_at_most a b lt = grind (arith, nat_tests)
 -- so many that are left
 fills-on : {count : ℕ} {j : Job} {c : Changed} {m0 : Memory} {to : TreeState} {after : Memory} → Changes count j c m0 → (block size : ℕ) (m : Memory)
     (byte : ℕ → ℕ) → block < count → fill_end c < 2 ^ 28 → (all k n : ℕ) → n + suc k ≡ all → size + all ≡ fill_end c →
-    Leads count to after (at_file j count c (file.PutSize (fill_end c))) (with_disk m (filled block size byte all)) →
-    Leads count to after (at_file j count c (file.Filling block (size + n))) (with_disk m (filled block size byte n))
+    LeadsIn count to after 18 (at_file j count c (file.PutSize (fill_end c))) (with_disk m (filled block size byte all)) →
+    LeadsIn count to after 18 (at_file j count c (file.Filling block (size + n))) (with_disk m (filled block size byte n))
 fills-on {count} {j} {c} {m0} {to} {after} changes block size m byte within small all zero n counted ends rest =
     let last : all ≡ suc n = omega (arith, counted) in
     fill-turn changes block size m byte within n (omega (arith, counted, ends, small)) (file.PutSize (fill_end c))
     (fill-goes count j c block (size + n) true (at_most (fill_end c) (size + n + 1) (omega (arith, counted, ends))))
-    (subst (λ (i : ℕ). Leads count to after (at_file j count c (file.PutSize (fill_end c))) (with_disk m (filled block size byte i))) last rest)
+    (subst (λ (i : ℕ). LeadsIn count to after 18 (at_file j count c (file.PutSize (fill_end c))) (with_disk m (filled block size byte i))) last rest)
 fills-on {count} {j} {c} {m0} {to} {after} changes block size m byte within small all (suc k) n counted ends rest =
     let next : size + suc n ≡ size + n + 1 = omega arith in
     fill-turn changes block size m byte within n (omega (arith, counted, ends, small)) (file.Filling block (size + n + 1))
     (fill-goes count j c block (size + n) false (not_at_most (fill_end c) (size + n + 1) (omega (arith, counted, ends))))
-    (subst (λ (i : ℕ). Leads count to after (at_file j count c (file.Filling block i)) (with_disk m (filled block size byte (suc n)))) next
+    (subst (λ (i : ℕ). LeadsIn count to after 18 (at_file j count c (file.Filling block i)) (with_disk m (filled block size byte (suc n)))) next
     (fills-on changes block size m byte within small all k (suc n) (omega (arith, counted)) ends rest))
 
 fills : {count : ℕ} {j : Job} {c : Changed} {m0 : Memory} {to : TreeState} {after : Memory} → Changes count j c m0 → (block size : ℕ) (m : Memory) →
     block < count → fill_end c < 2 ^ 28 → size < fill_end c →
-    Leads count to after (at_file j count c (file.PutSize (fill_end c))) (with_disk m (filled block size m.disk (fill_end c - size))) →
-    Leads count to after (at_file j count c (file.Filling block size)) m
+    LeadsIn count to after 18 (at_file j count c (file.PutSize (fill_end c))) (with_disk m (filled block size m.disk (fill_end c - size))) →
+    LeadsIn count to after 18 (at_file j count c (file.Filling block size)) m
 fills {count} {j} {c} {m0} {to} {after} changes block size m within small more rest =
     let all : ℕ = fill_end c - size in
     let first : size + 0 ≡ size = omega arith in
-    subst (λ (i : ℕ). Leads count to after (at_file j count c (file.Filling block i)) m) first
-    (subst (λ (d : ℕ → ℕ). Leads count to after (at_file j count c (file.Filling block (size + 0))) (with_disk m d)) (filled-none block size m.disk)
+    subst (λ (i : ℕ). LeadsIn count to after 18 (at_file j count c (file.Filling block i)) m) first
+    (subst (λ (d : ℕ → ℕ). LeadsIn count to after 18 (at_file j count c (file.Filling block (size + 0))) (with_disk m d)) (filled-none block size m.disk)
     (fills-on changes block size m m.disk within small all (all - 1) 0 (omega (arith, more)) (omega (arith, more)) rest))
 
 -- ---- the puts of the change
@@ -159,7 +159,10 @@ ends_are_filled numbers count j c m changes blocks apart more =
     let small : end < 2 ^ 28 = end-small c.end (BLKSIZE * blocks_of c.size) changes.end_most in
     let size_small : is_place c.size ≡ true = place-small c.size (omega (arith, more, small)) in
     let now : ℕ → ℕ = filled block c.size m.disk (end - c.size) in
-    leads_on (at_file j count c (file.Number i (wanted.Filling c.size))) m
+    subst (λ (k : ℕ). LeadsIn count (at_file j count c file.SizeNow) (with_disk m (written (fill c.home end m.disk) m.disk)) k
+    (at_file j count c (file.Number i (wanted.Filling c.size))) m)
+    (both_weights (6 * (end - c.size)))
+    (leads_on (at_file j count c (file.Number i (wanted.Filling c.size))) m
     (numbers count j c i (wanted.Filling c.size) m changes.counted changes.small changes.lies changes.job changes.bounded size_small place.1 sound
     (λ far. subst (λ (k : ℕ). is_data_block count k ≡ true) (sym changes.is_read.indirect) (blocks.1 (omega (arith, far, inside))))
     (inl (sym changes.is_read.indirect)))
@@ -167,4 +170,7 @@ ends_are_filled numbers count j c m changes blocks apart more =
     (step changes (file.PutSize end) file.SizeNow (with_disk m now) (place-small end small) (size-inside count c.home changes.lies) refl
     (subst (λ (d : ℕ → ℕ). Leads count (at_file j count c file.SizeNow) (with_disk m d) (at_file j count c file.SizeNow)
     (with_disk m (stored (put_word (size_at c.home) end) now)))
-    (sym (fill-disk m.disk c changes.is_read more)) here)))
+    (sym (fill-disk m.disk c changes.is_read more)) here))))
+  where
+    both_weights : (n : ℕ) → n + 18 + 18 ≡ n + 36
+    both_weights n = omega arith

@@ -19,13 +19,18 @@ use Rattle.fs_jobs.specs.declared.place.TreeState.{TreeState}
 use Rattle.fs_jobs.specs.declared.asks.TreeNext.TheVariants.{GoOn}
 use Rattle.fs_changes.specs.ChangePlans.{behind_zeros, change_next, marked_byte, number_at}
 use Rattle.fs_jobs.specs.TreeBounds.{is_block}
+use Rattle.fs_runs.specs.JobCalls.{take_calls}
 use Rattle.fs_runs.specs.TreeRuns.{Memory}
 use Rattle.fs_jobs.specs.RecordFields.{indirect_at, size_at}
-use Rattle.fs_runs.proofs.Leads.{Leads, here, leads_on}
+use Rattle.fs_runs.proofs.Leads.{Leads, LeadsIn, here, leads_on}
 use Rattle.fs_runs.proofs.Pieces.{BlocksAreTaken, Changes, IndirectsAreTaken, IsRead, LowestIsFound, at_file, with_disk}
 use Rattle.fs_runs.proofs.Puts.{block-small, data-parts, indirect-inside, marked, not_less, number-inside, number-same, size-inside, step, zeros}
 
 -- ---- the block
+
+-- nothing else begins on the way
+alone : (n : ℕ) → n + 0 ≡ n
+alone n = omega arith
 
 -- the disk with its bit cleared and its bytes zeros
 abbrev taken : (ℕ → ℕ) → ℕ → ℕ → ℕ
@@ -88,7 +93,10 @@ blocks_are_taken lowest count j c m block changes free has whole few =
     let is : is_block block ≡ true = block-small block (omega (arith, most, within)) in
     let now : ℕ → ℕ = taken m.disk block in
     let numbered : ℕ → ℕ = stored (put_word (number_at c (blocks_of c.size)) block) now in
-    leads_on (at_file j count c (file.Lowest change.TakeBlock 0)) m
+    subst (λ (k : ℕ). LeadsIn count (at_file j count c file.SizeNow) (with_disk m (written (take_block c.home c.end m.disk) m.disk)) k
+    (at_file j count c (file.Lowest change.TakeBlock 0)) m)
+    (alone (take_calls count))
+    (leads_on (at_file j count c (file.Lowest change.TakeBlock 0)) m
     (lowest count j c change.TakeBlock m block changes.counted changes.small changes.job changes.bounded free)
     (taken-run changes change.TakeBlock block m within (changes.small.0 (mark_place block)) (λ byte. refl) refl
     (step changes (file.PutNumber change.TakeBlock block) file.PutMore (with_disk m now) is
@@ -96,7 +104,7 @@ blocks_are_taken lowest count j c m block changes free has whole few =
     (step changes file.PutMore file.SizeNow (with_disk m numbered) refl (size-inside count c.home changes.lies) refl
     (subst (λ (d : ℕ → ℕ). Leads count (at_file j count c file.SizeNow) (with_disk m d) (at_file j count c file.SizeNow)
     (with_disk m (stored (put_word (size_at c.home) (min c.end (BLKSIZE * (blocks_of c.size + 1)))) numbered)))
-    (sym (taken-block m.disk c block changes.is_read free)) here))))
+    (sym (taken-block m.disk c block changes.is_read free)) here)))))
 
 -- ---- an indirect block
 
@@ -125,11 +133,14 @@ indirects_are_taken lowest count j c m block changes free many none =
     let most = changes.counted.2 in
     let is : is_block block ≡ true = block-small block (omega (arith, most, within)) in
     let now : ℕ → ℕ = taken m.disk block in
-    leads_on (at_file j count c (file.Lowest change.TakeIndirect 0)) m
+    subst (λ (k : ℕ). LeadsIn count (at_file j count c file.SizeNow) (with_disk m (written (take_indirect c.home m.disk) m.disk)) k
+    (at_file j count c (file.Lowest change.TakeIndirect 0)) m)
+    (alone (take_calls count))
+    (leads_on (at_file j count c (file.Lowest change.TakeIndirect 0)) m
     (lowest count j c change.TakeIndirect m block changes.counted changes.small changes.job changes.bounded free)
     (taken-run changes change.TakeIndirect block m within (changes.small.0 (mark_place block)) (λ byte. refl) refl
     (step changes (file.PutIndirect change.TakeIndirect block) file.SizeNow (with_disk m now) is
     (indirect-inside count c.home changes.lies) refl
     (subst (λ (d : ℕ → ℕ). Leads count (at_file j count c file.SizeNow) (with_disk m d) (at_file j count c file.SizeNow)
     (with_disk m (stored (put_word (indirect_at c.home) block) now)))
-    (sym (taken-indirect m.disk c block changes.is_read free many none)) here)))
+    (sym (taken-indirect m.disk c block changes.is_read free many none)) here))))

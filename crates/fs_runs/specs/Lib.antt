@@ -1,3 +1,3 @@
-pub mod JobSteps
+pub mod JobCalls
 pub mod TreePlans
 pub mod TreeRuns

@@ -1,6 +1,7 @@
 -- A job as it runs by itself: what it reads and stores at each step, and that its run ends with an answer, over a disk and a page of
 -- the request. No kernel and no cache are in this.
-use Rattle.std.specs.Prelude.{◌≡◌, ◌<◌, ◌≤◌, ℕ, ◌+◌, ◌*◌, ◌%◌, ◌^◌, suc, true, false, List, length, slice_index, ◌==◌, Bool, Some, if◌then◌else◌}
+use Rattle.std.specs.Prelude.{◌≡◌, ◌<◌, ◌≤◌, ℕ, ◌+◌, ◌*◌, ◌%◌, ◌^◌, suc, true, false, List, length, slice_index, ◌==◌, Bool}
+use Rattle.std.specs.Prelude.{Option, Some, None, if◌then◌else◌}
 use Rattle.std.specs.List.{list_any}
 use Rattle.jos_base.specs.declared.numbers.TheConstants.{E_BAD_PATH, E_INVAL, E_NOT_FOUND, PGSIZE}
 use Rattle.jos_base.specs.Below.{values_below}
@@ -21,7 +22,7 @@ use Rattle.fs_jobs.specs.declared.asks.TreeAsk.{TreeAsk}
 use Rattle.fs_jobs.specs.declared.asks.TreeAsk.TheVariants as ask
 use Rattle.fs_jobs.specs.declared.asks.TreeNext.TheVariants.{Answer, GoOn}
 use Rattle.fs_jobs.specs.TreeBounds.{is_bounded}
-use Rattle.fs_runs.specs.JobSteps.{ROUND_STEPS_MAX, job_steps_max, reads_size, steps_left}
+use Rattle.fs_runs.specs.JobCalls.{act_calls_max, ask_calls, calls_for, calls_left, find_calls_max, found_behind, is_changing, job_steps_max, weight}
 use Rattle.fs_runs.specs.TreePlans.{ask_at, next_at}
 use Rattle.fs_jobs.specs.TreeTests.{low_byte}
 
@@ -65,6 +66,16 @@ pub data Ends (count : ℕ) (answer : ℕ) (after : Memory) : ℕ → TreeState 
       memory_after (ask_at state) m ≡ after → Ends count answer after 1 state m
   later : (n : ℕ) (state next : TreeState) (m : Memory) → is_bounded state ≡ true → IsInside count (ask_at state) → next_at state (reply_of (ask_at state) m) ≡ GoOn next →
       Ends count answer after n next (memory_after (ask_at state) m) → Ends count answer after (suc n) state m
+
+-- so many calls of the kernel a run is, by the block that was found last
+unfoldable pub calls_of : {count answer : ℕ} {after : Memory} {n : ℕ} {state : TreeState} {m : Memory} → Option ℕ → Ends count answer after n state m → ℕ
+calls_of found (at_once state m bounded inside tells leaves) = calls_for found (ask_at state)
+calls_of found (later n state next m bounded inside goes rest) =
+    calls_for found (ask_at state) + calls_of (found_behind found (ask_at state)) rest
+
+-- a step's are fewer behind it
+abbrev pub FewerCalls : TreeAsk → (Option ℕ → ℕ) → (Option ℕ → ℕ) → Type 0
+FewerCalls it before behind = (found : Option ℕ) → before found ≡ calls_for found it + behind (found_behind found it)
 
 -- ---- jobs and acts
 
@@ -114,13 +125,14 @@ pub record HasActed (is_open : List ℕ → Bool) (act : FileAct) (before : Memo
   pub bytes : (k : ℕ) → k < length (plan_of is_open before.disk act).bytes → after.page k ≡ slice_index (plan_of is_open before.disk act).bytes k
   pub rest : (k : ℕ) → length (plan_of is_open before.disk act).bytes ≤ k → after.page k ≡ before.page k
 
--- From here what is left of a job ends as the act does that began over another memory, and in so few steps.
+-- From here what is left of a job ends as the act does that began over another memory, in so few steps, and in so few calls.
 pub record IsOnItsWay (count : ℕ) (is_open : List ℕ → Bool) (act : FileAct) (before : Memory) (state : TreeState) (m : Memory) : Type 0 where
   pub left : ℕ
   pub soon : left ≤ job_steps_max count
   pub answer : ℕ
   pub after : Memory
   pub ends : Ends count answer after left state m
+  pub few : calls_of None ends ≤ act_calls_max act count
   pub acted : HasActed is_open act before answer after
 
 -- Each job ends, and does what its act does.
@@ -138,7 +150,8 @@ found_place byte (a_record place way) = if is_directory_at byte place then negat
 -- A path that is looked up answers where the record stands, and changes nothing; and it does so soon.
 abbrev pub FindsAreLooks : Type 0
 FindsAreLooks = (count : ℕ) (path : List ℕ) (m : Memory) → IsSound count m → HasPath m.page path →
-    (n : ℕ) × (n ≤ job_steps_max count) × Ends count (found_place m.disk (led_to m.disk path)) m n (begun_with job.Find) m
+    (n : ℕ) × (n ≤ job_steps_max count)
+    × (ends : Ends count (found_place m.disk (led_to m.disk path)) m n (begun_with job.Find) m) × (calls_of None ends ≤ find_calls_max count)
 
 -- Over a disk without a fault an open that answers 0 leaves a disk on which its path leads to a file, and the tree of this disk names the same.
 abbrev pub OpensAreFound : Type 0
@@ -149,40 +162,44 @@ OpensAreFound = (count : ℕ) (is_open : List ℕ → Bool) (path : List ℕ) (m
     × (file_named (file_system_of after) path ≡ Some way)
 
 -- A job that is on its way makes a lawful step: its numbers are small, and what it asks lies inside. Where it goes on it is still on its way,
--- with one step fewer to come; where it answers, it has acted.
+-- with one step fewer to come, and its calls fewer; where it answers, it has acted.
 abbrev pub StaysOnItsWay : (count : ℕ) (is_open : List ℕ → Bool) (act : FileAct) (before : Memory) (state : TreeState) (m : Memory) →
     IsOnItsWay count is_open act before state m → Type 0
 StaysOnItsWay count is_open act before state m way =
     (is_bounded state ≡ true) × IsInside count (ask_at state)
     × ((next : TreeState) → next_at state (reply_of (ask_at state) m) ≡ GoOn next →
-    (further : IsOnItsWay count is_open act before next (memory_after (ask_at state) m)) × (suc further.left ≡ way.left))
+    (further : IsOnItsWay count is_open act before next (memory_after (ask_at state) m)) × (suc further.left ≡ way.left)
+    × FewerCalls (ask_at state) (λ found. calls_of found way.ends) (λ found. calls_of found further.ends))
     × ((answer : ℕ) → next_at state (reply_of (ask_at state) m) ≡ Answer answer → HasActed is_open act before answer (memory_after (ask_at state) m))
 
 abbrev pub WaysGoOn : Type 0
 WaysGoOn = (count : ℕ) (is_open : List ℕ → Bool) (act : FileAct) (before : Memory) (state : TreeState) (m : Memory)
     (way : IsOnItsWay count is_open act before state m) → StaysOnItsWay count is_open act before state m way
 
--- From here a job ends with this answer, and leaves this, in so few steps.
+-- From here a path is looked up: that ends with this answer, and leaves this, in so few steps, and in so few calls.
 pub record IsRunning (count answer : ℕ) (after : Memory) (state : TreeState) (m : Memory) : Type 0 where
   pub left : ℕ
   pub soon : left ≤ job_steps_max count
   pub ends : Ends count answer after left state m
+  pub few : calls_of None ends ≤ find_calls_max count
 
--- Such a job makes a lawful step too. Where it goes on it still runs towards this end, with one step fewer to come; where it answers, this is
--- the answer, and what it was to leave is what stands there.
+-- Such a job makes a lawful step too. Where it goes on it still runs towards this end, with one step fewer to come, and its calls fewer; where it
+-- answers, this is the answer, and what it was to leave is what stands there.
 abbrev pub StaysRunning : (count answer : ℕ) (after : Memory) (state : TreeState) (m : Memory) → IsRunning count answer after state m → Type 0
 StaysRunning count answer after state m run =
     (is_bounded state ≡ true) × IsInside count (ask_at state)
     × ((next : TreeState) → next_at state (reply_of (ask_at state) m) ≡ GoOn next →
-    (further : IsRunning count answer after next (memory_after (ask_at state) m)) × (suc further.left ≡ run.left))
+    (further : IsRunning count answer after next (memory_after (ask_at state) m)) × (suc further.left ≡ run.left)
+    × FewerCalls (ask_at state) (λ found. calls_of found run.ends) (λ found. calls_of found further.ends))
     × ((word : ℕ) → next_at state (reply_of (ask_at state) m) ≡ Answer word → (word ≡ answer) × (memory_after (ask_at state) m ≡ after))
 
 abbrev pub RunsGoOn : Type 0
 RunsGoOn = (count answer : ℕ) (after : Memory) (state : TreeState) (m : Memory) (run : IsRunning count answer after state m) →
     StaysRunning count answer after state m run
 
--- Whatever word a job reads, its next step leaves fewer steps up to where a size is read again, or to its end; and behind such a reading there
--- are not many.
-abbrev pub StepsAreLeft : Type 0
-StepsAreLeft = (count : ℕ) (state next : TreeState) (word : ℕ) → is_bounded state ≡ true → IsInside count (ask_at state) →
-    next_at state word ≡ GoOn next → steps_left next < steps_left state + ROUND_STEPS_MAX * reads_size state
+-- Whatever word a job reads at a record, its calls are left out of those that were left behind it; where a change of the record's blocks begins, that
+-- adds what it weighs.
+abbrev pub CallsAreLeft : Type 0
+CallsAreLeft = (count : ℕ) (state : TreeState) (word : ℕ) → is_changing state.place ≡ true → is_bounded state ≡ true → IsInside count (ask_at state) →
+    (ask_calls (ask_at state) ≤ calls_left state + weight state)
+    × ((next : TreeState) → next_at state word ≡ GoOn next → calls_left next + ask_calls (ask_at state) ≤ calls_left state + weight state)

@@ -1,6 +1,6 @@
 //! What the run of a job is. Nothing here is to be run: each clause is a theorem.
 
-ghost use Rattle.fs_runs.specs.TreeRuns.{FindsAreLooks, JobsAreActs, OpensAreFound, RunsGoOn, StepsAreLeft, WaysGoOn};
+ghost use Rattle.fs_runs.specs.TreeRuns.{CallsAreLeft, FindsAreLooks, JobsAreActs, OpensAreFound, RunsGoOn, WaysGoOn};
 
 /// Each job's run ends soon, its answer is the act's, what it has stored is exactly what the act stores, what it hands back stands at the begin
 /// of the page, and the rest of the page is as it was.
@@ -31,8 +31,8 @@ pub fn runs_go_on()
     ensures { RunsGoOn }
 {}
 
-/// Whatever words are read, each step of a job leaves fewer steps up to where the size of a record is read again before its next change, or up
-/// to the end; and behind such a reading there are not many.
-pub fn steps_are_left()
-    ensures { StepsAreLeft }
+/// Whatever words are read, a step of a job at a record leaves as many calls fewer as it is itself; where a change of the record's blocks begins,
+/// that adds what it weighs.
+pub fn calls_are_left()
+    ensures { CallsAreLeft }
 {}

@@ -9,6 +9,6 @@ mod laws;
 mod plan;
 
 pub use laws::{
-    finds_are_looks, jobs_are_acts, opens_are_found, runs_go_on, steps_are_left, ways_go_on,
+    calls_are_left, finds_are_looks, jobs_are_acts, opens_are_found, runs_go_on, ways_go_on,
 };
 pub use plan::{ask_at, begin, next_at};

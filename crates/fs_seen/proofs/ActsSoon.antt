@@ -27,10 +27,9 @@ use Rattle.fs_cache.proofs.Waits.{flushing_most, near_used, other_most, wait_ove
 use Rattle.fs_jobs.specs.declared.asks.TreeAsk.{TreeAsk}
 use Rattle.fs_jobs.specs.declared.asks.TreeAsk.TheVariants as asks
 use Rattle.fs_jobs.specs.declared.place.TreeState.{TreeState}
-use Rattle.fs_runs.specs.JobSteps.{job_steps_max}
+use Rattle.fs_runs.specs.JobCalls.{job_steps_max}
 use Rattle.fs_runs.specs.TreePlans as tree
 use Rattle.fs_runs.specs.TreeRuns.{Ends, Memory, memory_after}
-use Rattle.fs_runs.proofs.Ways.{runs_go_on}
 use Rattle.fs_tree.specs.declared.steps.Acted.{Acted}
 use Rattle.fs_tree.specs.declared.steps.Acted.TheVariants as acted
 use Rattle.fs_tree.specs.TreeSteps as steps
@@ -44,7 +43,7 @@ use Rattle.fs_serving.specs.ServerRuns.{Follows, IsFound, StandsAtStep, StandsSe
 use Rattle.fs_serving.specs.ServerViews.{Calls, Serving, called}
 use Rattle.fs_server.specs.ServerSteps.{Flushes, HasFlushed, HasWorked, answers, ends, goes, server_at}
 use Rattle.fs_seen.specs.ServerMemory.{HasRequested, serving_in}
-use Rattle.fs_seen.specs.ServerSees.{AllStands, HasServed, IsSeen, is_working}
+use Rattle.fs_seen.specs.ServerSees.{AllStands, CacheRests, HasServed, IsSeen, is_working}
 use Rattle.fs_seen.specs.ServerSoon.{ACCESS_STEPS_MAX, ActsWithin, CallsActSoon, FlushesActSoon, JOB_STEPS_MAX, JobLeft, JobsActSoon, RunsFor}
 use Rattle.fs_seen.specs.ServerSoon.{SERVER_STEPS_MAX, ServersActWithin, Sooner, WORK_STEPS_MAX, capped, flushes_left, left_over, number_in, work_left}
 use Rattle.fs_seen.specs.ServerWhole.{GoesOnServing, IsServing}
@@ -55,6 +54,7 @@ use Rattle.fs_seen.proofs.JobsServed.{jobs_serve, number_below, working_or_findi
 use Rattle.fs_seen.proofs.Needs.{has_needs, reads_page}
 use Rattle.fs_seen.proofs.Over.{all_small}
 use Rattle.fs_seen.proofs.PlansFall.{plans_fall}
+use Rattle.fs_seen.proofs.RunsOn.{run_goes_on}
 use Rattle.fs_seen.proofs.ServesFor.{served_is_kept, servers_stand}
 use Rattle.fs_seen.proofs.ServesOver.{call_serves, quiet_or_taking, seen_serves}
 use Rattle.fs_seen.proofs.Setting.{StandsNext, gone_stands}
@@ -266,9 +266,9 @@ module _ (most : ℕ) (e : Disk) (after : KernelState) where
         record { serving = serving; left = it.0; runs = it.2; within = omega arith },
       )
 
-  sooner : (a : AbstractState) (s : KernelState) (done : Progress) → HasRequested a.server s 0 → HasServed e.count a e s after 0 done →
-      FallsTo most after → Sooner most done e after a
-  sooner a s done requested served falls = by done (served_is_kept a e s after done requested served) served.follows
+  sooner : (a : AbstractState) (s : KernelState) (done : Progress) → HasRequested a.server s 0 → CacheRests (server_at s 0).step s 0 →
+      HasServed e.count a e s after 0 done → FallsTo most after → Sooner most done e after a
+  sooner a s done requested rests served falls = by done (served_is_kept a e s after done requested rests served) served.follows
     where
       by : (p : Progress) → GoesOnServing p e after 0 a → Follows e.count a p (serving_in e after 0) → Sooner most p e after a
       by progress.Hidden serving stands = acts_on a serving stands falls
@@ -395,7 +395,8 @@ calls_act_soon most a d s after output done is all acts other order made =
     by_seen : IsSeen d s after 0 done → Sooner most done d after a
     by_seen seen =
         let so = seen_stands d s after done seen in
-        sooner most d after a s done acts.serving.requested (seen_serves d.count a d s after done is (all_small d s 0 all) h seen)
+        sooner most d after a s done acts.serving.requested acts.serving.rests
+        (seen_serves d.count a d s after done is (all_small d s 0 all) h seen)
         (falls_by_plan most acts.left so.0 s after (call_serves (server_at s 0).step is) acts.within so.1)
 
 -- ---- a step of a job
@@ -490,18 +491,17 @@ module _ (most : ℕ) (a : AbstractState) (disk : DiskFile) (before now : Files)
       nearer : (x y k : ℕ) → x < y → k + x < k + y
       nearer x y k lt = omega (arith, lt)
   goes_further _ is same (steps.goes next moved by there) serving =
-      let rest = (runs_go_on d.count run.answer run.after (job_in s 0) (memory_in d s 0)
-      (record { left = acts.left; soon = run.soon; ends = run.ends })).2 next by in
-      goes_on same rest.0.left
+      let rest = run_goes_on d.count run.answer run.after acts.left (job_in s 0) next (memory_in d s 0) run.ends by in
+      goes_on same rest.left
       (record {
-        soon = rest.0.soon;
+        soon = fewer rest.left acts.left (job_steps_max d.count) rest.one run.soon;
         answer = run.answer;
         after = run.after;
-        ends = subst (λ (m : Memory). Ends e.count run.answer run.after rest.0.left (job_in after 0) m) (sym moved.memory)
-            (subst (λ (j : TreeState). Ends e.count run.answer run.after rest.0.left j (memory_after (tree.ask_at (job_in s 0)) (memory_in d s 0))) (sym there) rest.0.ends);
+        ends = subst (λ (m : Memory). Ends e.count run.answer run.after rest.left (job_in after 0) m) (sym moved.memory)
+            (subst (λ (j : TreeState). Ends e.count run.answer run.after rest.left j (memory_after (tree.ask_at (job_in s 0)) (memory_in d s 0))) (sym there) rest.ends);
       })
-      (one_less acts.left rest.0.left (capped WAIT_STEPS_MAX (access_left (tree.ask_at (job_in after 0)) after 0))
-      (capped WAIT_STEPS_MAX (access_left (tree.ask_at (job_in s 0)) s 0)) rest.1
+      (one_less acts.left rest.left (capped WAIT_STEPS_MAX (access_left (tree.ask_at (job_in after 0)) after 0))
+      (capped WAIT_STEPS_MAX (access_left (tree.ask_at (job_in s 0)) s 0)) rest.one
       (moved_most (capped WAIT_STEPS_MAX (access_left (tree.ask_at (job_in after 0)) after 0)) (access_left (tree.ask_at (job_in after 0)) after 0)
       (access_left (tree.ask_at (job_in s 0)) s 0) (capped WAIT_STEPS_MAX (access_left (tree.ask_at (job_in s 0)) s 0))
       (capped_under WAIT_STEPS_MAX (access_left (tree.ask_at (job_in after 0)) after 0))
@@ -509,25 +509,29 @@ module _ (most : ℕ) (a : AbstractState) (disk : DiskFile) (before now : Files)
       (capped_over WAIT_STEPS_MAX (access_left (tree.ask_at (job_in s 0)) s 0) (access_most d s 0 all (tree.ask_at (job_in s 0))))))
       serving
     where
+      fewer : (n left most : ℕ) → suc n ≡ left → left ≤ most → n ≤ most
+      fewer n left most is le = omega (arith, is, le)
+
       moved_most : (a b c e : ℕ) → a ≤ b → b ≤ c + (steps_of_round + steps_to_begin) → c ≤ e → a ≤ e + (steps_of_round + steps_to_begin)
       moved_most a b c e one two three = omega (arith, one, two, three)
   goes_further _ is same (steps.answers word moved by) serving = absurd (let contradiction : acted.Answer word ≡ acted.Going = is in cc)
-  goes_further _ is same (steps.lacks waiting refusal) serving = absurd (let contradiction : acted.Answer _ ≡ acted.Going = is in cc)
+  goes_further _ is same (steps.lacks waiting refusal resting) serving = absurd (let contradiction : acted.Answer _ ≡ acted.Going = is in cc)
 
   -- where it answers, the cache stands
   still_long : (mid : KernelState) (told : Acted) → HasStepped d e s mid 0 told → steps.TreeAt e mid 0
   still_long mid _ (steps.waits waiting) = waiting.stands
   still_long mid _ (steps.goes next moved by there) = moved.stands
   still_long mid _ (steps.answers word moved by) = moved.stands
-  still_long mid _ (steps.lacks waiting refusal) = waiting.stands
+  still_long mid _ (steps.lacks waiting refusal resting) = waiting.stands
 
   served_soon : (done : Progress) → HasWorked (server_at s 0) disk before now s after 0 done → HasServed e.count a e s after 0 done →
       Sooner most done e after a
   served_soon _ (goes stepped alone) served =
-      goes_further acted.Going refl (still s after 0 alone.rest) stepped (served_is_kept a e s after progress.Hidden acts.serving.requested served)
+      goes_further acted.Going refl (still s after 0 alone.rest) stepped
+      (served_is_kept a e s after progress.Hidden acts.serving.requested acts.serving.rests served)
   served_soon _ (answers word mid stepped alone is) served =
       let next = next_at (server_at s 0) word in
-      sooner most e after a s next.seen acts.serving.requested served
+      sooner most e after a s next.seen acts.serving.requested acts.serving.rests served
       (falls_by_plan most acts.left word s after (job_serves (server_at s 0).step on) acts.within
       (gone_stands mid 0 next (goes_well (server_at s 0) (server_at s 0).step word (number_below s 0)) (still_long mid (acted.Answer word) stepped).cache.words
       after is))
@@ -562,7 +566,7 @@ module _ (most : ℕ) (a : AbstractState) (disk : DiskFile) (before now : Files)
       refl
       (capped_less FLUSH_STEPS_MAX (left_in flush_left (cache_state after 0).place after 0) (left_in flush_left (cache_state s 0).place s 0)
       (first (left_in flush_left (cache_state after 0).place after 0) (left_in flush_left (flushing (cache_state s 0).place) s 0)
-      (left_in flush_left (cache_state s 0).place s 0) (flushes.tells before is all.stands.cache)
+      (left_in flush_left (cache_state s 0).place s 0) (flushes.tells before is all.stands.cache).0
       (flush_begins (cache_state s 0).place (cached_count (row_in s 0)) (used_count (row_in s 0)))) (flush_most_there (disk_in before disk) s 0 all))
       acts.within
     where
@@ -574,11 +578,11 @@ module _ (most : ℕ) (a : AbstractState) (disk : DiskFile) (before now : Files)
 
   flushed_soon : (done : Progress) → HasFlushed (server_at s 0) disk s after 0 files output done → HasServed e_now.count a e_now s after 0 done →
       Sooner most done e_now after a
-  flushed_soon _ (goes flushes) served = sooner most e_now after a s progress.Hidden acts.serving.requested served (flush_falls_on flushes)
+  flushed_soon _ (goes flushes) served = sooner most e_now after a s progress.Hidden acts.serving.requested acts.serving.rests served (flush_falls_on flushes)
   flushed_soon _ (ends mid flushes gone_is) served =
       let next = next_at (server_at s 0) 0 in
       let kept = flushes.cache before is all.stands.cache in
-      sooner most e_now after a s next.seen acts.serving.requested served
+      sooner most e_now after a s next.seen acts.serving.requested acts.serving.rests served
       (falls_by_plan most acts.left 0 s after (subst (λ (x : ServerStep). is_serving x ≡ true) (sym flushing_now) refl) acts.within
       (gone_stands mid 0 next (goes_well (server_at s 0) (server_at s 0).step 0 (number_below s 0)) kept.2.words after gone_is))
 

@@ -7,6 +7,7 @@ use Rattle.jos_base.specs.Reach.{Entry}
 use Rattle.jos_base.specs.SpacesState.{SpacesState, reference_count}
 use Rattle.lib_os.specs.declared.numbers.TheConstants.{MAXOPEN}
 use Rattle.lib_os.specs.Disk.{Disk}
+use Rattle.fs_cache.specs.CacheSteps.{cache_state}
 use Rattle.fs_tree.specs.TreeSteps.{memory_in}
 use Rattle.fs_serving.specs.ServerViews.{View, word_of}
 use Rattle.fs_seen.specs.ServerMemory.{StandsOver, bytes_by, entry_of, frame_by, has_request, home_in, is_table_page, place_entry, place_page}
@@ -18,6 +19,7 @@ pub record IsBehind (d : Disk) (s mid : KernelState) (n : ℕ) (v : View) : Type
   pub over : StandsOver d mid n
   pub request_stays : has_request mid n ≡ has_request s n
   pub view : view_in d mid n ≡ v
+  pub cache : cache_state mid n ≡ cache_state s n
 
 -- the entry of a place is that of its page, or there is none
 module _ {X : Type 0} (s now : KernelState) (n : ℕ) (by by_now : Option Entry → X) where

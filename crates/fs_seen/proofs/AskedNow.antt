@@ -20,9 +20,11 @@ use Rattle.fs_requests.specs.ServerWords.{server_in}
 use Rattle.fs_serving.specs.ServerRuns.{HasFiles, StandsAtStep, TableStands}
 use Rattle.fs_server.specs.ServerSteps.{server_at}
 use Rattle.fs_seen.specs.ServerMemory.{HasRequested, StandsOver, has_request, request_page, serving_in, view_in}
+use Rattle.fs_seen.specs.ServerSees.{is_working}
 use Rattle.fs_seen.specs.ServerWhole.{AskedByWord, AskedServes, IsAsked, IsIdle, ServesBy, ServesFor}
 use Rattle.fs_seen.proofs.Between.{files_over}
 use Rattle.fs_seen.proofs.Changes.{block_server, request_server, table_no_request, table_server}
+use Rattle.fs_seen.proofs.Rests.{rests_still}
 use Rattle.fs_seen.proofs.ServesFor.{serves_for}
 use Rattle.fs_seen.proofs.StaysGone.{SlotStays, still_entry, still_page}
 use Rattle.fs_seen.proofs.StaysSo.{Stays, block_no_request, disk_same, same_table, stands_so}
@@ -77,6 +79,7 @@ asked_serves a b d s after client request k waits h in_order asked files server 
           );
         });
         requested = subst (λ (x : Server). HasRequested x after 0) (sym server) requested;
+        rests = rests_still s after 0 (ap is_working was.at) stays.cache h.rests;
       };
       at_step = step_is;
       table = same_table s after 0 stays;

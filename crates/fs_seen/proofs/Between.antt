@@ -21,7 +21,7 @@ use Rattle.fs_serving.specs.ServerRuns.{HasFiles, StandsAtStep, TableStands}
 use Rattle.fs_server.specs.ServerSteps.{HasCalled, server_at}
 use Rattle.fs_seen.specs.BlockSteps.{SeesAlike}
 use Rattle.fs_seen.specs.ServerMemory.{HasRequested, StandsOver, entry_of, request_page, serving_in, view_in}
-use Rattle.fs_seen.specs.ServerSees.{HasCalledAt}
+use Rattle.fs_seen.specs.ServerSees.{CacheRests, HasCalledAt}
 use Rattle.fs_seen.specs.ServerWhole.{IsServing}
 use Rattle.fs_seen.proofs.ForOthers.{mapping}
 use Rattle.fs_seen.proofs.Over.{bytes_alike, same_entry}
@@ -121,9 +121,10 @@ same_state a = record { opened = refl; objects = refl; held = λ name. refl; nam
 
 pub leaving_serves : (b : AbstractState) (d : Disk) (after : KernelState) (before : Memory) → StandsOver d after 0 → b.server ≡ leaving →
     HasFiles d.count before b.files → TableStands before.disk b (view_in d after 0) →
-    StandsAtStep (server_at after 0).step d.count b (serving_in d after 0) before → IsServing d after 0 b
-leaving_serves b d after before stands server files table at = record {
+    StandsAtStep (server_at after 0).step d.count b (serving_in d after 0) before → CacheRests (server_at after 0).step after 0 → IsServing d after 0 b
+leaving_serves b d after before stands server files table at rests = record {
   stands = stands;
   serves = serves_for b d after 0 (record { before = before; files = files; table = table; at = at });
   requested = subst (λ (x : Server). HasRequested x after 0) (sym server) tt;
+  rests = rests;
 }

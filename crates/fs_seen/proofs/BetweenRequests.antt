@@ -25,8 +25,10 @@ use Rattle.fs_requests.specs.ServerPlans.{call_for, hidden, next_at, next_for, s
 use Rattle.fs_serving.specs.ServerRuns.{StandsAtStep, StandsServing, TableStands}
 use Rattle.fs_server.specs.ServerSteps.{HasCalled, by_word, gone_on, server_at, was_stopped}
 use Rattle.fs_seen.specs.ServerMemory.{has_request, request_page, serving_in, view_in}
+use Rattle.fs_seen.specs.ServerSees.{is_working}
 use Rattle.fs_seen.specs.ServerWhole.{IsServing, ReceivesServe, ReleasesServe, ServesOn}
 use Rattle.fs_seen.proofs.Between.{called_at, files_over, leaving_serves, number_small, same_objects, same_state, table_seen}
+use Rattle.fs_seen.proofs.Rests.{rests_still}
 use Rattle.fs_seen.proofs.ServesFor.{stands_at}
 use Rattle.fs_seen.proofs.Setting.{was_in_order}
 use Rattle.fs_seen.proofs.StaysGone.{HasGone, SlotStays, counts_released, counts_still, given_back, has_gone, none_there, stays_released, stays_still, still_entry}
@@ -57,7 +59,8 @@ module _ (a : AbstractState) (d : Disk) (s after : KernelState) (output : Output
             (table_again stands.before.disk a a (view_in d s 0) (view_in d after 0) (same_state a)
             (table_seen d d s after 0 gone.stays (counts_on released gone.spaces (counts_released d s 0 h.stands))) stands.table)
             (subst (λ (x : ServerStep). StandsAtStep x d.count a (serving_in d after 0) stands.before) (sym step_is)
-            (is.0, disk_same s after 0 gone.stays d ∙ is.1));
+            (is.0, disk_same s after 0 gone.stays d ∙ is.1))
+            (rests_still s after 0 (ap is_working at) gone.stays.cache h.rests);
         at_step = step_is;
         table = same_table s after 0 gone.stays;
       },
@@ -122,6 +125,7 @@ module _ (a : AbstractState) (d : Disk) (s after : KernelState) (output : Output
                 (table_seen d d s after 0 gone.stays (counts_on ready gone.spaces (counts_still d s ready 0 h.stands ready_stays))) stands.table);
           };
           requested = tt;
+          rests = rests_still s after 0 (ap is_working at) gone.stays.cache h.rests;
         };
         at_step = step_is;
         table = same_table s after 0 gone.stays;

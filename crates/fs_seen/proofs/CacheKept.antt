@@ -80,6 +80,7 @@ module _ (d : Disk) (v w : CacheView) (k : ViewKept v w) where
     hand_below = h.hand_below;
     cache = subst (λ (c : CachedBlocks). IsCache d c) (sym (cached_kept place)) h.cache;
     entries = λ m x is. h.entries m x (sym (k.row m) ∙ is);
+    dirty = λ m x is on. h.dirty m x (sym (k.row m) ∙ is) on;
     pages = λ m x is.
         let was : v.row m ≡ Some x = sym (k.row m) ∙ is in
         subst (λ (page : List ℕ). IsPage page) (sym (k.bytes m x was)) (h.pages m x was);

@@ -22,6 +22,8 @@ use Rattle.lib_os.specs.UserCalls.{IsCallStep, IsStep, Output, got, load, store,
 use Rattle.lib_os.proofs.BytesPut.{bytes_put, put_whole}
 use Rattle.lib_os.proofs.Calls.{comes_to, getenvid_is, yield_is}
 use Rattle.lib_os.proofs.PageBytes.{word_bytes}
+use Rattle.lib_os.proofs.Slots.{slot_put}
+use Rattle.fs_blocks.specs.CachePlaces.{state_in}
 use Rattle.fs_cache.proofs.BlockMoves.{block_allows}
 use Rattle.fs_tree.specs.TreeSteps.{HasRequest, request_bytes}
 use Rattle.fs_tree.proofs.TiesBlocks.{request_holds, request_low, request_number}
@@ -279,4 +281,5 @@ module _ (d : Disk) (s : KernelState) (n : ℕ) (h : AllStands d s n) where
         over = over_set s n slot refl d h.stands set refl refl h.stands.cache.words refl;
         request_stays = requested_set s n slot refl;
         view = view_set s n slot refl d (memory_over s n slot refl d h.stands set refl refl h.stands.cache.words refl) refl;
+        cache = ap (λ (x : Slot). state_in x.extra) (slot_put s n slot);
       })

@@ -21,7 +21,7 @@ use Rattle.fs_requests.specs.ServerPlans.{call_for, next_at, open_page, open_rec
 use Rattle.fs_requests.specs.ServerWords.{server_in}
 use Rattle.fs_serving.specs.ServerViews.{IsReplyFor, IsSeenBehind, View, called, gone_on, request_word, with_page_word}
 use Rattle.fs_server.specs.ServerSteps as server
-use Rattle.fs_server.specs.ServerSteps.{HasCalled, IsReply, by_word, server_at, was_stopped}
+use Rattle.fs_server.specs.ServerSteps.{IsReply, by_word, server_at, was_stopped}
 use Rattle.fs_seen.specs.ServerMemory.{has_request, serving_in, view_in}
 use Rattle.fs_seen.specs.ServerSees.{CallsAreSeen, CallsGoOn, HasPlace, IsSeen, NeedsAt, AllStands, ServesAlike, is_quiet, reads_request}
 use Rattle.fs_seen.proofs.Accesses.{never_stops}
@@ -280,6 +280,7 @@ module _ (d : Disk) (s : KernelState) (n : ℕ) (output : Output) (h : AllStands
         shows = refl;
         stands = gone.over;
         request_stays = gone.request_stays ∙ g.behind.request_stays;
+        cache = gone.cache ∙ g.behind.cache;
       }
 
 pub calls_go_on : CallsGoOn

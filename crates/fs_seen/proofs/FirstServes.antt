@@ -19,16 +19,18 @@ use Rattle.lib_os.proofs.PageBytes.{zero_page_whole}
 use Rattle.fs_blocks.specs.declared.place.CachePlace.{CachePlace}
 use Rattle.fs_blocks.specs.declared.place.CachePlace.TheVariants as cache
 use Rattle.fs_cache.specs.CacheStands.{CacheAt, CacheStands, CacheView, cache_view, cached_at, cached_in}
-use Rattle.fs_cache.specs.CacheSteps.{cache_state}
+use Rattle.fs_cache.specs.CacheSteps.{cache_state, is_fetching}
 use Rattle.fs_cache.proofs.Loads.{number_of, row_below, row_past}
 use Rattle.fs_tree.specs.TreeSteps.{disk_bytes, memory_in}
 use Rattle.fs_requests.specs.declared.state.ServerStep.{ServerStep}
 use Rattle.fs_serving.specs.ServerRuns.{StandsAtStep}
+use Rattle.fs_server.specs.ServerSteps.{server_at}
 use Rattle.fs_seen.specs.ServerMemory.{AreDiskBytes, HasFileTable, IsOpenPage, StandsOver, entry_of, place_page, records_page}
 use Rattle.fs_seen.specs.ServerMemory.{request_page, serving_in, view_in}
 use Rattle.fs_seen.specs.ServerWhole.{IsFirst, StartsServe, bytes_on}
 use Rattle.fs_seen.proofs.Between.{files_over, leaving_serves}
 use Rattle.fs_seen.proofs.Changes.{place_number}
+use Rattle.fs_seen.proofs.Rests.{rests_at}
 use Rattle.fs_seen.proofs.Unopened.{unopened_tables, unopened_views}
 
 block_no_records : (b : ℕ) → number_of b ≢ records_page
@@ -71,6 +73,7 @@ module _ (d : Disk) (s : KernelState) (n : ℕ) (h : IsFirst s n) where
       clean = λ b bytes below is off. absurd (none-some bytes (sym (page_none b) ∙ is));
     };
     entries = λ b e is. absurd (none-some e (sym (row_none b) ∙ is));
+    dirty = λ b e is on. absurd (none-some e (sym (row_none b) ∙ is));
     pages = λ b e is. absurd (none-some e (sym (row_none b) ∙ is));
     apart = λ b m e f is other same. absurd (none-some e (sym (row_none b) ∙ is));
     at = tt;
@@ -130,3 +133,4 @@ starts_serve a d s h count bytes files server unheld consoles old =
     (unopened_tables (memory_in d s 0).disk a (view_in d s 0)
     (unopened_views a d s 0 h.entry h.stands h.zeros (λ number below. h.alone (place_page number) (place_no_records number below)) unheld) consoles old)
     (subst (λ (x : ServerStep). StandsAtStep x d.count a (serving_in d s 0) (memory_in d s 0)) (sym h.at) (server, refl))
+    (rests_at s 0 (server_at s 0).step (ap is_fetching h.rests))

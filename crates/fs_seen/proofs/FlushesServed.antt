@@ -15,9 +15,11 @@ use Rattle.lib_os.specs.BlockCache.{CachedBlocks, KeepsValues, block_value}
 use Rattle.lib_os.specs.Disk.{Disk, DiskFile, disk_in}
 use Rattle.lib_os.specs.InOrder.{IsInOrder}
 use Rattle.lib_os.specs.UserCalls.{Output}
+use Rattle.fs_blocks.specs.declared.place.CacheState.{CacheState}
 use Rattle.fs_cache.specs.declared.steps.Flushed.{Flushed}
+use Rattle.fs_cache.specs.declared.steps.Flushed.TheVariants as flushed
 use Rattle.fs_cache.specs.CacheStands.{cached_in}
-use Rattle.fs_cache.specs.CacheSteps.{HasGone, cache_state, caller, flush_state}
+use Rattle.fs_cache.specs.CacheSteps.{FlushTells, HasGone, cache_state, caller, flush_state, is_fetching}
 use Rattle.fs_cache.proofs.CacheBegins.{flush_goes, flush_stands}
 use Rattle.fs_cache.proofs.CacheLaw.{server_of}
 use Rattle.fs_cache.proofs.Interfaces.{view_in as cache_seen}
@@ -34,12 +36,13 @@ use Rattle.fs_server.specs.ServerSteps as server
 use Rattle.fs_server.specs.ServerSteps.{Flushes, HasFlushed, ends, goes, server_at}
 use Rattle.fs_seen.specs.BlockSteps.{FlushesServe, SeesAlike}
 use Rattle.fs_seen.specs.ServerMemory.{IsRequestPage, StandsOver, entry_of, has_request, serving_in, view_in}
-use Rattle.fs_seen.specs.ServerSees.{AllStands, HasServed, is_working}
+use Rattle.fs_seen.specs.ServerSees.{AllStands, CacheRests, HasServed, is_working}
 use Rattle.fs_seen.proofs.CacheLeaves.{CacheLeaves, step_leaves}
 use Rattle.fs_seen.proofs.DiskStays.{bytes_gone}
 use Rattle.fs_seen.proofs.GoesOn.{goes_well}
 use Rattle.fs_seen.proofs.JobsServed.{follows_seen, number_below}
 use Rattle.fs_seen.proofs.Over.{RequestAlike, all_small, bytes_alike, has_alike, no_page, request_of}
+use Rattle.fs_seen.proofs.Rests.{rests_at, rests_there}
 use Rattle.fs_seen.proofs.SeenAlike.{seeing, sees_as}
 use Rattle.fs_seen.proofs.ServesAs.{follows_as, serves_as}
 use Rattle.fs_seen.proofs.Setting.{going_to, has_gone_on}
@@ -150,8 +153,12 @@ module _ (disk : DiskFile) (before : Files) (s : KernelState) (n : ℕ) (all : A
     abbrev Served : KernelState → Progress → Type 0
     Served after done = (now : Files) × (files.after ≡ Some now) × HasServed count a (disk_in now disk) s after n done
 
-    goes_further : (after : KernelState) → FlushLeaves disk d s after n files.after → Served after progress.Hidden
-    goes_further after left =
+    was_resting : CacheRests (server_at s n).step s n → is_fetching (cache_state s n).place ≡ false
+    was_resting = rests_there s n (server_at s n).step idle
+
+    goes_further : (after : KernelState) → FlushLeaves disk d s after n files.after → FlushTells flushed.Going n (from_to s after) →
+        Served after progress.Hidden
+    goes_further after left tells =
         let e : Disk = disk_in left.now disk in (
           left.now,
           left.told,
@@ -169,12 +176,13 @@ module _ (disk : DiskFile) (before : Files) (s : KernelState) (n : ℕ) (all : A
                 (sees_as count a it (view_in e after n) left.sees stands);
             stands = left.over;
             request_stays = left.request_stays;
+            rests = λ was. rests_at after n (server_at after n).step (tells.1 (was_resting was)).0;
           },
         )
 
-    ends_so : (mid after : KernelState) → IsInOrder after → FlushLeaves disk d s mid n files.after →
+    ends_so : (mid after : KernelState) → IsInOrder after → FlushLeaves disk d s mid n files.after → FlushTells flushed.Clean n (from_to s mid) →
         after ≡ server.gone_on mid n (next_at (server_at s n) 0) → Served after (next_at (server_at s n) 0).seen
-    ends_so mid after order left gone_is =
+    ends_so mid after order left tells gone_is =
         let e : Disk = disk_in left.now disk in
         let next : ServerNext = next_at (server_at s n) 0 in
         let gone =
@@ -187,13 +195,16 @@ module _ (disk : DiskFile) (before : Files) (s : KernelState) (n : ℕ) (all : A
                 (follows_seen count a next.seen (going_to next (job_in s n) (view_in d s n)) (view_in e mid n) left.sees goes_on_so);
             stands = gone.over;
             request_stays = gone.request_stays ∙ left.request_stays;
+            rests = λ was.
+                rests_at after n (server_at after n).step (ap (λ (c : CacheState). is_fetching c.place) gone.cache ∙ ap is_fetching tells.1);
           },
         )
 
     has_flushed : (after : KernelState) (done : Progress) → IsInOrder after → HasFlushed (server_at s n) disk s after n files output done →
         Served after done
-    has_flushed after _ order (goes flushes) = goes_further after (flush_leaves _ after flushes)
-    has_flushed after _ order (ends mid flushes gone_is) = ends_so mid after order (flush_leaves _ mid flushes) gone_is
+    has_flushed after _ order (goes flushes) = goes_further after (flush_leaves _ after flushes) (flushes.tells before is h.cache)
+    has_flushed after _ order (ends mid flushes gone_is) =
+        ends_so mid after order (flush_leaves _ mid flushes) (flushes.tells before is h.cache) gone_is
 
 pub flushes_serve : FlushesServe
 flushes_serve count a disk before s after files output done flushing all stands order is flushed =

@@ -14,6 +14,8 @@ use Rattle.lib_os.specs.AbstractState.{AbstractState}
 use Rattle.lib_os.specs.Disk.{Disk, DiskFile, disk_in}
 use Rattle.lib_os.specs.InOrder.{IsInOrder}
 use Rattle.fs_acts.specs.BlockActs.{stored, with_bytes}
+use Rattle.fs_blocks.specs.declared.place.CacheState.{CacheState}
+use Rattle.fs_cache.specs.CacheSteps.{cache_state, is_fetching}
 use Rattle.fs_jobs.specs.declared.asks.TreeAsk.{TreeAsk}
 use Rattle.fs_jobs.specs.declared.asks.TreeAsk.TheVariants as asks
 use Rattle.fs_jobs.specs.declared.asks.TreeNext.TheVariants.{Answer}
@@ -37,12 +39,13 @@ use Rattle.fs_server.specs.ServerSteps as server
 use Rattle.fs_server.specs.ServerSteps.{HasWorked, answers, goes, server_at}
 use Rattle.fs_seen.specs.BlockSteps.{JobsAreLawful, JobsServe, LacksBlock, SeesAlike}
 use Rattle.fs_seen.specs.ServerMemory.{AreDiskBytes, HasRequested, StandsOver, has_request, serving_in, view_in}
-use Rattle.fs_seen.specs.ServerSees.{AllStands, HasServed, ServesAlike, is_working}
+use Rattle.fs_seen.specs.ServerSees.{AccessRests, AllStands, CacheRests, HasServed, ServesAlike, is_working}
 use Rattle.fs_seen.proofs.GoesOn.{goes_well}
 use Rattle.fs_seen.proofs.DiskStays.{bytes_behind}
 use Rattle.fs_seen.proofs.JobsLeave.{job_leaves}
 use Rattle.fs_seen.proofs.Needs.{finding_page, working_page}
 use Rattle.fs_seen.proofs.Over.{all_small, over_of, tree_of, tree_requested}
+use Rattle.fs_seen.proofs.Rests.{disk_rests, found_rests, job_rests, rests_at, rests_of_job}
 use Rattle.fs_seen.proofs.SeenAlike.{seeing, sees_as}
 use Rattle.fs_seen.proofs.ServesAs.{follows_as, serves_as}
 use Rattle.fs_seen.proofs.Setting.{HasGoneOn, going_to, has_gone_on}
@@ -205,20 +208,31 @@ module _ (count : ℕ) (a : AbstractState) (d e : Disk) (s : KernelState) (n : �
   abbrev Served : KernelState → Progress → Type 0
   Served after done = HasServed count a e s after n done
 
+  -- where the job has made its step no block is fetched
+  moved_rests : (after : KernelState) → HasMoved d e s after n → CacheRests (server_at s n).step s n → is_fetching (cache_state after n).place ≡ false
+  moved_rests after moved was =
+      ap is_fetching moved.cache.place
+      ∙ found_rests (tree.ask_at (job_in s n)) (cache_state s n).place moved.found (rests_of_job s n (server_at s n).step on was)
+
   goes_further : (told : Acted) (after : KernelState) → told ≡ acted.Going → HasStepped d e s after n told → LeavesRest s after n →
       Served after progress.Hidden
   goes_further _ after is (steps.waits waiting) left = record {
     follows = lands after (job_in s n) (memory_in d s n) left waiting.job waiting.memory h;
     stands = stands_over after left waiting.stands;
     request_stays = stays_there after waiting.stands;
+    rests = λ was.
+        job_rests after n (server_at after n).step (ap is_working (still s after n left.rest).at_step ∙ on)
+        (subst (λ (j : TreeState). AccessRests (tree.ask_at j) (cache_state after n).place) (sym waiting.job)
+        (disk_rests (tree.ask_at (job_in s n)) (cache_state after n).place waiting.of_disk));
   }
   goes_further _ after is (steps.goes next moved by there) left = record {
     follows = lands after next (memory_worked it) left there moved.memory (works.goes next by);
     stands = stands_over after left moved.stands;
     request_stays = stays_there after moved.stands;
+    rests = λ was. rests_at after n (server_at after n).step (moved_rests after moved was);
   }
   goes_further _ after is (steps.answers word moved by) left = absurd (let contradiction : acted.Answer word ≡ acted.Going = is in cc)
-  goes_further _ after is (steps.lacks waiting refusal) left =
+  goes_further _ after is (steps.lacks waiting refusal resting) left =
       absurd (let contradiction : acted.Answer (negated E_NO_MEM) ≡ acted.Going = is in cc)
 
   -- ---- it has answered
@@ -243,6 +257,8 @@ module _ (count : ℕ) (a : AbstractState) (d e : Disk) (s : KernelState) (n : �
               (works.answers word (still_small (tree.ask_at (job_in s n)) (memory_in d s n) small) by));
           stands = behind.over;
           request_stays = behind.request_stays ∙ stays_there mid moved.stands;
+          rests = λ was.
+              rests_at after n (server_at after n).step (ap (λ (c : CacheState). is_fetching c.place) behind.cache ∙ moved_rests mid moved was);
         }
 
     lacks_so : IsWaiting d e s mid n → (s.refusals < 2 ^ 64 - 1 → s.refusals < mid.refusals) → word ≡ negated E_NO_MEM →
@@ -269,7 +285,7 @@ module _ (count : ℕ) (a : AbstractState) (d e : Disk) (s : KernelState) (n : �
         let both : acted.Answer other ≡ acted.Answer word = same in
         let it_is : other ≡ word = cc in
         inl (answers_so moved (by ∙ ap (λ (w : ℕ). Answer w) it_is))
-    has_answered _ same (steps.lacks waiting refusal) =
+    has_answered _ same (steps.lacks waiting refusal resting) =
         let both : acted.Answer (negated E_NO_MEM) ≡ acted.Answer word = same in
         let it_is : negated E_NO_MEM ≡ word = cc in
         inr (lacks_so waiting refusal (sym it_is))

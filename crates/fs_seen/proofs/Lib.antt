@@ -5,6 +5,7 @@ pub mod GoesOn
 pub mod CacheKept
 pub mod Changes
 pub mod Setting
+pub mod Rests
 pub mod Accesses
 pub mod WordsPut
 pub mod Alike
@@ -43,7 +44,12 @@ pub mod StaysUnopened
 pub mod AskedByPages
 pub mod FirstServes
 pub mod PlansFall
+pub mod RunsOn
 pub mod ActsSoon
+pub mod CallsFall
+pub mod FewAccesses
+pub mod FewCalls
+pub mod FewStay
 pub mod ForOthers
 pub mod TablesLeft
 pub mod RepliesGiven

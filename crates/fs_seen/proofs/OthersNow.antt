@@ -27,6 +27,7 @@ use Rattle.fs_seen.proofs.Between.{files_over, same_state, sees_mapped, sees_pag
 use Rattle.fs_seen.proofs.Changes.{block_entry, block_server, request_server, table_no_request, table_server}
 use Rattle.fs_seen.proofs.ForOthers.{KeepsServed, StaysFree, at_as, mapping}
 use Rattle.fs_seen.proofs.Repaged.{repaged}
+use Rattle.fs_seen.proofs.Rests.{rests_same}
 use Rattle.fs_seen.proofs.SeenAlike.{sees_as}
 use Rattle.fs_seen.proofs.ServesFor.{requested_stays}
 use Rattle.fs_seen.proofs.StaysSo.{Stays, block_no_request, disk_same, same_frames, same_holders, same_table, stands_so}
@@ -146,6 +147,8 @@ module _ (a b : AbstractState) (d : Disk) (s after : KernelState) (h : IsServing
         serves = subst (λ (x : Server). ServesBy x d after 0 b) (sym same.server) (by_server a.server h.serves);
         requested = subst (λ (x : Server). HasRequested x after 0) (sym same.server)
             (requested_stays s after 0 (ap (λ (o : Option Entry). is_some o) (left.entries request_page)) a.server h.requested);
+        rests = rests_same s after 0 step_left (ap (λ (x : Slot). places.state_in x.registers x.extra) left.slot)
+            (ap (λ (x : Slot). cache_at_words x.extra) left.slot) h.rests;
       };
       at_step = step_left;
       table = same_table s after 0 stays;

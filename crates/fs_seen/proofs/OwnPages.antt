@@ -198,6 +198,7 @@ module _ (d : Disk) (s : KernelState) (n : ℕ) (h : StandsOver d s n) (p : ℕ)
     view = view_alike s n t (λ q q_is. frame_same s n p e stands bytes t a q)
         (λ q q_is. bytes_same s n p e stands bytes t a unchanged q) d memory_behind
         (counts_stay s.spaces t own_dir p e bytes stands a);
+    cache = refl;
   }
 
   -- a store to the page of a place
@@ -238,6 +239,7 @@ module _ (d : Disk) (s : KernelState) (n : ℕ) (h : StandsOver d s n) (p : ℕ)
         value = (slot_at s n).rendezvous.value;
         sender = (slot_at s n).rendezvous.sender;
       };
+      cache = refl;
     }
       where
         old : List ℕ
@@ -290,6 +292,7 @@ module _ (d : Disk) (s : KernelState) (n : ℕ) (h : StandsOver d s n) (p : ℕ)
         value = (slot_at s n).rendezvous.value;
         sender = (slot_at s n).rendezvous.sender;
       };
+      cache = refl;
     }
       where
         old : List ℕ
@@ -394,4 +397,5 @@ module _ (d : Disk) (s : KernelState) (n : ℕ) (h : StandsOver d s n) (entry : 
     view = view_alike s n t (λ q q_is. frame_same s n request_number entry stands page t a q)
         (λ q q_is. bytes_same s n request_number entry stands page t a refl q) d (memory_kept d s n h t in_order cache_stays alike)
         (counts_stay s.spaces t home request_number entry page stands a);
+    cache = refl;
   }

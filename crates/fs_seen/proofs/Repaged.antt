@@ -1,29 +1,23 @@
 -- Where the bytes of the request no longer count, the server stands by whatever its page holds.
 use Rattle.std.proofs.Common.{◌≡◌, ◌∙◌, ◌<◌, ℕ, true, false, List, [], ◌∷◌, Option, Some, None, refl, sym, ap, arith}
 use Rattle.std.specs.Prelude.{length, slice_index}
-use Rattle.fs_layout.specs.FileTree.{open_path, read_file, remove_path, set_file_size, stat_file, sync_files, write_file}
+use Rattle.std.proofs.lemmas.Bool.{false≢true}
 use Rattle.fs_runs.specs.TreeRuns.{Memory}
-use Rattle.lib_os.specs.AbstractState.{AbstractState, Request, Server, act, acted, seek}
-use Rattle.lib_os.specs.FileServer.{request_begun}
+use Rattle.lib_os.specs.AbstractState.{AbstractState, Server, acted, busy, looking}
 use Rattle.fs_requests.specs.declared.state.ServerStep.{ServerStep}
 use Rattle.fs_requests.specs.declared.state.ServerStep.TheVariants as step
-use Rattle.fs_serving.specs.ServerRuns.{HasFile, HasObject, IsFound, IsReplying, IsStoring, StandsAtStep, StandsServing, client_of}
-use Rattle.fs_serving.specs.ServerRuns.{moved, opened, over, removed, sought}
+use Rattle.fs_serving.specs.ServerRuns.{HasFile, HasObject, IsReplying, StandsAtStep, StandsServing, client_of, is_acting, over}
 use Rattle.fs_serving.specs.ServerViews.{Serving}
+use Rattle.fs_serving.proofs.ActsAt.{acts_at}
 use Rattle.fs_seen.specs.ServerWhole.{keeps_request}
 use Rattle.fs_seen.proofs.Between.{files_over, same_state}
 use Rattle.fs_seen.proofs.TablesAlike.{table_again}
 
--- the bytes of one that has come count
-begun_keeps : (client : ℕ) (request : Request) → keeps_request (request_begun client request) ≡ true
-begun_keeps client (act (open_path path mode) object) = refl
-begun_keeps client (act (read_file way offset len) object) = refl
-begun_keeps client (act (write_file way offset bytes) object) = refl
-begun_keeps client (act (set_file_size way size) object) = refl
-begun_keeps client (act (stat_file way) object) = refl
-begun_keeps client (act (remove_path path) object) = refl
-begun_keeps client (act sync_files object) = refl
-begun_keeps client (seek name offset) = refl
+-- where it acts the bytes count
+acting_keeps : (x : Server) → is_acting x ≡ true → keeps_request x ≡ true
+acting_keeps (looking client request place) acts = refl
+acting_keeps (busy client request place) acts = refl
+acting_keeps _ acts = absurd (false≢true acts)
 
 module _ (count : ℕ) (a : AbstractState) (it : Serving) (before : Memory) (free : keeps_request a.server ≡ false) (page : ℕ → ℕ) where
   -- with this page
@@ -32,10 +26,6 @@ module _ (count : ℕ) (a : AbstractState) (it : Serving) (before : Memory) (fre
 
   abbrev now : Serving
   now = over it (paged it.view.memory)
-
-  -- it is not one whose bytes count
-  counts : {X : Type 0} (x : Server) → a.server ≡ x → keeps_request x ≡ true → X
-  counts x same keeps = absurd (let contradiction : false ≡ true = sym free ∙ ap keeps_request same ∙ keeps in cc)
 
   -- nothing is handed back
   handed_none : (client answer : ℕ) (bytes : List ℕ) (object : Option ℕ) → keeps_request (acted client answer bytes object) ≡ false → (i : ℕ) →
@@ -71,45 +61,12 @@ module _ (count : ℕ) (a : AbstractState) (it : Serving) (before : Memory) (fre
     has_object = object_paged h.object h.has_object;
   }
 
-  storing_counts : {X : Type 0} → IsStoring a it before → X
-  storing_counts (opened so) = counts _ so.opened.opening.is_busy.server refl
-  storing_counts (moved so at) = counts _ so.is_busy.server refl
-  storing_counts (sought name so number at none memory) = counts _ so.server refl
-
-  found_counts : {X : Type 0} → IsFound count a it before → X
-  found_counts (opened path mode home so running) = counts _ so.opening.is_busy.server refl
-  found_counts (removed so) = counts _ so.is_busy.server refl
-
   at_paged : (at : ServerStep) → StandsAtStep at count a it before → StandsAtStep at count a now (paged before)
   at_paged step.Releasing h = h
   at_paged step.Receiving h = h
-  at_paged step.ReadingKind h = counts _ h.2.server (begun_keeps _ h.2.request)
-  at_paged step.ReadingClient h = counts _ h.2.server (begun_keeps _ h.2.request)
-  at_paged step.ReadingFile h = counts _ h.is_busy.server refl
-  at_paged step.ReadingOffset h = counts _ h.0.is_busy.server refl
-  at_paged step.ReadingCount h = counts _ h.0.is_busy.server refl
-  at_paged step.ReadingRecord h = counts _ h.0.is_busy.server refl
-  at_paged step.LookingRecord h = counts _ h.server refl
-  at_paged step.LookingEntry h = counts _ h.0.server refl
-  at_paged step.LookingHolders h = counts _ h.0.server refl
-  at_paged step.TakingPage h = counts _ h.2.is_busy.server refl
-  at_paged step.ReadingMode h = counts _ h.2.is_busy.server refl
-  at_paged step.Working h = counts _ h.is_busy.server refl
-  at_paged step.Finding h = found_counts h
-  at_paged step.StoringRecord h = counts _ h.opened.opening.is_busy.server refl
-  at_paged step.StoringDevice h = counts _ h.opened.opening.is_busy.server refl
-  at_paged step.ReadingModeAgain h = counts _ h.opened.opening.is_busy.server refl
-  at_paged step.StoringMode h = counts _ h.opened.opening.is_busy.server refl
-  at_paged step.StoringFile h = counts _ h.opened.opening.is_busy.server refl
-  at_paged step.Advancing h = counts _ h.is_busy.server refl
-  at_paged step.StoringOffset h = storing_counts h
-  at_paged step.CheckingRecord h = counts _ h.is_busy.server refl
-  at_paged step.CheckingEntry h = counts _ h.0.is_busy.server refl
-  at_paged step.CheckingHolders h = counts _ h.0.is_busy.server refl
-  at_paged step.Flushing h = counts _ h.0.server refl
-  at_paged step.Acting h = counts _ h.is_busy.server refl
   at_paged step.Replying h = replying_paged h
   at_paged step.Pausing h = replying_paged h
+  at_paged at h = absurd (false≢true (sym free ∙ acting_keeps a.server (acts_at count a it before at h)))
 
 -- It stands by any other page.
 pub repaged : (count : ℕ) (a : AbstractState) (it : Serving) (page : ℕ → ℕ) → keeps_request a.server ≡ false → StandsServing count a it →

@@ -33,10 +33,12 @@ use Rattle.fs_server.specs.ServerSteps.{gone_on, server_at}
 use Rattle.fs_seen.specs.ServerMemory.{bytes_by, entry_of, place_entry, place_page, serving_in, view_in}
 use Rattle.fs_seen.specs.ServerOthers.{CountsTell, GivenFilesAreApart, GivesOpened, HasFilesApart, HasReplyPage, LeavesBytes, RepliesGive}
 use Rattle.fs_seen.specs.ServerOthers.{RepliesGiving, RepliesWithPage}
+use Rattle.fs_seen.specs.ServerSees.{is_working}
 use Rattle.fs_seen.specs.ServerWhole.{IsServing, ServesOn}
 use Rattle.fs_seen.proofs.Between.{leaving_serves, number_small}
 use Rattle.fs_seen.proofs.OthersNow.{stays_left}
 use Rattle.fs_seen.proofs.RepliesNow.{standing}
+use Rattle.fs_seen.proofs.Rests.{rests_still}
 use Rattle.fs_seen.proofs.Setting.{was_in_order}
 use Rattle.fs_seen.proofs.StaysGone.{has_gone}
 use Rattle.fs_seen.proofs.StaysSo.{disk_same, same_table, stands_so}
@@ -213,7 +215,8 @@ module _ (a : AbstractState) (d : Disk) (s : KernelState) (client answer name : 
               (table_left stands.before.disk a b (view_in d s 0) stands.table keeps (view_in d after 0) same.homes same.pages
               (seen_tells b d after 0 tells))
               (subst (λ (x : ServerStep). StandsAtStep x d.count b (serving_in d after 0) stands.before) (sym step_is)
-              (server, disk_same s after 0 gone.stays d ∙ ap (λ (m : Memory). m.disk) replies.memory));
+              (server, disk_same s after 0 gone.stays d ∙ ap (λ (m : Memory). m.disk) replies.memory))
+              (rests_still s after 0 (ap is_working at) gone.stays.cache h.rests);
           at_step = step_is;
           table = same;
         }

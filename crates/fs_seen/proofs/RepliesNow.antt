@@ -36,6 +36,7 @@ use Rattle.fs_seen.specs.ServerMemory.{entry_of, request_page, serving_in, view_
 use Rattle.fs_seen.specs.ServerSees.{is_working}
 use Rattle.fs_seen.specs.ServerWhole.{IsServing, LeavesSlot, PausesServe, RepliesServe, RepliesWithWord, ServesOn, WaitsServe}
 use Rattle.fs_seen.proofs.Between.{called_at, leaving_serves, number_small, same_state, sees_same, table_seen}
+use Rattle.fs_seen.proofs.Rests.{rests_still}
 use Rattle.fs_seen.proofs.SeenAlike.{seeing, sees_as}
 use Rattle.fs_seen.proofs.ServesAs.{serves_as}
 use Rattle.fs_seen.proofs.ServesFor.{requested_stays, serves_for, stands_at}
@@ -117,7 +118,7 @@ module _ (a : AbstractState) (d : Disk) (s : KernelState) (h : IsServing d s 0 a
         (no_page st (subst (λ (o : Option ℕ). HasObject a (serving_in d s 0) o) none replies.has_object), who, what)
 
     -- behind a step that leaves all that is seen
-    module _ (mid after : KernelState) (at : ServerStep) (other : is_working at ≡ false)
+    module _ (mid after : KernelState) (at : ServerStep) (idle : is_working st.step ≡ false) (other : is_working at ≡ false)
         (gone : HasGone s mid after 0 (record { state = record st { step = at }; begins = None; seen = progress.Hidden }))
         (still : SlotStays s mid 0) (message : (slot_at mid 0).rendezvous ≡ (slot_at s 0).rendezvous) where
       counts_on : CountsStay s after 0
@@ -158,6 +159,7 @@ module _ (a : AbstractState) (d : Disk) (s : KernelState) (h : IsServing d s 0 a
           stands = stands_so s after 0 gone.stays d h.stands;
           serves = serves_for a d after 0 (replying_on so);
           requested = requested_stays s after 0 (ap (λ (o : Option Entry). is_some o) entry_on) a.server h.requested;
+          rests = rests_still s after 0 idle gone.stays.cache h.rests;
         };
         at_step = step_is;
         table = same_table s after 0 gone.stays;
@@ -204,7 +206,8 @@ replies_serve a b d s mid after at h in_order left is server files table =
           (table_again stands.before.disk b b (view_in d s 0) (view_in d after 0) (same_state b) (table_seen d d s after 0 gone.stays counts)
           (table stands.before.disk stands.table))
           (subst (λ (x : ServerStep). StandsAtStep x d.count b (serving_in d after 0) stands.before) (sym step_is)
-          (server, disk_same s after 0 gone.stays d ∙ ap (λ (m : Memory). m.disk) replies.memory));
+          (server, disk_same s after 0 gone.stays d ∙ ap (λ (m : Memory). m.disk) replies.memory))
+          (rests_still s after 0 (ap is_working at) gone.stays.cache h.rests);
       at_step = step_is;
       table = same_table s after 0 gone.stays;
     }
@@ -220,7 +223,7 @@ waits_serve a d s mid after at h in_order left is =
     let still = left_still d s mid left h.stands.cache.live in
     let stays = stays_still d s mid 0 h.stands still (was_in_order mid 0 next after here in_order) in
     let gone = has_gone s mid 0 next refl (number_small s 0) stays after here in_order in
-    goes_on a d s h stands replies mid after step.Pausing refl
+    goes_on a d s h stands replies mid after step.Pausing (ap is_working at) refl
     (record { stays = gone.stays; server = gone.server; message = gone.message; entries = gone.entries; spaces = gone.spaces }) still
     (ap (λ (x : Slot). x.rendezvous) left.slot) (still_replying a (serving_in d s 0) stands.before step.Pausing replies)
 
@@ -256,7 +259,7 @@ module _ (a : AbstractState) (d : Disk) (s after : KernelState) (output : Output
       let stays = stays_still d s given_up 0 h.stands up_stays (was_in_order given_up 0 (hidden pausing step.Replying) after here in_order) in
       let gone = has_gone s given_up 0 (hidden pausing step.Replying) refl (number_small s 0) stays after here in_order in (
         ap (λ (z : ServerNext). z.seen) goes,
-        goes_on a d s h stands replies given_up after step.Replying refl gone up_stays (ap (λ (x : Slot). x.rendezvous) up_there)
+        goes_on a d s h stands replies given_up after step.Replying (ap is_working at) refl gone up_stays (ap (λ (x : Slot). x.rendezvous) up_there)
             (still_replying a (serving_in d s 0) stands.before step.Replying replies),
       )
   pauses done (was_stopped why end reply stops) = absurd reply

@@ -1,5 +1,6 @@
 -- Where the server stands by itself for an abstract state, the abstract server is not idle; so what it has served by a step is kept.
 use Rattle.std.proofs.Common.{◌≡◌, ◌≢◌, ◌∙◌, ◌+◌, ◌==◌, ℕ, Bool, true, false, List, Option, Some, None, refl, ap, subst, if◌then◌else◌}
+use Rattle.std.proofs.lemmas.Bool.{false≢true}
 use Rattle.std.proofs.lemmas.Option.{none-some, same_Some}
 use Rattle.std.specs.Prelude.{nat_lt, not}
 use Rattle.jos_base.specs.KernelState.{KernelState}
@@ -11,73 +12,37 @@ use Rattle.lib_os.specs.declared.progress.Progress.TheVariants as progress
 use Rattle.lib_os.specs.AbstractState.{AbstractState, Born, Object, Phase, Request, Server, act, acted, awaiting, busy, file, idle, in_service, is_idle}
 use Rattle.lib_os.specs.AbstractState.{leaving, looking, seek}
 use Rattle.lib_os.specs.Disk.{Disk}
-use Rattle.lib_os.specs.FileServer.{act_done, after_act, file_opened, is_count, is_held_by, looked, moved_on, reply, reply_at, request_begun, served}
+use Rattle.lib_os.specs.FileServer.{act_done, after_act, file_opened, is_count, is_held_by, looked, moved_on, reply, reply_at, served}
 use Rattle.lib_os.specs.FileServer.{server_step, with_offset_of}
 use Rattle.lib_os.specs.GuestStep.{born_in}
 use Rattle.fs_runs.specs.TreeRuns.{Memory}
 use Rattle.fs_requests.specs.declared.state.ServerStep.{ServerStep}
 use Rattle.fs_requests.specs.declared.state.ServerStep.TheVariants as step
-use Rattle.fs_serving.specs.ServerRuns.{Follows, IsFound, IsStoring, StandsAtStep, StandsServing, moved, opened, removed, sought}
+use Rattle.fs_serving.specs.ServerRuns.{Follows, StandsAtStep, StandsServing, is_acting}
 use Rattle.fs_serving.specs.ServerViews.{Serving}
+use Rattle.fs_serving.proofs.ActsAt.{acts_at}
 use Rattle.fs_server.specs.ServerSteps.{server_at}
 use Rattle.fs_seen.specs.ServerMemory.{HasPageFor, HasRequested, has_request, serving_in}
 use Rattle.fs_seen.specs.ServerWhole.{GoesOnServing, IsIdle, ServedIsKept, ServersStand, ServesBy, ServesFor}
 
 -- ---- the abstract server is not idle
 
-begun_runs : (client : ℕ) (request : Request) → is_idle (request_begun client request) ≡ false
-begun_runs client (act (open_path path mode) object) = refl
-begun_runs client (act (read_file way offset len) object) = refl
-begun_runs client (act (write_file way offset bytes) object) = refl
-begun_runs client (act (set_file_size way size) object) = refl
-begun_runs client (act (stat_file way) object) = refl
-begun_runs client (act (remove_path path) object) = refl
-begun_runs client (act sync_files object) = refl
-begun_runs client (seek name offset) = refl
+-- for one that acts is not
+acting_runs : (x : Server) → is_acting x ≡ true → is_idle x ≡ false
+acting_runs (looking client request place) acts = refl
+acting_runs (busy client request place) acts = refl
+acting_runs _ acts = absurd (false≢true acts)
 
 module _ (count : ℕ) (a : AbstractState) (it : Serving) (before : Memory) where
   runs_as : (x : Server) → a.server ≡ x → is_idle x ≡ false → is_idle a.server ≡ false
   runs_as x same runs = ap is_idle same ∙ runs
 
-  runs_storing : IsStoring a it before → is_idle a.server ≡ false
-  runs_storing (opened so) = runs_as _ so.opened.opening.is_busy.server refl
-  runs_storing (moved so at) = runs_as _ so.is_busy.server refl
-  runs_storing (sought name so number at none memory) = runs_as _ so.server refl
-
-  runs_found : IsFound count a it before → is_idle a.server ≡ false
-  runs_found (opened path mode home so running) = runs_as _ so.opening.is_busy.server refl
-  runs_found (removed so) = runs_as _ so.is_busy.server refl
-
   runs_at : (at : ServerStep) → StandsAtStep at count a it before → is_idle a.server ≡ false
   runs_at step.Releasing h = runs_as leaving h.0 refl
   runs_at step.Receiving h = runs_as leaving h.0 refl
-  runs_at step.ReadingKind h = runs_as _ h.2.server (begun_runs _ h.2.request)
-  runs_at step.ReadingClient h = runs_as _ h.2.server (begun_runs _ h.2.request)
-  runs_at step.ReadingFile h = runs_as _ h.is_busy.server refl
-  runs_at step.ReadingOffset h = runs_as _ h.0.is_busy.server refl
-  runs_at step.ReadingCount h = runs_as _ h.0.is_busy.server refl
-  runs_at step.ReadingRecord h = runs_as _ h.0.is_busy.server refl
-  runs_at step.LookingRecord h = runs_as _ h.server refl
-  runs_at step.LookingEntry h = runs_as _ h.0.server refl
-  runs_at step.LookingHolders h = runs_as _ h.0.server refl
-  runs_at step.TakingPage h = runs_as _ h.2.is_busy.server refl
-  runs_at step.ReadingMode h = runs_as _ h.2.is_busy.server refl
-  runs_at step.Working h = runs_as _ h.is_busy.server refl
-  runs_at step.Finding h = runs_found h
-  runs_at step.StoringRecord h = runs_as _ h.opened.opening.is_busy.server refl
-  runs_at step.StoringDevice h = runs_as _ h.opened.opening.is_busy.server refl
-  runs_at step.ReadingModeAgain h = runs_as _ h.opened.opening.is_busy.server refl
-  runs_at step.StoringMode h = runs_as _ h.opened.opening.is_busy.server refl
-  runs_at step.StoringFile h = runs_as _ h.opened.opening.is_busy.server refl
-  runs_at step.Advancing h = runs_as _ h.is_busy.server refl
-  runs_at step.StoringOffset h = runs_storing h
-  runs_at step.CheckingRecord h = runs_as _ h.is_busy.server refl
-  runs_at step.CheckingEntry h = runs_as _ h.0.is_busy.server refl
-  runs_at step.CheckingHolders h = runs_as _ h.0.is_busy.server refl
-  runs_at step.Flushing h = runs_as _ h.0.server refl
-  runs_at step.Acting h = runs_as _ h.is_busy.server refl
   runs_at step.Replying h = runs_as _ h.server refl
   runs_at step.Pausing h = runs_as _ h.server refl
+  runs_at at h = acting_runs a.server (acts_at count a it before at h)
 
 -- ---- from one to the other
 
@@ -183,17 +148,23 @@ module _ (after : KernelState) (n : ℕ) where
 -- ---- what was served is kept
 
 pub served_is_kept : ServedIsKept
-served_is_kept a e s after done requested served_so = by_done done served_so.follows
+served_is_kept a e s after done requested rests served_so = by_done done served_so.follows
   where
     still : HasRequested a.server after 0
     still = requested_stays s after 0 served_so.request_stays a.server requested
 
     by_done : (p : Progress) → Follows e.count a p (serving_in e after 0) → GoesOnServing p e after 0 a
-    by_done progress.Hidden h = record { stands = served_so.stands; serves = serves_for a e after 0 h; requested = still }
+    by_done progress.Hidden h =
+        record { stands = served_so.stands; serves = serves_for a e after 0 h; requested = still; rests = served_so.rests rests }
     by_done progress.Visible h = (
       h.0,
       h.1,
-      record { stands = served_so.stands; serves = serves_for h.0 e after 0 h.2; requested = requested_next after 0 a h.0 h.1 still },
+      record {
+        stands = served_so.stands;
+        serves = serves_for h.0 e after 0 h.2;
+        requested = requested_next after 0 a h.0 h.1 still;
+        rests = served_so.rests rests;
+      },
     )
     by_done progress.Waited h = h
     by_done progress.Finished h = h

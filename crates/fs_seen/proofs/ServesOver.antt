@@ -15,10 +15,11 @@ use Rattle.fs_serving.specs.ServerViews.{Calls, Serving}
 use Rattle.fs_serving.proofs.ServedWhole.{all_servers_serve}
 use Rattle.fs_server.specs.ServerSteps.{server_at}
 use Rattle.fs_seen.specs.ServerMemory.{serving_in}
-use Rattle.fs_seen.specs.ServerSees.{CallsServe, HasServed, IsSeen, is_quiet, makes_call}
+use Rattle.fs_seen.specs.ServerSees.{CallsServe, HasServed, IsSeen, is_quiet, is_working, makes_call}
 use Rattle.fs_seen.proofs.CallsSeen.{calls_are_seen}
 use Rattle.fs_seen.proofs.Needs.{has_needs, reads_page}
 use Rattle.fs_seen.proofs.Over.{all_small}
+use Rattle.fs_seen.proofs.Rests.{rests_still}
 use Rattle.fs_seen.proofs.ServesAs.{follows_as}
 use Rattle.fs_seen.proofs.TakingLaw.{pages_are_taken}
 
@@ -119,6 +120,12 @@ quiet_or_taking step.Receiving is = inl is
 quiet_or_taking step.Replying is = inl is
 quiet_or_taking step.Pausing is = inl refl
 
+-- and no job is under way
+pub call_idle : (at : ServerStep) → makes_call at ≡ true → is_working at ≡ false
+call_idle step.Working is = absurd (let contradiction : false ≡ true = is in cc)
+call_idle step.Finding is = absurd (let contradiction : false ≡ true = is in cc)
+call_idle _ is = refl
+
 -- what is seen of the server is what the server by itself does
 pub seen_serves : (count : ℕ) (a : AbstractState) (d : Disk) (s after : KernelState) (done : Progress) → makes_call (server_at s 0).step ≡ true →
     AreSmall (serving_in d s 0).view.memory → StandsServing count a (serving_in d s 0) → IsSeen d s after 0 done → HasServed count a d s after 0 done
@@ -130,6 +137,7 @@ seen_serves count a d s after done is small h seen =
           (follows_as count a seen.next.seen seen.behind (serving_in d after 0) seen.stands_as behind);
       stands = seen.stands;
       request_stays = seen.request_stays;
+      rests = rests_still s after 0 (call_idle (server_at s 0).step is) seen.cache;
     }
 
 pub calls_serve : CallsServe

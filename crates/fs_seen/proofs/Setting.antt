@@ -17,6 +17,7 @@ use Rattle.lib_os.proofs.SlotsSet.{both_set}
 use Rattle.fs_blocks.specs.declared.place.CacheState.{CacheState}
 use Rattle.fs_blocks.specs.CachePlaces.{state_in as cache_in}
 use Rattle.fs_cache.specs.CacheStands.{CacheAt, CacheStands, cache_view, cached_at, cached_in}
+use Rattle.fs_cache.specs.CacheSteps.{cache_state}
 use Rattle.fs_jobs.specs.declared.place.Job.{Job}
 use Rattle.fs_jobs.specs.declared.place.TreeState.{TreeState}
 use Rattle.fs_places.specs.TreePlaces as places
@@ -134,6 +135,7 @@ pub record HasGoneOn (d : Disk) (mid after : KernelState) (n : ℕ) (next : Serv
   pub over : StandsOver d after n
   pub request_stays : has_request after n ≡ has_request mid n
   pub stands_as : ServesAlike (going_to next job (view_in d mid n)) (serving_in d after n)
+  pub cache : cache_state after n ≡ cache_state mid n
 
 -- the server stands at the step to which it goes
 pub record StandsNext (after : KernelState) (n : ℕ) (next : ServerNext) : Type 0 where
@@ -170,6 +172,14 @@ module _ (mid : KernelState) (n : ℕ) (next : ServerNext) where
         kind = ap (λ (x : Slot). (server_in x.registers x.extra).kind) there ∙ so.kind;
         number = ap (λ (x : Slot). (server_in x.registers x.extra).number) there ∙ so.number;
       }
+
+  -- and its cache where it stood
+  pub gone_cache : GoesWell next → length (slot_at mid n).extra ≡ 12 → (after : KernelState) → after ≡ server.gone_on mid n next →
+      cache_state after n ≡ cache_state mid n
+  gone_cache well long after is =
+      ap (λ (x : Slot). cache_in x.extra) (ap (λ (k : KernelState). slot_at k n) (is ∙ gone_is) ∙ slot_put mid n slot)
+      ∙ cache_alike words (slot_at mid n).extra
+      (begun_rest (slot_at mid n).registers (slot_at mid n).extra next.state well.below long next.begins)
 
   module _ (d : Disk) (well : GoesWell next) (h : StandsOver d mid n) (job : TreeState)
       (in_order : IsInOrder (with_slot_at mid n slot)) where
@@ -218,6 +228,7 @@ module _ (mid : KernelState) (n : ℕ) (next : ServerNext) where
       over = over_set mid n slot refl d h in_order h.cache.live refl long cache;
       request_stays = requested_set mid n slot refl;
       stands_as = stands_so;
+      cache = ap (λ (x : Slot). cache_in x.extra) there ∙ cache;
     }
 
   -- by the state that is reached

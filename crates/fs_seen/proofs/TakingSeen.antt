@@ -253,6 +253,7 @@ module _ (d : Disk) (s : KernelState) (n : ℕ) (h : StandsOver d s n) (number :
       value = (slot_at s n).rendezvous.value;
       sender = (slot_at s n).rendezvous.sender;
     };
+    cache = refl;
   }
 
 -- ---- where none was to be had
@@ -278,6 +279,7 @@ refused_behind d s n h = record {
   };
   request_stays = refl;
   view = refl;
+  cache = refl;
 }
 
 -- ---- the call

@@ -31,7 +31,8 @@ module _ (d : Disk) (s : KernelState) (n : ℕ) (h : StandsOver d s n) where
   -- where nothing changes
   pub stands_still : (mid : KernelState) (t : SpacesState) → mid ≡ with_spaces s t → t ≡ s.spaces → IsBehind d s mid n (view_in d s n)
   stands_still mid t is same =
-      subst (λ (m : KernelState). IsBehind d s m n (view_in d s n)) (sym (is ∙ ap (with_spaces s) same)) (record { over = h; request_stays = refl; view = refl })
+      subst (λ (m : KernelState). IsBehind d s m n (view_in d s n)) (sym (is ∙ ap (with_spaces s) same))
+      (record { over = h; request_stays = refl; view = refl; cache = refl })
 
   -- where the bit of a region is set
   region_stands : (r : ℕ) → IsInOrder (with_spaces s (with_region_bit s.spaces (slot_at s n).directory r)) →
@@ -49,6 +50,7 @@ module _ (d : Disk) (s : KernelState) (n : ℕ) (h : StandsOver d s n) where
             });
         request_stays = refl;
         view = view_alike s n t (λ q q_is. refl) (λ q q_is. refl) d (memory_kept d s n h t in_order kept alike) (λ frame. refl);
+        cache = refl;
       }
 
   -- ---- the message

@@ -1,3 +1,4 @@
+pub mod ServerFew
 pub mod ServerMemory
 pub mod ServerSees
 pub mod BlockSteps

@@ -11,6 +11,12 @@ use Rattle.lib_os.specs.Disk.{Disk}
 use Rattle.lib_os.specs.InOrder.{IsInOrder}
 use Rattle.lib_os.specs.UserCalls.{Output}
 use Rattle.lib_os.specs.AbstractState.{AbstractState}
+use Rattle.fs_blocks.specs.declared.place.CachePlace.{CachePlace}
+use Rattle.fs_cache.specs.CacheSteps.{cache_state, is_fetching}
+use Rattle.fs_jobs.specs.declared.asks.TreeAsk.{TreeAsk}
+use Rattle.fs_jobs.specs.declared.asks.TreeAsk.TheVariants as ask
+use Rattle.fs_runs.specs.TreePlans as tree
+use Rattle.fs_tree.specs.TreeSteps.{job_in}
 use Rattle.fs_requests.specs.declared.plan.ServerNext.{ServerNext}
 use Rattle.fs_requests.specs.declared.state.ServerState.{ServerState}
 use Rattle.fs_requests.specs.declared.state.ServerStep.{ServerStep}
@@ -97,9 +103,22 @@ pub record AllStands (d : Disk) (s : KernelState) (n : ℕ) : Type 0 where
   pub words : HasWords s n
   pub request : HasWholeRequest s n
 
+-- ---- the cache
+
+-- Where the server runs no job its cache fetches no block, nor where the job's next step is one on the page of the request.
+abbrev pub AccessRests : TreeAsk → CachePlace → Type 0
+AccessRests (ask.Request at) place = is_fetching place ≡ false
+AccessRests (ask.HandBack at byte) place = is_fetching place ≡ false
+AccessRests _ place = Unit {0}
+
+abbrev pub CacheRests : ServerStep → KernelState → ℕ → Type 0
+CacheRests step.Working s n = AccessRests (tree.ask_at (job_in s n)) (cache_state s n).place
+CacheRests step.Finding s n = AccessRests (tree.ask_at (job_in s n)) (cache_state s n).place
+CacheRests _ s n = is_fetching (cache_state s n).place ≡ false
+
 -- ---- what is so behind one
 
--- The server by itself has made the call, and stands as it does over the kernel; all stands.
+-- The server by itself has made the call, and stands as it does over the kernel; all stands, and the cache as it stood.
 pub record IsSeen (d : Disk) (s after : KernelState) (n : ℕ) (done : Progress) : Type 0 where
   pub next : ServerNext
   pub behind : Serving
@@ -108,6 +127,7 @@ pub record IsSeen (d : Disk) (s after : KernelState) (n : ℕ) (done : Progress)
   pub shows : done ≡ next.seen
   pub stands : StandsOver d after n
   pub request_stays : has_request after n ≡ has_request s n
+  pub cache : cache_state after n ≡ cache_state s n
 
 -- No page was to be had: that is counted, the server goes on by the error's number, and sees what it saw.
 pub record LacksPage (d : Disk) (s after : KernelState) (n : ℕ) (done : Progress) : Type 0 where
@@ -150,11 +170,12 @@ makes_call step.Pausing = false
 makes_call at = is_quiet at
 
 -- The server over the kernel stands for the same abstract state behind a hidden step, and behind a visible one for that after the abstract
--- server's step.
+-- server's step. Its cache fetches no block that it should not, if it fetched none before.
 pub record HasServed (count : ℕ) (a : AbstractState) (d : Disk) (s after : KernelState) (n : ℕ) (done : Progress) : Type 0 where
   pub follows : Follows count a done (serving_in d after n)
   pub stands : StandsOver d after n
   pub request_stays : has_request after n ≡ has_request s n
+  pub rests : CacheRests (server_at s n).step s n → CacheRests (server_at after n).step after n
 
 -- The server, which is in slot 0, serves by its own calls as the abstract one does. Where it stands for that, no call needs more. A page may not be
 -- had for a place.

@@ -17,7 +17,7 @@ use Rattle.lib_os.specs.UserCalls.{Output}
 use Rattle.fs_layout.specs.declared.numbers.TheConstants.{MAXBLOCKS}
 use Rattle.fs_cache.specs.CacheSteps.{FLUSH_STEPS_MAX, WAIT_STEPS_MAX, cache_state, flush_left, left_in, steps_of_round, steps_to_begin}
 use Rattle.fs_jobs.specs.declared.place.TreeState.{TreeState}
-use Rattle.fs_runs.specs.JobSteps.{job_steps_max}
+use Rattle.fs_runs.specs.JobCalls.{job_steps_max}
 use Rattle.fs_runs.specs.TreePlans.{ask_at}
 use Rattle.fs_runs.specs.TreeRuns.{Ends, Memory}
 use Rattle.fs_tree.specs.TreeSteps.{access_left, job_in, memory_in}

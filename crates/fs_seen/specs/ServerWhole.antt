@@ -36,7 +36,7 @@ use Rattle.fs_serving.specs.ServerViews.{View}
 use Rattle.fs_server.specs.ServerSteps.{gone_on, server_at}
 use Rattle.fs_seen.specs.ServerMemory.{AreDiskBytes, HasRequested, IsRequestPage, StandsOver, bytes_by, entry_of, has_request, home_in}
 use Rattle.fs_seen.specs.ServerMemory.{is_table_page, place_entry, place_page, records_page, request_page, serving_in, view_in}
-use Rattle.fs_seen.specs.ServerSees.{HasCalledAt, HasServed}
+use Rattle.fs_seen.specs.ServerSees.{CacheRests, HasCalledAt, HasServed}
 
 -- ---- at each moment
 
@@ -54,11 +54,13 @@ ServesBy _ d s n a = StandsServing d.count a (serving_in d s n)
 abbrev pub ServesFor : Disk → KernelState → ℕ → AbstractState → Type 0
 ServesFor d s n a = ServesBy a.server d s n a
 
--- It stands over the disk, serves for the abstract state, and has the page of the request until the act is made.
+-- It stands over the disk, serves for the abstract state, and has the page of the request until the act is made; and its cache fetches no block but
+-- for a job.
 pub record IsServing (d : Disk) (s : KernelState) (n : ℕ) (a : AbstractState) : Type 0 where
   pub stands : StandsOver d s n
   pub serves : ServesFor d s n a
   pub requested : HasRequested a.server s n
+  pub rests : CacheRests (server_at s n).step s n
 
 -- behind its own step: for the same abstract state behind a hidden one, and for that after the abstract server's step behind a visible one
 abbrev pub GoesOnServing : Progress → Disk → KernelState → ℕ → AbstractState → Type 0
@@ -73,7 +75,7 @@ ServersStand = (a : AbstractState) (d : Disk) (s : KernelState) → IsServing d 
 -- What it has served by a step (`CallsServe`, `JobsServe`, `FlushesServe`) is kept.
 abbrev pub ServedIsKept : Type 0
 ServedIsKept = (a : AbstractState) (e : Disk) (s after : KernelState) (done : Progress) → HasRequested a.server s 0 →
-    HasServed e.count a e s after 0 done → GoesOnServing done e after 0 a
+    CacheRests (server_at s 0).step s 0 → HasServed e.count a e s after 0 done → GoesOnServing done e after 0 a
 
 -- ---- the table
 

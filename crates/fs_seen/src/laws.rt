@@ -1,6 +1,7 @@
 //! What the server's calls mean to it. Nothing here is to be run: each clause is a theorem.
 
 ghost use Rattle.fs_seen.specs.BlockSteps.{FlushesServe, JobsAreLawful, JobsServe};
+ghost use Rattle.fs_seen.specs.ServerFew.{CallsTakeFew, FlushesTakeFew, JobsTakeFew, OthersLeaveFew, RequestsTakeFew};
 ghost use Rattle.fs_seen.specs.ServerOthers.{ClientsLeaveServed, ClientsServe, FilesAreApart, GivenFilesAreApart, RepliesGive, RepliesGiving, RepliesWithPage};
 ghost use Rattle.fs_seen.specs.ServerOthers.{StandingCountsTell, TablesAreLeft};
 ghost use Rattle.fs_seen.specs.ServerSees.{CallsAreSeen, CallsGoOn, CallsServe, PagesAreTaken};
@@ -164,6 +165,36 @@ pub fn server_jobs_act_soon()
 #[tactic(auto, using(crate::proofs::ActsSoon::flushes_act_soon))]
 pub fn server_flushes_act_soon()
     ensures { FlushesActSoon }
+{}
+
+/// Where it has a request it makes its act in few calls, where no page is refused.
+#[tactic(auto, using(crate::proofs::FewCalls::requests_take_few))]
+pub fn server_requests_take_few()
+    ensures { RequestsTakeFew }
+{}
+
+/// A call of its own lowers that number, or is seen, or a page was refused.
+#[tactic(auto, using(crate::proofs::FewCalls::calls_take_few))]
+pub fn server_calls_take_few()
+    ensures { CallsTakeFew }
+{}
+
+/// And so does a step of its job on files.
+#[tactic(auto, using(crate::proofs::FewCalls::jobs_take_few))]
+pub fn server_jobs_take_few()
+    ensures { JobsTakeFew }
+{}
+
+/// And one of a flush.
+#[tactic(auto, using(crate::proofs::FewCalls::flushes_take_few))]
+pub fn server_flushes_take_few()
+    ensures { FlushesTakeFew }
+{}
+
+/// A step of another that leaves the bytes of its pages does not raise that number.
+#[tactic(auto, using(crate::proofs::FewStay::others_leave_few))]
+pub fn server_calls_stay_few()
+    ensures { OthersLeaveFew }
 {}
 
 /// A step of a client's that leaves the server leaves what that has, and whom it serves holds the files that it held.

@@ -2,7 +2,7 @@
 -- that it leaves, for no act moves a record, and no file is removed that is open.
 use Rattle.std.proofs.Common.{◌≡◌, ◌∙◌, ◌<◌, ◌*◌, ◌||◌, ◌++◌, ℕ, zero, suc, Bool, true, false, List, [], ◌∷◌, length, Option, Some, None}
 use Rattle.std.proofs.Common.{refl, sym, ap, subst, arith, inl, inr}
-use Rattle.std.specs.Prelude.{◌==◌, ◌+◌, ◌-◌, slice_index, if◌then◌else◌}
+use Rattle.std.specs.Prelude.{◌==◌, slice_index, if◌then◌else◌}
 use Rattle.std.proofs.lemmas.Bool.{false≢true}
 use Rattle.std.proofs.lemmas.Bool.Decides.{nat_tests}
 use Rattle.std.proofs.lemmas.Slice.Eq.{bytes_eq-Decides}
@@ -14,8 +14,7 @@ use Rattle.fs_layout.specs.declared.numbers.TheConstants.{BLKSIZE}
 use Rattle.fs_layout.specs.FileTree.{FileAct, FileSystem}
 use Rattle.fs_layout.specs.FileTree.{open_path, read_file, remove_path, set_file_size}
 use Rattle.fs_layout.specs.FileTree.{stat_file, sync_files, write_file}
-use Rattle.fs_layout.specs.FileActs.{Acted, done, file_act}
-use Rattle.fs_layout.specs.FileActs.{there}
+use Rattle.fs_layout.specs.FileActs.{Acted, file_act}
 use Rattle.fs_layout.specs.DiskImage.{block_count, is_directory_at}
 use Rattle.fs_layout.specs.DiskFiles.{IsDiskImage, file_system_of}
 use Rattle.fs_acts.specs.BlockActs.{Led, a_record, empty_it, led_to, place_at, plan_of, planned, remove_led, resizing, turned_down}

@@ -3,6 +3,7 @@ pub mod SameTables
 pub mod Tables
 pub mod HeldFiles
 pub mod ActsDone
+pub mod ActsAt
 pub mod Acting
 pub mod Working
 pub mod Opening

@@ -117,7 +117,7 @@ module _ (count : ℕ) (a : AbstractState) (it : Serving) (before : Memory) (sen
               first = refl;
               running =
                   subst (λ (m : Memory). IsRunning count (found_place before.disk (led_to before.disk path)) before (begun_with job.Find) m)
-                  (sym memory) (record { left = found.0; soon = found.1; ends = found.2 });
+                  (sym memory) (record { left = found.0; soon = found.1; ends = found.2; few = found.3 });
             });
       }
   by-asked kind.Sync request kind_is server runs.syncs =

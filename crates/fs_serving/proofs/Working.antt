@@ -17,8 +17,8 @@ use Rattle.fs_acts.specs.BlockActs.{growth, led_to, make_record, no_record, open
 use Rattle.fs_acts.specs.BlockActs.{puts_of, remove_led, resizing, size_plan, too_long, turned_down, written}
 use Rattle.fs_jobs.specs.declared.place.Job.TheVariants as job
 use Rattle.fs_jobs.specs.declared.place.TreeState.{TreeState}
-use Rattle.fs_runs.specs.JobSteps.{job_steps_max}
-use Rattle.fs_runs.specs.TreeRuns.{AreSmall, Ends, HasActed, HasPath, IsOnItsWay, Memory, begun_with, found_place}
+use Rattle.fs_runs.specs.JobCalls.{find_calls_max, job_steps_max}
+use Rattle.fs_runs.specs.TreeRuns.{AreSmall, Ends, HasActed, HasPath, IsOnItsWay, Memory, begun_with, calls_of, found_place}
 use Rattle.fs_runs.proofs.JobsWhole.{all_finds_are_looks}
 use Rattle.fs_runs.proofs.OpensFound.{opens_lead}
 use Rattle.fs_runs.proofs.Ways.{ways_go_on}
@@ -214,7 +214,7 @@ module _ (count : ℕ) (a : AbstractState) (it : Serving) (before : Memory) (fil
           regular = regular;
           named = named;
         })
-        (record { left = found.0; soon = found.1; ends = runs });
+        (record { left = found.0; soon = found.1; ends = runs.0; few = runs.1 });
   }
     where
       m : Memory
@@ -246,7 +246,8 @@ module _ (count : ℕ) (a : AbstractState) (it : Serving) (before : Memory) (fil
       done : ActIsDone count a it.view (open_path path mode) 0 before m
       done = acts_are_done count a it.view (open_path path mode) 0 before m has_path.no_nul files table acted
 
-      found : (n : ℕ) × (n ≤ job_steps_max count) × Ends count (found_place m.disk (led_to m.disk path)) m n (begun_with job.Find) m
+      found : (n : ℕ) × (n ≤ job_steps_max count)
+          × (ends : Ends count (found_place m.disk (led_to m.disk path)) m n (begun_with job.Find) m) × (calls_of None ends ≤ find_calls_max count)
       found =
           all_finds_are_looks count path m (record { disk = done.files.disk; count_is = done.files.count_is; small = small })
           (path-stays (is_file_open a) path mode 0 before m acted has_path)
@@ -256,8 +257,10 @@ module _ (count : ℕ) (a : AbstractState) (it : Serving) (before : Memory) (fil
           ap (found_place m.disk) leads
           ∙ ap (λ (b : Bool). if b then negated E_INVAL else home) regular
 
-      runs : Ends count home m found.0 (begun_with job.Find) m
-      runs = subst (λ (n : ℕ). Ends count n m found.0 (begun_with job.Find) m) home_is found.2
+      runs : (ends : Ends count home m found.0 (begun_with job.Find) m) × (calls_of None ends ≤ find_calls_max count)
+      runs =
+          subst (λ (n : ℕ). (ends : Ends count n m found.0 (begun_with job.Find) m) × (calls_of None ends ≤ find_calls_max count)) home_is
+          (found.2, found.3)
 
   -- bytes were moved, or not
   has-moved : (word : ℕ) (k : RequestKind) (f : FileAct) (name : ℕ) (place : Option ℕ) → IsBusy a it before place k (act f (Some name)) → k ≢ kind.Open →

@@ -16,9 +16,10 @@ use Rattle.fs_acts.specs.BlockActs.{a_record, led_to, place_at}
 use Rattle.fs_jobs.specs.declared.asks.TreeNext.TheVariants.{Answer, GoOn}
 use Rattle.fs_jobs.specs.declared.place.TreeState.{TreeState}
 use Rattle.fs_jobs.specs.TreeBounds.{is_bounded}
-use Rattle.fs_runs.specs.JobSteps.{job_steps_max}
+use Rattle.fs_runs.specs.JobCalls.{find_calls_max, job_steps_max}
 use Rattle.fs_runs.specs.TreePlans as tree
-use Rattle.fs_runs.specs.TreeRuns.{AreSmall, HasActed, HasPath, IsInside, IsOnItsWay, IsRunning, Memory, bytes_given, found_place, memory_after, reply_of}
+use Rattle.fs_runs.specs.TreeRuns.{AreSmall, FewerCalls, HasActed, HasPath, IsInside, IsOnItsWay, IsRunning, Memory, bytes_given, calls_of}
+use Rattle.fs_runs.specs.TreeRuns.{found_place, memory_after, reply_of}
 use Rattle.lib_os.specs.declared.numbers.TheConstants.{DEVICE_FILE, FD_DEVICE, FD_FILE, FD_MODE, FD_OFFSET, MAXOPEN}
 use Rattle.lib_os.specs.declared.numbers.TheConstants.{REQUEST_COUNT, REQUEST_FILE, REQUEST_MODE}
 use Rattle.lib_os.specs.declared.progress.Progress.{Progress}
@@ -26,7 +27,7 @@ use Rattle.lib_os.specs.declared.progress.Progress.TheVariants as progress
 use Rattle.lib_os.specs.declared.request.RequestKind.{RequestKind}
 use Rattle.lib_os.specs.declared.request.RequestKind.TheVariants as kind
 use Rattle.lib_os.specs.Requests as requests
-use Rattle.lib_os.specs.AbstractState.{AbstractState, OpenFile, file, Request, act, seek, leaving, looking, busy, acted}
+use Rattle.lib_os.specs.AbstractState.{AbstractState, OpenFile, Server, file, Request, act, seek, leaving, looking, busy, acted}
 use Rattle.lib_os.specs.AbstractLaws.{client_served}
 use Rattle.lib_os.specs.Descriptors.{holds_in, is_held}
 use Rattle.lib_os.specs.FileServer.{is_count, is_file_open, is_held_by, low_mode, request_begun, server_step}
@@ -373,6 +374,12 @@ is_serving step.Replying = false
 is_serving step.Pausing = false
 is_serving _ = true
 
+-- The file server is busy with a request whose act is not made.
+abbrev pub is_acting : Server → Bool
+is_acting (looking client request number) = true
+is_acting (busy client request place) = true
+is_acting _ = false
+
 -- Behind a hidden step the server stands for the same abstract state, and behind a visible one for that after the abstract server's step.
 abbrev pub Follows : ℕ → AbstractState → Progress → Serving → Type 0
 Follows count a progress.Hidden it = StandsServing count a it
@@ -428,13 +435,38 @@ left_at _ count a it before is = 0
 abbrev pub job_left : (count : ℕ) (a : AbstractState) (it : Serving) → StandsServing count a it → ℕ
 job_left count a it stands = left_at it.state.step count a it stands.before stands.at
 
+-- and how many calls, by the block that was found last
+abbrev pub found_calls : (count : ℕ) (a : AbstractState) (it : Serving) (before : Memory) → IsFound count a it before → Option ℕ → ℕ
+found_calls count a it before (opened path mode home is run) found = calls_of found run.ends
+found_calls count a it before (removed is) found = calls_of found is.running.ends
+
+abbrev pub calls_at : (at : ServerStep) (count : ℕ) (a : AbstractState) (it : Serving) (before : Memory) → StandsAtStep at count a it before →
+    Option ℕ → ℕ
+calls_at step.Working count a it before is found = calls_of found is.on_its_way.ends
+calls_at step.Finding count a it before is found = found_calls count a it before is found
+calls_at _ count a it before is found = 0
+
+abbrev pub job_calls : (count : ℕ) (a : AbstractState) (it : Serving) → StandsServing count a it → Option ℕ → ℕ
+job_calls count a it stands found = calls_at it.state.step count a it stands.before stands.at found
+
+-- the most of them, by what is asked for: a path that is opened, or removed, is looked up beside the act
+abbrev pub work_calls_max : Option RequestKind → ℕ → ℕ
+work_calls_max (Some kind.Open) count = 2 ^ 12 * count + 59000
+work_calls_max (Some kind.Remove) count = 2 ^ 12 * count + 55000
+work_calls_max other count = 2 ^ 13 * count + 65000
+
+abbrev pub job_calls_max : ServerStep → Option RequestKind → ℕ → ℕ
+job_calls_max step.Finding k count = find_calls_max count
+job_calls_max _ k count = work_calls_max k count
+
 -- A job that goes on.
 abbrev pub job_on : Serving → TreeState → Serving
 job_on it next = record (worked it) { job = next }
 
--- The blocks of the disk bound how many these are, and where the job goes on it is one fewer.
+-- The blocks of the disk bound how many these are, and where the job goes on it is one fewer, and its calls are fewer.
 abbrev pub JobsEndSoon : Type 0
 JobsEndSoon = (count : ℕ) (a : AbstractState) (it : Serving) (stands : StandsServing count a it) → has_job it.state.step ≡ true →
-    (job_left count a it stands ≤ job_steps_max count)
+    (job_left count a it stands ≤ job_steps_max count) × (job_calls count a it stands None ≤ job_calls_max it.state.step it.state.kind count)
     × ((next : TreeState) → tree.next_at it.job (word_worked it) ≡ GoOn next →
-    (further : StandsServing count a (job_on it next)) × (suc (job_left count a (job_on it next) further) ≡ job_left count a it stands))
+    (further : StandsServing count a (job_on it next)) × (suc (job_left count a (job_on it next) further) ≡ job_left count a it stands)
+    × FewerCalls (tree.ask_at it.job) (job_calls count a it stands) (job_calls count a (job_on it next) further))

@@ -8,7 +8,8 @@ pub fn servers_serve()
     ensures { ServersServe }
 {}
 
-/// The job of a request has no more steps left than the disk's blocks allow, and each lowers this number.
+/// The job of a request has no more steps left than the disk's blocks allow, and each lowers this number; no more calls of the kernel either, and
+/// a step's are fewer behind it.
 pub fn jobs_end_soon()
     ensures { JobsEndSoon }
 {}

@@ -83,6 +83,12 @@ module _ (d : Disk) (v w : CacheView) (b hand : ℕ) (e : Entry) (bytes : List �
     | inr ne ↦ h.entries m x (was m x ne is)
   ]
 
+  dirty_still : b < d.count → (m : ℕ) (x : Entry) → w.row m ≡ Some x → has_bit x.perm PTE_D ≡ true → m < d.count
+  dirty_still below m x is on = elim (cases_eq m b) [
+    | inl same ↦ subst (λ (k : ℕ). k < d.count) (sym same) below
+    | inr ne ↦ h.dirty m x (was m x ne is) on
+  ]
+
   pages_still : IsPage bytes → (m : ℕ) (x : Entry) → w.row m ≡ Some x → IsPage (w.bytes x.frame)
   pages_still page m x is = elim (cases_eq m b) [
     | inl same ↦ subst (λ (y : List ℕ). IsPage y) (sym (bytes_at m x same is)) page
@@ -123,12 +129,13 @@ module _ (d : Disk) (v w : CacheView) (b hand : ℕ) (e : Entry) (bytes : List �
         sym from.2 ∙ clean_still m from.0 from.1 below clean;
   }
 
-  pub block_stands : IsPage bytes → CacheStands d w (at.Found b) hand
-  block_stands page = record {
+  pub block_stands : IsPage bytes → b < d.count → CacheStands d w (at.Found b) hand
+  block_stands page below = record {
     block_below = h.block_below;
     hand_below = h.hand_below;
     cache = cache_still page;
     entries = entries_still;
+    dirty = dirty_still below;
     pages = pages_still page;
     apart = apart_still;
     at = ap (λ (o : Option Entry). is_some o) a.set;
@@ -252,13 +259,13 @@ module _ (d : Disk) (s : KernelState) (n b : ℕ) (h : TreeAt d s n) (found : (c
   found_value =
       ap (λ (p : CachePlace). block_value d (cached_at (cache_view s.spaces dir) p) b) found ∙ rw stands refl
 
-  module _ (bytes : List ℕ) (page : IsPage bytes) (t : SpacesState) (in_order : IsInOrder (with_spaces s t))
+  module _ (of_disk : b < d.count) (bytes : List ℕ) (page : IsPage bytes) (t : SpacesState) (in_order : IsInOrder (with_spaces s t))
       (a : PageAccessed s.spaces t dir (number_of b) e bytes) where
     abbrev seen : BlockAccessed (cache_view s.spaces dir) (cache_view t dir) b e bytes
     seen = block_accessed s.spaces t dir b holds.block_below e bytes a
 
     still : CacheStands d (cache_view t dir) (at.Found b) hand
-    still = block_stands d (cache_view s.spaces dir) (cache_view t dir) b hand e bytes holds stands seen page
+    still = block_stands d (cache_view s.spaces dir) (cache_view t dir) b hand e bytes holds stands seen page of_disk
 
     cache_at : CacheAt d (with_spaces s t) n
     cache_at = record {
@@ -303,8 +310,8 @@ module _ (d : Disk) (s : KernelState) (n b : ℕ) (h : TreeAt d s n) (found : (c
       };
     }
 
-  pub block_law : (mid : KernelState) (bytes : List ℕ) → IsPage bytes → IsInOrder mid → HasAccessed s mid n (number_of b) e bytes →
+  pub block_law : b < d.count → (mid : KernelState) (bytes : List ℕ) → IsPage bytes → IsInOrder mid → HasAccessed s mid n (number_of b) e bytes →
       BlockLaw d s mid n b bytes
-  block_law mid bytes page in_order a =
+  block_law of_disk mid bytes page in_order a =
       subst (λ (k : KernelState). BlockLaw d s k n b bytes) (sym a.is)
-      (law_there bytes page a.spaces (subst (λ (k : KernelState). IsInOrder k) a.is in_order) a.accessed)
+      (law_there of_disk bytes page a.spaces (subst (λ (k : KernelState). IsInOrder k) a.is in_order) a.accessed)

@@ -33,13 +33,15 @@ use Rattle.lib_os.proofs.BytesPut.{put_is}
 use Rattle.lib_os.proofs.CallsMade.{sets_twice}
 use Rattle.lib_os.proofs.Slots.{slot_put}
 use Rattle.lib_os.proofs.SlotsSet.{both_set, set_live}
+use Rattle.fs_blocks.specs.declared.place.CachePlace.{CachePlace}
 use Rattle.fs_blocks.specs.declared.place.CachePlace.TheVariants as cached_place
 use Rattle.fs_blocks.specs.declared.place.CacheState.{CacheState}
 use Rattle.fs_blocks.specs.declared.plan.Told.{Told}
 use Rattle.fs_cache.specs.declared.steps.Cached.TheVariants as cached
 use Rattle.fs_blocks.specs.CachePlaces.{state_in as cache_in, with_state}
 use Rattle.fs_blocks.specs.CachePlans.{ask_at as asked_at, next_at as cache_next}
-use Rattle.fs_cache.specs.CacheSteps.{Caller, FetchTold, HasGone, IsBlockStep, KeepsCacheWhereDone, as_cached, by_word, cache_state, cached_count, fetch_state, left_in, row_in, stopped}
+use Rattle.fs_cache.specs.CacheSteps.{Caller, ComesOn, FetchTold, HasGone, IsBlockStep, IsReady, KeepsCacheWhereDone, WasRefused}
+use Rattle.fs_cache.specs.CacheSteps.{as_cached, by_word, cache_state, cached_count, fetch_state, left_in, row_in, stopped}
 use Rattle.fs_cache.specs.CacheSteps.{used_count, wait_left}
 use Rattle.fs_cache.proofs.CacheBegins.{own_ask}
 use Rattle.fs_cache.proofs.Callers.{caller_stays}
@@ -59,9 +61,10 @@ use Rattle.fs_places.specs.TreePlaces.{registers_with, state_in, words_with}
 use Rattle.fs_places.proofs.TreeWords.{last_four}
 use Rattle.fs_runs.specs.TreePlans.{ask_at, next_at}
 use Rattle.fs_runs.specs.TreeRuns.{IsInside, memory_after, reply_of}
-use Rattle.fs_tree.specs.TreeSteps.{IsLawful, IsWaiting, KeepsRest, LeavesCache, QuietWhereTold, RestWhereTold, StepsWhereTold, TreeAt}
+use Rattle.fs_tree.specs.TreeSteps.{AccessComes, AccessReady, HasFound, IsLawful, IsWaiting, KeepsRest, LeavesCache, QuietWhereTold, RestWhereTold}
+use Rattle.fs_tree.specs.TreeSteps.{StepsWhereTold, TreeAt}
 use Rattle.fs_tree.specs.TreeSteps.{access_left, answers}
-use Rattle.fs_tree.specs.TreeSteps.{block_left, goes, job_in, lacks, memory_in, waits}
+use Rattle.fs_tree.specs.TreeSteps.{block_left, block_wanted, goes, is_of_disk, job_in, lacks, memory_in, waits}
 use Rattle.fs_jobs.specs.TreeTests.{low_byte}
 use Rattle.fs_tree.proofs.AccessMade.{job_sets}
 use Rattle.fs_tree.proofs.TiesMemory.{HasMade, load_byte_made, load_made, store_byte_made, store_made}
@@ -231,8 +234,9 @@ not_made : (d : Disk) (s mid : KernelState) (n : ℕ) (a : TreeAsk) (why : Stop)
 not_made d s mid n a why makes =
     let contradiction : ◌≡◌ {A = Result ℕ Stop} (Err why) (Ok (reply_of a (memory_in d s n))) = makes.0 in cc
 
-word_done : (d : Disk) (s mid : KernelState) (n : ℕ) (a : TreeAsk) (w : ℕ) → Makes d s mid n a (Ok w) → HasDone d d s mid n a (done.Word w)
-word_done d s mid n a w makes =
+word_done : (d : Disk) (s mid : KernelState) (n : ℕ) (a : TreeAsk) (w : ℕ) → HasFound a (cache_state s n).place → Makes d s mid n a (Ok w) →
+    HasDone d d s mid n a (done.Word w)
+word_done d s mid n a w found makes =
     let same : ◌≡◌ {A = Result ℕ Stop} (Ok w) (Ok (reply_of a (memory_in d s n))) = makes.0 in
     let it : ◌≡◌ {A = ℕ} w (reply_of a (memory_in d s n)) = cc in
     word w it makes.1.stands makes.1.memory
@@ -240,7 +244,24 @@ word_done d s mid n a w makes =
       place = ap (λ (x : Slot). (cache_in x.extra).place) makes.1.slot;
       cached = makes.1.counts.cached;
       used = makes.1.counts.used;
-    })
+    }) found
+
+-- what is asked of the disk is asked of the block that was found
+disk_found : (a : TreeAsk) (at : ℕ) (place : CachePlace) → IsOfDisk a at → place ≡ cached_place.Found (at / BLKSIZE % CACHE_BLOCKS) → HasFound a place
+disk_found (ask.Load p) at place is found = found ∙ ap (λ (x : ℕ). cached_place.Found (block_wanted x)) (sym is)
+disk_found (ask.LoadByte p) at place is found = found ∙ ap (λ (x : ℕ). cached_place.Found (block_wanted x)) (sym is)
+disk_found (ask.Store p value) at place is found = found ∙ ap (λ (x : ℕ). cached_place.Found (block_wanted x)) (sym is)
+disk_found (ask.StoreByte p value) at place is found = found ∙ ap (λ (x : ℕ). cached_place.Found (block_wanted x)) (sym is)
+disk_found (ask.Request p) at place is found = tt
+disk_found (ask.HandBack p value) at place is found = tt
+
+page_found : (a : TreeAsk) (at : ℕ) (place : CachePlace) → IsOfRequest a at → HasFound a place
+page_found (ask.Request p) at place is = tt
+page_found (ask.HandBack p value) at place is = tt
+page_found (ask.Load p) at place is = absurd is
+page_found (ask.LoadByte p) at place is = absurd is
+page_found (ask.Store p value) at place is = absurd is
+page_found (ask.StoreByte p value) at place is = absurd is
 
 -- the number of a block within the disk is its own
 own_block : (d : Disk) (at : ℕ) → d.count ≤ MAXBLOCKS → at / BLKSIZE < d.count → at / BLKSIZE % CACHE_BLOCKS ≡ at / BLKSIZE
@@ -269,7 +290,7 @@ module _ (a : TreeAsk) (at : ℕ) (c : Caller) (is : IsOfDisk a at) (mid : Kerne
       let d = disk_in before c.disk in (
         before,
         same ∙ told,
-        word_done d c.state mid c.slot a w (ready_made d h inside (Ok w) call),
+        word_done d c.state mid c.slot a w (disk_found a at (cache_state c.state c.slot).place is found) (ready_made d h inside (Ok w) call),
       )
 
   pub ready_stopped : (files : Around (Option Files)) (why : Stop) →
@@ -314,7 +335,8 @@ module _ (a : TreeAsk) (at : ℕ) (c : Caller) (is : IsOfRequest a at) (mid : Ke
       let d = disk_in before c.disk in (
         before,
         same ∙ told,
-        word_done d c.state mid c.slot a w (page_made d c.state mid c.slot h output in_order (Ok w) a at (REQUEST + at % PGSIZE) is inside refl call),
+        word_done d c.state mid c.slot a w (page_found a at (cache_state c.state c.slot).place is)
+            (page_made d c.state mid c.slot h output in_order (Ok w) a at (REQUEST + at % PGSIZE) is inside refl call),
       )
 
   never_stopped : (d : Disk) → TreeAt d c.state c.slot → IsInside d.count a → (why : Stop) →
@@ -366,6 +388,34 @@ comes_nearer a at block s after n of number fell =
     by (ask.Request place) is less = absurd is
     by (ask.HandBack place byte) is less = absurd is
 
+-- and it is of the disk
+of_disk_asked : (a : TreeAsk) (at : ℕ) → IsOfDisk a at → is_of_disk a ≡ true
+of_disk_asked (ask.Load place) at is = refl
+of_disk_asked (ask.LoadByte place) at is = refl
+of_disk_asked (ask.Store place value) at is = refl
+of_disk_asked (ask.StoreByte place byte) at is = refl
+of_disk_asked (ask.Request place) at is = absurd is
+of_disk_asked (ask.HandBack place byte) at is = absurd is
+
+-- the calls for the block are those of what asks for it
+comes_fewer : (a : TreeAsk) (at block : ℕ) (place next : CachePlace) (X : Type 0) → IsOfDisk a at → block ≡ at / BLKSIZE % CACHE_BLOCKS →
+    (IsReady block place → ComesOn block place next ⊎ X) → AccessReady a place → AccessComes a place next ⊎ X
+comes_fewer a at block place next X of number fell =
+    by a of (subst (λ (b : ℕ). IsReady b place → ComesOn b place next ⊎ X) number fell)
+  where
+    wanted : (p : ℕ) → p ≡ at → (IsReady (block_wanted at) place → ComesOn (block_wanted at) place next ⊎ X) →
+        IsReady (block_wanted p) place → ComesOn (block_wanted p) place next ⊎ X
+    wanted p is comes = subst (λ (q : ℕ). IsReady (block_wanted q) place → ComesOn (block_wanted q) place next ⊎ X) (sym is) comes
+
+    by : (x : TreeAsk) → IsOfDisk x at → (IsReady (block_wanted at) place → ComesOn (block_wanted at) place next ⊎ X) →
+        AccessReady x place → AccessComes x place next ⊎ X
+    by (ask.Load p) is comes = wanted p is comes
+    by (ask.LoadByte p) is comes = wanted p is comes
+    by (ask.Store p value) is comes = wanted p is comes
+    by (ask.StoreByte p byte) is comes = wanted p is comes
+    by (ask.Request p) is comes = absurd is
+    by (ask.HandBack p byte) is comes = absurd is
+
 -- the cache has made a step
 module _ (a : TreeAsk) (block : ℕ) (c : Caller) (below : block < CACHE_BLOCKS) (files : Around (Option Files)) (after : KernelState)
     (output : Output) where
@@ -374,10 +424,12 @@ module _ (a : TreeAsk) (block : ℕ) (c : Caller) (below : block < CACHE_BLOCKS)
       FetchTold block (Ok cached.Going) c.disk c.slot (from_to c.state after) files.before →
       DoesWhereTold a (Ok done.Going) c.disk c.slot (from_to c.state after) files
   cache_going at of number made keeps tells before is h inside =
-      let waited = step_waits c block below before h made.0 output files after is made.2 keeps in (
+      let waited = step_waits c block below before h made.0 output files after is made.2 keeps in
+      let told = tells before is h.cache in (
         waited.0,
         waited.1,
-        going waited.2 (comes_nearer a at block c.state after c.slot of number (tells before is h.cache).1),
+        going (of_disk_asked a at of) waited.2 (comes_nearer a at block c.state after c.slot of number told.1)
+            (comes_fewer a at block (cache_state c.state c.slot).place (cache_state after c.slot).place (WasRefused c.state after) of number told.2),
       )
 
   pub cache_lacks : IsBlockStep block c (Ok cached.NoPage) files after output →
@@ -386,7 +438,7 @@ module _ (a : TreeAsk) (block : ℕ) (c : Caller) (below : block < CACHE_BLOCKS)
       DoesWhereTold a (Ok done.NoPage) c.disk c.slot (from_to c.state after) files
   cache_lacks made keeps tells before is h inside =
       let waited = step_waits c block below before h made.0 output files after is made.2 keeps in
-      (waited.0, waited.1, no_page waited.2 (tells before is h.cache).0)
+      let told = tells before is h.cache in (waited.0, waited.1, no_page waited.2 told.0 told.2)
 
   pub cache_leaves : (step : Told) (x : Done) → HasGone (fetch_state c.state c.slot block) c files step after output →
       LeavesWhereInside a (Ok x) c.disk c.slot (from_to c.state after) files.before output
@@ -435,15 +487,17 @@ known_state s n state regs words is regs_are words_are = is ∙ (λ i. state_in 
 
 as_word : {d e : Disk} {s mid : KernelState} {n : ℕ} {a : TreeAsk} {w : ℕ} → HasDone d e s mid n a (done.Word w) →
     (w ≡ reply_of a (memory_in d s n)) × TreeAt e mid n × (memory_in e mid n ≡ memory_after a (memory_in d s n)) × LeavesCache s mid n
-as_word (word w is stands memory cache) = (is, stands, memory, cache)
+    × HasFound a (cache_state s n).place
+as_word (word w is stands memory cache found) = (is, stands, memory, cache, found)
 
 as_waiting : {d e : Disk} {s mid : KernelState} {n : ℕ} {a : TreeAsk} → HasDone d e s mid n a done.Going →
-    IsWaiting d e s mid n × (access_left a mid n < access_left a s n)
-as_waiting (going waiting nearer) = (waiting, nearer)
+    IsWaiting d e s mid n × (access_left a mid n < access_left a s n) × (is_of_disk a ≡ true)
+    × (AccessReady a (cache_state s n).place → AccessComes a (cache_state s n).place (cache_state mid n).place ⊎ WasRefused s mid)
+as_waiting (going of waiting nearer comes) = (waiting, nearer, of, comes)
 
 as_lacking : {d e : Disk} {s mid : KernelState} {n : ℕ} {a : TreeAsk} → HasDone d e s mid n a done.NoPage →
-    IsWaiting d e s mid n × (s.refusals < 2 ^ 64 - 1 → s.refusals < mid.refusals)
-as_lacking (no_page waiting refused) = (waiting, refused)
+    IsWaiting d e s mid n × WasRefused s mid × ((cache_state mid n).place ≡ cached_place.Resting)
+as_lacking (no_page waiting refused rests) = (waiting, refused, rests)
 
 module _ (disk : DiskFile) (n : ℕ) (s mid : KernelState) (files : Around (Option Files)) (a : TreeAsk) (asks : a ≡ ask_at (job_in s n)) where
   inside : (before : Files) → IsLawful (disk_in before disk) s n → IsInside disk.blocks a
@@ -521,14 +575,25 @@ module _ (disk : DiskFile) (n : ℕ) (s mid : KernelState) (files : Around (Opti
   step_going does before is h lawful =
       let came = own done.Going does before is h lawful in
       let both = as_waiting came.2 in
-      (came.0, came.1, waits (record { stands = both.0.stands; job = both.0.job; memory = both.0.memory; nearer = both.1 }))
+      let waiting = both.0 in (
+        came.0,
+        came.1,
+        waits (record {
+          of_disk = both.2;
+          stands = waiting.stands;
+          job = waiting.job;
+          memory = waiting.memory;
+          nearer = both.1;
+          comes = both.3;
+        }),
+      )
 
   pub step_lacks : DoesWhereTold a (Ok done.NoPage) disk n (from_to s mid) files →
       StepsWhereTold (Ok (acted.Answer (negated E_NO_MEM))) disk n (from_to s mid) files
   step_lacks does before is h lawful =
       let came = own done.NoPage does before is h lawful in
       let both = as_lacking came.2 in
-      (came.0, came.1, lacks both.0 both.1)
+      (came.0, came.1, lacks both.0 both.1 both.2)
 
   module _ (w : ℕ) (does : DoesWhereTold a (Ok (done.Word w)) disk n (from_to s mid) files) where
     pub step_answers : (answer : ℕ) → next_at (job_in s n) w ≡ Answer answer → StepsWhereTold (Ok (acted.Answer answer)) disk n (from_to s mid) files
@@ -537,7 +602,8 @@ module _ (disk : DiskFile) (n : ℕ) (s mid : KernelState) (files : Around (Opti
         let three = as_word came.2 in (
           came.0,
           came.1,
-          answers answer (record { cache = three.3; stands = three.1; memory = three.2 }) (ap (next_at (job_in s n)) (sym three.0) ∙ ends),
+          answers answer (record { cache = three.3; found = three.4; stands = three.1; memory = three.2 })
+              (ap (next_at (job_in s n)) (sym three.0) ∙ ends),
         )
 
     pub step_goes_on : (next : TreeState) (after : KernelState) → next_at (job_in s n) w ≡ GoOn next → IsInOrder after →
@@ -556,6 +622,7 @@ module _ (disk : DiskFile) (n : ℕ) (s mid : KernelState) (files : Around (Opti
                   cached = ap cached_count it.row ∙ three.3.cached;
                   used = subst (λ (row : EntryRow). used_count row ≤ used_count (row_in s n) + 1) (sym it.row) three.3.used;
                 };
+                found = three.4;
                 stands = it.stands;
                 memory = it.memory ∙ three.2;
               }) (ap (next_at (job_in s n)) (sym three.0) ∙ on) it.job,

@@ -208,7 +208,7 @@ module _ (d : Disk) (s : KernelState) (n at : ℕ) (h : TreeAt d s n) (below : a
     has_read : (a : TreeAsk) → memory_after a (memory_in d s n) ≡ memory_in d s n →
         HasAccessed s mid n (number_of b) e (s.spaces.pages e.frame) → HasMade d s mid n a
     has_read a same accessed =
-        let law = block_law d s n b h found e stands mid (s.spaces.pages e.frame) page in_order accessed in
+        let law = block_law d s n b h found e stands below mid (s.spaces.pages e.frame) page in_order accessed in
         let disk : disk_bytes d (cached_in mid n) ≡ disk_bytes d (cached_in s n) =
         disk_same d (cached_in s n) (cached_in mid n) b law.beside (law.there ∙ sym value) in
         record {
@@ -224,7 +224,7 @@ module _ (d : Disk) (s : KernelState) (n at : ℕ) (h : TreeAt d s n) (below : a
         AreBytes new → at % BLKSIZE + length new ≤ BLKSIZE →
         HasAccessed s mid n (number_of b) e (bytes_put (s.spaces.pages e.frame) (page_offset va) new) → HasMade d s mid n a
     has_stored a new disk disk_is same small fits accessed =
-        let law = block_law d s n b h found e stands mid (bytes_put (s.spaces.pages e.frame) (page_offset va) new)
+        let law = block_law d s n b h found e stands below mid (bytes_put (s.spaces.pages e.frame) (page_offset va) new)
         (put_whole (s.spaces.pages e.frame) (page_offset va) new small page) in_order accessed in
         let put : block_value d (cached_in mid n) b ≡ bytes_put (block_value d (cached_in s n) b) (at % BLKSIZE) new =
         law.there ∙ (λ i. bytes_put (sym value i) (offset_at i) new) in

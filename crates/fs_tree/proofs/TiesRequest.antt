@@ -101,6 +101,7 @@ module _ (d : Disk) (v : CacheView) (bytes : ℕ → List ℕ) (same : (m : ℕ)
     hand_below = h.hand_below;
     cache = subst (λ (c : CachedBlocks). IsCache d c) (sym (cached_same place)) h.cache;
     entries = h.entries;
+    dirty = h.dirty;
     pages = λ m x is. subst (λ (page : List ℕ). IsPage page) (sym (same m x is)) (h.pages m x is);
     apart = h.apart;
     at = holds_at place hand h.at;

@@ -1,6 +1,6 @@
 -- What a job asks, done over the block cache: an access to a byte or a word of a block that has its page, or of the page of the request; or
 -- the cache makes a step.
-use Rattle.std.specs.Prelude.{◌≡◌, ◌⊎◌, ◌<◌, ℕ, ◌+◌, ◌-◌, ◌%◌, ◌^◌, true, [], drop, Option, Some, Result, Ok, Err}
+use Rattle.std.specs.Prelude.{◌≡◌, ◌⊎◌, ◌<◌, ℕ, ◌+◌, ◌-◌, ◌%◌, true, [], drop, Option, Some, Result, Ok, Err}
 use Rattle.jos_host.specs.declared.host.Failed.{Failed}
 use Rattle.jos_host.specs.Files.{Files}
 use Rattle.jos_host.specs.Frames.{Around, from_to}
@@ -16,7 +16,7 @@ use Rattle.lib_os.specs.UserCalls as call
 use Rattle.lib_os.specs.UserCalls.{CallStep, IsStep, Output, Prints, PrintsPart}
 use Rattle.fs_blocks.specs.declared.place.CachePlace.TheVariants as cached_place
 use Rattle.fs_blocks.specs.declared.plan.Told.{Told}
-use Rattle.fs_cache.specs.CacheSteps.{HasGone, cache_state, caller, fetch_state}
+use Rattle.fs_cache.specs.CacheSteps.{HasGone, WasRefused, cache_state, caller, fetch_state}
 use Rattle.fs_jobs.specs.declared.asks.TreeAsk.{TreeAsk}
 use Rattle.fs_jobs.specs.declared.asks.TreeAsk.TheVariants as ask
 use Rattle.fs_tree.specs.declared.steps.Acted.{Acted}
@@ -24,7 +24,8 @@ use Rattle.fs_tree.specs.declared.steps.Done.{Done}
 use Rattle.fs_tree.specs.declared.steps.Done.TheVariants as done
 use Rattle.fs_runs.specs.TreeRuns.{IsInside}
 use Rattle.fs_runs.specs.TreePlans.{ask_at}
-use Rattle.fs_tree.specs.TreeSteps.{IsLawful, IsWaiting, KeepsRest, LeavesCache, TreeAt, access_left, job_in, memory_in}
+use Rattle.fs_tree.specs.TreeSteps.{AccessComes, AccessReady, HasFound, IsLawful, IsWaiting, KeepsRest, LeavesCache, TreeAt, access_left, is_of_disk}
+use Rattle.fs_tree.specs.TreeSteps.{job_in, memory_in}
 use Rattle.fs_runs.specs.TreeRuns.{memory_after, reply_of}
 use Rattle.fs_jobs.specs.TreeTests.{low_byte}
 
@@ -69,9 +70,11 @@ IsOfRequest _ at = ⊥
 -- It is done, or the cache has made a step, or no page was to be had for a block.
 pub data HasDone (d e : Disk) (s after : KernelState) (n : ℕ) (a : TreeAsk) : Done → Type 0 where
   word : (w : ℕ) → w ≡ reply_of a (memory_in d s n) → TreeAt e after n → memory_in e after n ≡ memory_after a (memory_in d s n) → LeavesCache s after n →
-      HasDone d e s after n a (done.Word w)
-  going : IsWaiting d e s after n → access_left a after n < access_left a s n → HasDone d e s after n a done.Going
-  no_page : IsWaiting d e s after n → (s.refusals < 2 ^ 64 - 1 → s.refusals < after.refusals) → HasDone d e s after n a done.NoPage
+      HasFound a (cache_state s n).place → HasDone d e s after n a (done.Word w)
+  going : is_of_disk a ≡ true → IsWaiting d e s after n → access_left a after n < access_left a s n →
+      (AccessReady a (cache_state s n).place → AccessComes a (cache_state s n).place (cache_state after n).place ⊎ WasRefused s after) →
+      HasDone d e s after n a done.Going
+  no_page : IsWaiting d e s after n → WasRefused s after → (cache_state after n).place ≡ cached_place.Resting → HasDone d e s after n a done.NoPage
 
 abbrev pub DoesWhereTold : TreeAsk → Result Done Failed → DiskFile → ℕ → Around KernelState → Around (Option Files) → Type 0
 DoesWhereTold a (Ok told) disk n states files =

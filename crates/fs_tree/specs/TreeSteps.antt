@@ -1,6 +1,6 @@
 -- A step of a job in the environment that serves files: the block that it wants comes nearer, or the job makes its step over what the cache
 -- has of the disk.
-use Rattle.std.specs.Prelude.{◌≡◌, ◌≢◌, ◌<◌, ◌≤◌, ℕ, ◌+◌, ◌/◌, ◌%◌, ◌^◌, ◌-◌, nat_lt, true, [], Option, Some, Result, Ok, Err, if◌then◌else◌}
+use Rattle.std.specs.Prelude.{◌≡◌, ◌≢◌, ◌<◌, ◌≤◌, ◌⊎◌, ℕ, ◌+◌, ◌/◌, ◌%◌, nat_lt, Bool, true, false, [], Option, Some, Result, Ok, Err, if◌then◌else◌}
 use Rattle.jos_host.specs.declared.host.Failed.{Failed}
 use Rattle.jos_host.specs.Files.{Files}
 use Rattle.jos_host.specs.Frames.{Around}
@@ -15,8 +15,11 @@ use Rattle.lib_os.specs.BlockCache.{CachedBlocks, block_value}
 use Rattle.lib_os.specs.Disk.{Disk, DiskFile, byte_in_blocks, disk_in}
 use Rattle.lib_os.specs.Rows.{IsPage}
 use Rattle.lib_os.specs.UserCalls.{Output, Prints, PrintsPart, user_byte}
+use Rattle.fs_blocks.specs.declared.place.CachePlace.{CachePlace}
+use Rattle.fs_blocks.specs.declared.place.CachePlace.TheVariants as cache
 use Rattle.fs_cache.specs.CacheStands.{CacheAt, IsBlockEntry, cached_in}
-use Rattle.fs_cache.specs.CacheSteps.{cache_state, cached_count, left_in, other_left, row_in, used_count, wait_left}
+use Rattle.fs_cache.specs.CacheSteps.{IsReady, WasRefused, block_calls, cache_state, cached_count, is_fetching, left_in, other_left, row_in}
+use Rattle.fs_cache.specs.CacheSteps.{used_count, wait_left}
 use Rattle.fs_jobs.specs.declared.asks.TreeAsk.{TreeAsk}
 use Rattle.fs_jobs.specs.declared.asks.TreeAsk.TheVariants as ask
 use Rattle.fs_jobs.specs.declared.asks.TreeNext.TheVariants.{Answer, GoOn}
@@ -86,9 +89,13 @@ pub record IsWaiting (d e : Disk) (s after : KernelState) (n : ℕ) : Type 0 whe
   pub job : job_in after n ≡ job_in s n
   pub memory : memory_in e after n ≡ memory_in d s n
 
+-- the block in which a byte or a word lies
+abbrev pub block_wanted : ℕ → ℕ
+block_wanted at = at / BLKSIZE % CACHE_BLOCKS
+
 -- how many steps may come until the block has its page of which this is asked; what is asked of the page of the request waits for none
 abbrev pub block_left : ℕ → KernelState → ℕ → ℕ
-block_left at s n = left_in (wait_left (at / BLKSIZE % CACHE_BLOCKS)) (cache_state s n).place s n
+block_left at s n = left_in (wait_left (block_wanted at)) (cache_state s n).place s n
 
 abbrev pub access_left : TreeAsk → KernelState → ℕ → ℕ
 access_left (ask.Load at) s n = block_left at s n
@@ -98,12 +105,51 @@ access_left (ask.StoreByte at byte) s n = block_left at s n
 access_left (ask.Request at) s n = left_in other_left (cache_state s n).place s n
 access_left (ask.HandBack at byte) s n = left_in other_left (cache_state s n).place s n
 
+-- whether a block of the disk is wanted
+abbrev pub is_of_disk : TreeAsk → Bool
+is_of_disk (ask.Request at) = false
+is_of_disk (ask.HandBack at byte) = false
+is_of_disk _ = true
+
+-- Where no page is refused: no fetch is under way, or one of that block, and so many calls are left of it.
+abbrev pub AccessReady : TreeAsk → CachePlace → Type 0
+AccessReady (ask.Load at) place = IsReady (block_wanted at) place
+AccessReady (ask.LoadByte at) place = IsReady (block_wanted at) place
+AccessReady (ask.Store at word) place = IsReady (block_wanted at) place
+AccessReady (ask.StoreByte at byte) place = IsReady (block_wanted at) place
+AccessReady (ask.Request at) place = is_fetching place ≡ false
+AccessReady (ask.HandBack at byte) place = is_fetching place ≡ false
+
+abbrev pub access_calls : TreeAsk → CachePlace → ℕ
+access_calls (ask.Load at) place = block_calls (block_wanted at) place
+access_calls (ask.LoadByte at) place = block_calls (block_wanted at) place
+access_calls (ask.Store at word) place = block_calls (block_wanted at) place
+access_calls (ask.StoreByte at byte) place = block_calls (block_wanted at) place
+access_calls (ask.Request at) place = 0
+access_calls (ask.HandBack at byte) place = 0
+
+-- what is asked of the disk is asked of the block that was found
+abbrev pub HasFound : TreeAsk → CachePlace → Type 0
+HasFound (ask.Load at) place = place ≡ cache.Found (block_wanted at)
+HasFound (ask.LoadByte at) place = place ≡ cache.Found (block_wanted at)
+HasFound (ask.Store at word) place = place ≡ cache.Found (block_wanted at)
+HasFound (ask.StoreByte at byte) place = place ≡ cache.Found (block_wanted at)
+HasFound (ask.Request at) place = Unit {0}
+HasFound (ask.HandBack at byte) place = Unit {0}
+
+-- a step towards it is one call fewer
+abbrev pub AccessComes : TreeAsk → CachePlace → CachePlace → Type 0
+AccessComes it place next = AccessReady it next × (access_calls it next < access_calls it place)
+
 -- it has made one towards the block that the job wants
 pub record ComesNearer (d e : Disk) (s after : KernelState) (n : ℕ) : Type 0 where
+  pub of_disk : is_of_disk (ask_at (job_in s n)) ≡ true
   pub stands : TreeAt e after n
   pub job : job_in after n ≡ job_in s n
   pub memory : memory_in e after n ≡ memory_in d s n
   pub nearer : access_left (ask_at (job_in s n)) after n < access_left (ask_at (job_in s n)) s n
+  pub comes : AccessReady (ask_at (job_in s n)) (cache_state s n).place →
+      AccessComes (ask_at (job_in s n)) (cache_state s n).place (cache_state after n).place ⊎ WasRefused s after
 
 -- the cache stands where it stood, and one page more may have been used
 pub record LeavesCache (s after : KernelState) (n : ℕ) : Type 0 where
@@ -114,6 +160,7 @@ pub record LeavesCache (s after : KernelState) (n : ℕ) : Type 0 where
 -- the job has made its step
 pub record HasMoved (d e : Disk) (s after : KernelState) (n : ℕ) : Type 0 where
   pub cache : LeavesCache s after n
+  pub found : HasFound (ask_at (job_in s n)) (cache_state s n).place
   pub stands : TreeAt e after n
   pub memory : memory_in e after n ≡ memory_after (ask_at (job_in s n)) (memory_in d s n)
 
@@ -125,8 +172,9 @@ pub data HasStepped (d e : Disk) (s after : KernelState) (n : ℕ) : Acted → T
   goes : (next : TreeState) → HasMoved d e s after n → next_at (job_in s n) (reply_in d s n) ≡ GoOn next → job_in after n ≡ next →
       HasStepped d e s after n acted.Going
   answers : (word : ℕ) → HasMoved d e s after n → next_at (job_in s n) (reply_in d s n) ≡ Answer word → HasStepped d e s after n (acted.Answer word)
-  -- no page was to be had for a block
-  lacks : IsWaiting d e s after n → (s.refusals < 2 ^ 64 - 1 → s.refusals < after.refusals) → HasStepped d e s after n (acted.Answer (negated E_NO_MEM))
+  -- no page was to be had for a block, and none is wanted any more
+  lacks : IsWaiting d e s after n → WasRefused s after → (cache_state after n).place ≡ cache.Resting →
+      HasStepped d e s after n (acted.Answer (negated E_NO_MEM))
 
 -- Where the host tells its files, the job's next step is lawful, and all stands.
 abbrev pub StepsWhereTold : Result Acted Failed → DiskFile → ℕ → Around KernelState → Around (Option Files) → Type 0

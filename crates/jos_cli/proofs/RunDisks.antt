@@ -1,5 +1,5 @@
 -- The disk of a run is the one that was found: it has all of its blocks, and the files that stand on it.
-use Rattle.std.proofs.Common.{◌≡◌, ◌∙◌, ℕ, zero, suc, ◌+◌, ◌*◌, ◌/◌, ◌%◌, ◌<◌, ◌≤◌, Bool, true, false, List, [], ◌∷◌, length, Option, Some, None, Result, Ok, Err}
+use Rattle.std.proofs.Common.{◌≡◌, ◌∙◌, ℕ, zero, suc, ◌+◌, ◌*◌, ◌/◌, ◌%◌, ◌<◌, ◌≤◌, Bool, true, false, List, [], ◌∷◌, length, Option, Some, None, Ok, Err}
 use Rattle.std.proofs.Common.{refl, sym, ap, subst, arith}
 use mathlib.Core.Logic.{inl, inr}
 use Rattle.std.specs.Prelude.{◌==◌, nat_le, slice_index, unwrap_or}
@@ -25,7 +25,6 @@ use Rattle.lib_os.specs.Rows.{AreBytes}
 use Rattle.jos_words.specs.Arguments.{Word}
 use Rattle.jos_words.specs.Commands.{Run}
 use Rattle.jos_kernel.specs.Boot.{Loadable}
-use Rattle.jos_run.specs.RunEnds.{BeginsWith, start_of}
 use Rattle.jos_run.specs.DiskTouches.{TouchesDiskOnly}
 use Rattle.jos_run.specs.Start.{HoldsFiles}
 use Rattle.jos_cli.specs.Commands.{path_word}
@@ -33,7 +32,7 @@ use Rattle.jos_cli.specs.Limits.{limit_of_run}
 use Rattle.jos_cli.specs.Found.{FileAt, RunFound, IsRunFound}
 use Rattle.jos_cli.specs.Answer.{Judged, within, schedule_of, input_within}
 use Rattle.jos_cli.specs.Disks.{held_at, checked, checked_by, disk_of, held_on, blocks_on, files_on}
-use Rattle.jos_cli.specs.RunAnswers.{image_on, program_on, GatheredProgram, gathered_program, job_of, disk_file_of, BeginsWithDisk}
+use Rattle.jos_cli.specs.RunAnswers.{image_on, program_on, GatheredProgram, gathered_program, disk_file_of, BeginsWithDisk}
 use Rattle.jos_cli.proofs.Asking.{moves_none}
 use Rattle.jos_cli.proofs.FilesWritten.{keeps_disk}
 use Rattle.jos_cli.proofs.ProgramsRead.{from_schedule, from_program, from_input, read_all}

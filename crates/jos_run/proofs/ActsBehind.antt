@@ -14,8 +14,8 @@ use Rattle.lib_os.specs.AbstractState.{AbstractState, Object, Request, Server, a
 use Rattle.lib_os.specs.AbstractState.{write_end}
 use Rattle.lib_os.specs.FileServer.{act_done, after_act, file_opened, is_count, is_file_open, is_held_by, looked, low_mode, moved_on, offset_in, served}
 use Rattle.lib_os.specs.FileServer.{server_step, with_offset, with_offset_of}
+use Rattle.fs_serving.specs.ServerRuns.{is_acting}
 use Rattle.fs_seen.specs.ServerMemory.{sends_page}
-use Rattle.jos_run.specs.AbstractTurns.{is_acting}
 use Rattle.jos_run.specs.ServerStands.{HasLent, IsLent, IsLentBy}
 
 -- ---- an offset is another

@@ -35,10 +35,10 @@ use Rattle.lib_os.specs.Need.{need}
 use Rattle.lib_os.specs.UserCalls.{Output}
 use Rattle.lib_os.proofs.NeedReached.{need_is_reached}
 use Rattle.lib_os.proofs.ServerReplies.{served_is}
-use Rattle.fs_serving.specs.ServerRuns.{is_serving}
+use Rattle.fs_serving.specs.ServerRuns.{is_acting, is_serving}
 use Rattle.fs_seen.specs.ServerSoon.{SERVER_STEPS_MAX}
 use Rattle.fs_seen.proofs.ActsSoon.{servers_act_within}
-use Rattle.jos_run.specs.AbstractTurns.{is_acting, steps_taken}
+use Rattle.jos_run.specs.AbstractTurns.{steps_taken}
 use Rattle.jos_run.specs.declared.closing.Closing.{Closing}
 use Rattle.jos_run.specs.Closing.{ClosesBy, ClosesRequest, ClosesRun, FailsBy, HasClosedBy, HasClosedSo, HasFailedClosing, HasGoneOn, HasLacked}
 use Rattle.jos_run.specs.Closing.{ActsSooner, ActsWithinOver, IsCutClosing, IsOver, SoonerOver, StandsQuietly}

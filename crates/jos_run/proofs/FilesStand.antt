@@ -23,13 +23,13 @@ use Rattle.fs_runs.specs.TreeRuns.{Memory}
 use Rattle.fs_tree.specs.TreeSteps.{disk_bytes, memory_in}
 use Rattle.fs_requests.specs.declared.state.ServerStep.{ServerStep}
 use Rattle.fs_requests.specs.declared.state.ServerStep.TheVariants as step
-use Rattle.fs_serving.specs.ServerRuns.{HasFiles, StandsAtStep, StandsServing, is_serving}
+use Rattle.fs_serving.specs.ServerRuns.{HasFiles, StandsAtStep, StandsServing, is_acting, is_serving}
 use Rattle.fs_serving.specs.ServerViews.{Serving}
+use Rattle.fs_serving.proofs.ActsAt.{acts_at}
 use Rattle.fs_server.specs.ServerSteps.{server_at}
 use Rattle.fs_seen.specs.ServerMemory.{AreDiskBytes, serving_in}
 use Rattle.fs_seen.specs.ServerWhole.{IsServing, ServesBy}
 use Rattle.fs_seen.proofs.Between.{files_over}
-use Rattle.jos_run.specs.AbstractTurns.{is_acting}
 use Rattle.jos_run.specs.RunLaws.{FilesStand}
 use Rattle.jos_run.specs.RunReports.{TellsFiles}
 use Rattle.jos_run.specs.RunSteps.{HoldsCache, acts_in}
@@ -37,7 +37,6 @@ use Rattle.jos_run.specs.ServerStands.{StandsWhole}
 use Rattle.jos_run.specs.Start.{HoldsFiles}
 use Rattle.jos_run.specs.Steps.{is_awake, is_servers}
 use Rattle.jos_run.specs.Worlds.{beside}
-use Rattle.jos_run.proofs.ServerNow.{acts_at}
 
 -- ---- by its step
 

@@ -33,12 +33,13 @@ use Rattle.lib_os.specs.Rows.{Names}
 use Rattle.lib_os.specs.StandsFor.{StandsFor}
 use Rattle.lib_os.proofs.SlotsStand.{born_at}
 use Rattle.lib_os.proofs.StatesStand.{turn_ended_stands}
+use Rattle.fs_serving.specs.ServerRuns.{is_acting}
 use Rattle.fs_seen.specs.ServerSoon.{SERVER_STEPS_MAX}
 use Rattle.jos_run.specs.Begun.{IsNew}
 use Rattle.jos_run.specs.ServerStands.{StandsWhole}
 use Rattle.jos_run.specs.declared.closing.TheConstants.{CLOSING_MAX}
 use Rattle.jos_run.specs.declared.library_run.LibraryRun.{LibraryRun}
-use Rattle.jos_run.specs.AbstractTurns.{next_slot, is_acting, is_client, any_live, end_of, steps_taken}
+use Rattle.jos_run.specs.AbstractTurns.{next_slot, is_client, any_live, end_of, steps_taken}
 use Rattle.jos_run.specs.LibraryRuns.{others_live, end_seen, IsBetween, IsInTurn}
 use Rattle.jos_run.specs.RunReports.{CutOffBy, HasEnded, HasFinished, HasTakenTurns, IsRefused, IsRefusedInTurn, IsTold, IsToldCutOff, TellsFiles}
 use Rattle.jos_run.specs.RunReports.{ToldBy, behind_turns, in_a_turn, quietly}

@@ -45,7 +45,7 @@ use Rattle.fs_requests.specs.ServerPlans.{call_at, call_for, next_at, next_for, 
 use Rattle.fs_runs.specs.TreeRuns.{Memory}
 use Rattle.fs_server.specs.ServerSteps.{IsReply, by_word, gone_on, server_at, was_stopped}
 use Rattle.fs_server.proofs.ServerMade.{server_sets}
-use Rattle.fs_serving.specs.ServerRuns.{IsChecking, IsLooking, IsOpening, IsStoring, StandsAtStep, StandsServing, moved, opened, sought}
+use Rattle.fs_serving.specs.ServerRuns.{IsChecking, IsLooking, IsOpening, IsStoring, StandsAtStep, StandsServing, is_acting, moved, opened, sought}
 use Rattle.fs_serving.specs.ServerViews.{Serving}
 use Rattle.fs_seen.specs.ServerMemory.{HasWords, serving_in, view_in}
 use Rattle.fs_seen.specs.ServerMemory as memory
@@ -58,7 +58,6 @@ use Rattle.fs_seen.proofs.Needs.{has_needs, reads_page}
 use Rattle.fs_seen.proofs.ServesFor.{served_is_kept}
 use Rattle.fs_seen.proofs.ServesOver.{calls_serve, quiet_or_taking}
 use Rattle.fs_seen.proofs.Setting.{was_in_order}
-use Rattle.jos_run.specs.AbstractTurns.{is_acting}
 use Rattle.jos_run.specs.ServerStands.{BringsOwn, IsClient, StandsWhole, WholeFollows, client_id}
 use Rattle.jos_run.specs.Worlds.{beside}
 use Rattle.jos_run.proofs.ActsBehind.{StaysBehind, acts_on}
@@ -277,7 +276,7 @@ module _ (disk : DiskFile) (before after : KernelState) (files : Around (Option 
     where
       by_served : HasServed d.count a d before after 0 done ⊎ ((state.step ≡ step.TakingPage) × LacksPage d before after 0 done) →
           GoesOnServing done d after 0 a
-      by_served (inl served) = served_is_kept a d before after done whole.1.serving.requested served
+      by_served (inl served) = served_is_kept a d before after done whole.1.serving.requested whole.1.serving.rests served
       by_served (inr (taking, lacks)) = absurd (let more = lacks.counted nothing.could in let same = nothing.stays in omega (arith, more, same))
 
   -- ---- the state behind it

@@ -30,13 +30,12 @@ use Rattle.fs_requests.specs.declared.state.ServerStep.TheVariants as step
 use Rattle.fs_requests.specs.ServerPlans.{acting as about_to_act, next_at, next_for}
 use Rattle.fs_server.specs.ServerSteps.{HasFlushed, ends, goes, gone_on, server_at}
 use Rattle.fs_server.proofs.ServerMade.{server_sets}
-use Rattle.fs_serving.specs.ServerRuns.{StandsServing}
+use Rattle.fs_serving.specs.ServerRuns.{StandsServing, is_acting}
 use Rattle.fs_seen.specs.ServerMemory.{HasWords, serving_in}
 use Rattle.fs_seen.specs.ServerWhole.{GoesOnServing}
 use Rattle.fs_seen.proofs.CacheLeaves.{CacheLeaves, step_leaves}
 use Rattle.fs_seen.proofs.FlushesServed.{flushes_serve}
 use Rattle.fs_seen.proofs.ServesFor.{served_is_kept}
-use Rattle.jos_run.specs.AbstractTurns.{is_acting}
 use Rattle.jos_run.specs.ServerStands.{BringsOwn, HasLent, IsClient, StandsWhole, client_id, serving_at, step_of}
 use Rattle.jos_run.specs.Worlds.{beside}
 use Rattle.jos_run.proofs.CacheCalls.{flush_brings}
@@ -115,7 +114,7 @@ module _ (disk : DiskFile) (before : KernelState) (files : Around (Option Files)
     flush_served done flushed in_order =
         let all = all_stand disk before after files output d a whole words acts in
         let it = flushes_serve d.count a disk f before after files output done at_step all (serving_so after) in_order told flushed in
-        (it.0, it.1, served_is_kept a (disk_in it.0 disk) before after done whole.1.serving.requested it.2)
+        (it.0, it.1, served_is_kept a (disk_in it.0 disk) before after done whole.1.serving.requested whole.1.serving.rests it.2)
 
     -- the client that it serves
     serves_as : (x : ServerStep) (j : Slot) → client_id x j ≡ (serving_at k).client → ServesClient a x j

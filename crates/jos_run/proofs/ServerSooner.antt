@@ -20,14 +20,13 @@ use Rattle.fs_requests.specs.declared.state.ServerStep.{ServerStep}
 use Rattle.fs_requests.specs.declared.state.ServerStep.TheVariants as step
 use Rattle.fs_requests.specs.ServerPlans.{ask_for, call_for}
 use Rattle.fs_server.specs.ServerSteps.{HasCalled, Serves, ServesBy, WorksQuietly, WorksWhereTold, server_at}
-use Rattle.fs_serving.specs.ServerRuns.{is_serving}
+use Rattle.fs_serving.specs.ServerRuns.{is_acting, is_serving}
 use Rattle.fs_seen.specs.BlockSteps.{LacksBlock}
 use Rattle.fs_seen.specs.ServerMemory.{HasWords}
 use Rattle.fs_seen.specs.ServerSees.{AllStands, LacksPage, is_working, makes_call}
 use Rattle.fs_seen.specs.ServerSoon.{ActsWithin, Sooner}
 use Rattle.fs_seen.proofs.ActsSoon.{calls_act_soon, flushes_act_soon, jobs_act_soon}
 use Rattle.fs_seen.proofs.JobsServed.{jobs_are_lawful}
-use Rattle.jos_run.specs.AbstractTurns.{is_acting}
 use Rattle.jos_run.specs.Closing.{ActsSooner, ActsWithinOver, SoonerOver}
 use Rattle.jos_run.specs.ServerStands.{ServesOver, StandsWhole, step_of}
 use Rattle.jos_run.specs.Worlds.{beside, told_disk, world_of}

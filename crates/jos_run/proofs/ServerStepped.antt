@@ -44,14 +44,13 @@ use Rattle.fs_requests.specs.declared.state.ServerStep.TheVariants as step
 use Rattle.fs_requests.specs.ServerPlans.{call_for, hidden, next_at, next_for}
 use Rattle.fs_server.specs.ServerSteps.{HasCalled, by_word, gone_on, server_at, was_stopped}
 use Rattle.fs_server.proofs.ServerMade.{server_sets}
-use Rattle.fs_serving.specs.ServerRuns.{StandsServing}
+use Rattle.fs_serving.specs.ServerRuns.{StandsServing, is_acting}
 use Rattle.fs_seen.specs.ServerMemory.{HasWholeRequest, HasWords, request_page, sends_page, serving_in}
 use Rattle.fs_seen.specs.ServerSees.{AllStands, HasCalledAt}
 use Rattle.fs_seen.proofs.BetweenRequests.{releases_serve}
 use Rattle.fs_seen.proofs.NamesShort.{short_names}
 use Rattle.fs_seen.proofs.Over.{whole_none, whole_where}
 use Rattle.fs_seen.proofs.ServesFor.{servers_stand}
-use Rattle.jos_run.specs.AbstractTurns.{is_acting}
 use Rattle.jos_run.specs.ServerStands.{HasLent, IsLent, IsLentBy, MayGiveUpServing, StandsWhole, WholeFollows, client_id, step_of}
 use Rattle.jos_run.specs.Worlds.{World, beside}
 use Rattle.jos_run.proofs.ActsBehind.{acts_on}

@@ -59,7 +59,7 @@ use Rattle.fs_requests.specs.declared.state.ServerStep.TheVariants as step
 use Rattle.fs_requests.specs.ServerPlans.{acting as about_to_act, advancing, begun, found_by, hidden, is_count, next_at, next_for, worked_by}
 use Rattle.fs_server.specs.ServerSteps.{HasWorked, WorksQuietly, WorksWhereTold, answers, goes, server_at}
 use Rattle.fs_server.proofs.ServerMade.{server_sets}
-use Rattle.fs_serving.specs.ServerRuns.{StandsServing}
+use Rattle.fs_serving.specs.ServerRuns.{StandsServing, is_acting}
 use Rattle.fs_seen.specs.BlockSteps.{LacksBlock}
 use Rattle.fs_seen.specs.ServerMemory.{HasWords, sends_page, serving_in}
 use Rattle.fs_seen.specs.ServerSees.{AllStands, HasServed, is_working}
@@ -68,7 +68,6 @@ use Rattle.fs_seen.proofs.GoesOn.{goes_well}
 use Rattle.fs_seen.proofs.JobsServed.{jobs_are_lawful, jobs_serve}
 use Rattle.fs_seen.proofs.ServesFor.{served_is_kept}
 use Rattle.fs_seen.proofs.TableLeft.{still}
-use Rattle.jos_run.specs.AbstractTurns.{is_acting}
 use Rattle.jos_run.specs.ServerStands.{BringsOwn, HasLent, IsClient, IsLent, IsLentBy, StandsWhole, client_id, serving_at, step_of}
 use Rattle.jos_run.specs.Worlds.{beside}
 use Rattle.jos_run.proofs.CacheCalls.{fetch_brings}
@@ -360,7 +359,7 @@ module _ (disk : DiskFile) (before : KernelState) (files : Around (Option Files)
   still_tree mid _ (steps.waits waiting) = waiting.stands
   still_tree mid _ (steps.goes next moved by there) = moved.stands
   still_tree mid _ (steps.answers word moved by) = moved.stands
-  still_tree mid _ (steps.lacks waiting refusal) = waiting.stands
+  still_tree mid _ (steps.lacks waiting refusal rests) = waiting.stands
 
   -- ---- the step
 
@@ -391,7 +390,7 @@ module _ (disk : DiskFile) (before : KernelState) (files : Around (Option Files)
           in_order told told_then made worked)
         where
           by_served : HasServed d.count a e before after 0 done ⊎ LacksBlock d e before after 0 done → GoesOnServing done e after 0 a
-          by_served (inl served) = served_is_kept a e before after done whole.1.serving.requested served
+          by_served (inl served) = served_is_kept a e before after done whole.1.serving.requested whole.1.serving.rests served
           by_served (inr lacks) =
               absurd (let more = lacks.counted nothing.could in let same = nothing.stays in omega (arith, more, same))
 

@@ -7,6 +7,7 @@ use Rattle.jos_base.specs.Reach.{Entry}
 use Rattle.lib_os.specs.AbstractState.{AbstractState, Server, acted, busy, idle, leaving, looking}
 use Rattle.lib_os.specs.Disk.{Disk}
 use Rattle.lib_os.specs.InOrder.{IsInOrder}
+use Rattle.fs_blocks.specs.CachePlaces.{state_in as cache_at_words}
 use Rattle.fs_places.specs.TreePlaces as places
 use Rattle.fs_tree.specs.TreeSteps.{memory_in}
 use Rattle.fs_requests.specs.declared.state.ServerState.{ServerState}
@@ -18,6 +19,7 @@ use Rattle.fs_seen.specs.BlockSteps.{SeesAlike}
 use Rattle.fs_seen.specs.ServerMemory.{entry_of, request_page, serving_in, view_in}
 use Rattle.fs_seen.specs.ServerWhole.{IsIdle, IsServing, ServesBy}
 use Rattle.fs_seen.proofs.Between.{files_over, same_state, sees_same, table_seen}
+use Rattle.fs_seen.proofs.Rests.{rests_same}
 use Rattle.fs_seen.proofs.SeenAlike.{sees_as}
 use Rattle.fs_seen.proofs.ServesFor.{requested_stays}
 use Rattle.fs_seen.proofs.StaysGone.{SlotStays, counts_still, stays_still, still_entry}
@@ -73,4 +75,6 @@ module _ (d : Disk) (s t : KernelState) (a : AbstractState) (h : IsServing d s 0
     stands = stands_so s t 0 stays d h.stands;
     serves = by_server a.server h.serves;
     requested = requested_stays s t 0 (ap (λ (o : Option Entry). is_some o) request_same) a.server h.requested;
+    rests = rests_same s t 0 (ap (λ (x : ServerState). x.step) server_same) (λ i. places.state_in (registers i) (k.words i))
+        (ap (λ (words : List ℕ). cache_at_words words) k.words) h.rests;
   }

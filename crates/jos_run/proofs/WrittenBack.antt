@@ -54,6 +54,7 @@ calm_stands d v _ hand h = record {
   hand_below = h.hand_below;
   cache = h.cache;
   entries = h.entries;
+  dirty = h.dirty;
   pages = h.pages;
   apart = h.apart;
   at = tt;
@@ -223,6 +224,10 @@ module _ (d e : Disk) (v w : CacheView) (place : CachePlace) (hand b : ℕ) (h :
     hand_below = h.hand_below;
     cache = cache_so;
     entries = λ n f is. (stood n f is).is_block;
+    dirty = λ n f is on.
+        let s = stood n f is in
+        subst (λ (m : ℕ). n < m) (sym disk.count)
+        (h.dirty n s.was s.was_is (ap is_dirty (sym s.was_is) ∙ sym (dirty_row n) ∙ ap is_dirty is ∙ on));
     pages = λ n f is. let s = stood n f is in subst IsPage (sym (bytes_as n f s)) (h.pages n s.was s.was_is);
     apart = λ n m f g is js same.
         let s = stood n f is in

@@ -14,9 +14,10 @@ use Rattle.jos_kernel.specs.declared.report.Turn.{Turn}
 use Rattle.jos_base.specs.Below.{some_below}
 use Rattle.lib_os.specs.declared.service.Service.{Service}
 use Rattle.lib_os.specs.declared.service.Service.TheVariants as service
-use Rattle.lib_os.specs.AbstractState.{AbstractState, AbstractSlot, Server, born, serving, idle, looking, busy, acted}
+use Rattle.lib_os.specs.AbstractState.{AbstractState, AbstractSlot, Server, born, serving, idle, acted}
 use Rattle.lib_os.specs.AbstractState.{is_idle, Phase, in_service, can_run, is_live}
 use Rattle.lib_os.specs.AbstractRun.{abs_step}
+use Rattle.fs_serving.specs.ServerRuns.{is_acting}
 
 -- ---- turns
 
@@ -66,12 +67,6 @@ end_of a turns spent =
     else None
 
 -- ---- behind the end
-
--- The file server is busy with a request whose act is not made.
-abbrev pub is_acting : Server → Bool
-is_acting (looking client request number) = true
-is_acting (busy client request place) = true
-is_acting _ = false
 
 -- It has gone on alone, in so many steps, until its act was made, and in no more.
 pub record HasClosed (a b : AbstractState) (steps : ℕ) : Type 0 where

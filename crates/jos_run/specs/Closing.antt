@@ -20,12 +20,13 @@ use Rattle.lib_os.specs.LibrarySteps.{NothingRefused}
 use Rattle.lib_os.specs.Need.{EachHasUse}
 use Rattle.fs_cache.specs.CacheStands.{filling_at}
 use Rattle.fs_cache.specs.CacheSteps.{cache_state, row_in}
+use Rattle.fs_serving.specs.ServerRuns.{is_acting}
 use Rattle.fs_seen.specs.ServerSoon.{ActsWithin, SERVER_STEPS_MAX}
 use Rattle.jos_run.specs.declared.closing.Closing.{Closing}
 use Rattle.jos_run.specs.declared.closing.TheConstants.{CLOSING_MAX}
 use Rattle.jos_run.specs.declared.programs.RunEnd.{RunEnd}
 use Rattle.jos_run.specs.declared.programs.RunEnd.TheVariants.{Ended, HostFault}
-use Rattle.jos_run.specs.AbstractTurns.{is_acting, steps_taken}
+use Rattle.jos_run.specs.AbstractTurns.{steps_taken}
 use Rattle.jos_run.specs.RunReports.{LacksSpace}
 use Rattle.jos_run.specs.RunSteps.{ClosingStep, CloseTo, IsWrittenBack, acts_in, closing_written}
 use Rattle.jos_run.specs.Served.{Parts, kernel_state}

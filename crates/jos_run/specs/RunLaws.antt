@@ -12,8 +12,8 @@ use Rattle.lib_os.specs.LibrarySteps.{NothingRefused}
 use Rattle.lib_os.specs.Rows.{Names}
 use Rattle.lib_os.specs.StandsFor.{StandsFor}
 use Rattle.fs_tree.specs.TreeSteps.{memory_in}
-use Rattle.fs_serving.specs.ServerRuns.{HasFiles}
-use Rattle.jos_run.specs.AbstractTurns.{next_slot, end_of, turn_fits, fits, is_acting}
+use Rattle.fs_serving.specs.ServerRuns.{HasFiles, is_acting}
+use Rattle.jos_run.specs.AbstractTurns.{next_slot, end_of, turn_fits, fits}
 use Rattle.jos_run.specs.LibraryRuns.{NoneRuns, OnlyRuns, OnlyFirstServes, IsBetween, IsInTurn, visible_steps, end_seen}
 use Rattle.jos_run.specs.ServerStands.{KeepsWhole, StandsWhole}
 use Rattle.jos_run.specs.Worlds.{World, beside, with_state}

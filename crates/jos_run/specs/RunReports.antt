@@ -17,7 +17,8 @@ use Rattle.fs_layout.specs.FileTree.{FileSystem}
 use Rattle.lib_os.specs.AbstractState.{AbstractState}
 use Rattle.lib_os.specs.Disk.{Disk}
 use Rattle.lib_os.specs.Need.{need}
-use Rattle.jos_run.specs.AbstractTurns.{HasClosed, next_slot, turn_begun, steps_taken, abs_run, end_of, fits, all_fit, is_acting}
+use Rattle.fs_serving.specs.ServerRuns.{is_acting}
+use Rattle.jos_run.specs.AbstractTurns.{HasClosed, next_slot, turn_begun, steps_taken, abs_run, end_of, fits, all_fit}
 use Rattle.jos_run.specs.ServerStands.{StandsWhole}
 use Rattle.jos_run.specs.Start.{HoldsFiles}
 use Rattle.jos_run.specs.Worlds.{World}
