@@ -19,7 +19,7 @@ import tempfile
 from disks import BLOCK, Disk, Fault, random_tree
 from images import BASE, CODE, image, word
 from library_model import Run
-from library_programs import FileProgram, ForkProgram, LibraryProgram, random_words
+from library_programs import FileProgram, ForkProgram, LibraryProgram, PipeProgram, random_words
 from model import EXCEPTION_STACK, Kernel, UENVS, UPAGES, Unmodelled, UTOP, UVPT
 
 PROGRAM = pathlib.Path(__file__).resolve().parent.parent / "out" / "jos"
@@ -200,7 +200,7 @@ def with_image(disk, records, content):
 def compare_library(seed, folder):
     """The same of a program under the library, which stands on a disk."""
     chance = random.Random(seed)
-    kind = chance.choice([LibraryProgram, LibraryProgram, ForkProgram, ForkProgram, FileProgram, FileProgram])
+    kind = chance.choice([LibraryProgram, LibraryProgram, ForkProgram, ForkProgram, FileProgram, FileProgram, PipeProgram, PipeProgram])
     forks = kind is not LibraryProgram
     disk, records, paths = random_files(chance)
     program = kind(chance, paths)
@@ -209,6 +209,11 @@ def compare_library(seed, folder):
     steps, traps = chance.choice([3000, 60000, 200000] if forks else [777, 3000, 20000, 60000]), chance.choice([0, 1, 1024])
     schedule, given = random_schedule(chance), random_words(chance)
     console_input = bytes(chance.choice([4, 0, 10, 255, *range(32, 127)]) for _ in range(chance.choice([0, 1, 2, 5, 20])))
+    if kind is PipeProgram:
+        frames, steps = frames + chance.choice([0, 100, 500, 500]), chance.choice([20000, 60000, 200000])
+        if chance.random() < 0.7:
+            # so that the end of a pipe is seen
+            schedule = [max(each, 16) for each in schedule]
     if kind is FileProgram:
         frames, steps = frames + chance.choice([0, 500, 500, 500]), chance.choice([20000, 200000, 1000000])
     if forks and program.fills_table:

@@ -5,7 +5,7 @@
 
 DISK stays as it is; as the run leaves it, it goes to the file that --left names.
 
-It is written after docs/library.md, and shares nothing with the code: the fence, the services 0 to 19, each with its
+It is written after docs/library.md, and shares nothing with the code: the fence, the services 0 to 20, each with its
 refusals and its steps, the handler of page faults, which copies a page that waits for that or ends the program, turns, and the end of a
 run, behind which the disk has what the file server has done.
 The processor is that of processor.py, the frames are those of model.py, and the file server is that of server_model.py. It takes the words
@@ -29,8 +29,11 @@ KEPT = P | U | W | AVAILABLE  # the bits of an entry that a call gives
 COPY_PAGE = 0x007FF  # where a copy is made
 WORKING_PAGE = 0x00400  # where write keeps the bytes that it has taken, and remove those of its path
 FIRST_DESCRIPTOR, DESCRIPTORS = 0xD0000, 32  # the pages of descriptors
+FIRST_PIPE = FIRST_DESCRIPTOR + DESCRIPTORS  # and, for each, that of the pipe of which it is an end
 CONSOLE = struct.pack("<4I", ord("c"), 0, 2, 0)  # what such a page holds
-CONSOLE_STAT = b"<cons>".ljust(128, b"\0") + struct.pack("<2I", 0, 0)  # what stat tells of it
+PIPE = ord("p")  # the first word of a page of an end; its mode tells which
+PIPE_LOCK, PIPE_READ, PIPE_WRITE, PIPE_BYTES, PIPE_SIZE = 0, 4, 8, 12, 32  # what stands where in the page of a pipe, and how many bytes
+STAT_BYTES = 136
 TRANSFER_MAX = 4096  # bytes of one read or write
 FILE_WRITE_MAX = 4088  # and of one write to a file
 OFFSET_MAX = 2 ** 31 - 1
@@ -44,6 +47,11 @@ RESIDENT = range(0xEEBFE800, 0xEEC00000)
 CPUTS_MAX, TURN_MAX, QUANTUM = 4096, 1048576, 1000
 FRAMES_BESIDE = 256  # what a run wants beside the pages of the image and their tables
 STATUSES = {"done": 0, "stuck": 9, "budget": 10, "turns full": 11}
+
+
+def told_by_stat(name, size):
+    """What stat tells of what is no file."""
+    return name.ljust(128, b"\0") + struct.pack("<2I", size, 0)
 
 
 def in_fence(va, length):
@@ -122,6 +130,7 @@ class Environment:
         self.stage, self.found = "entered", ()
         self.fault = None  # that the handler has: the error code, the address, and that of the instruction
         self.beneath = None  # the stage of the service that has raised it, and what that has found out
+        self.runs = 0  # the turns that it has had
         self.receives = None  # where it waits for a message: the page, or 0, and from whom
         self.message = (0, 0, 0)  # who sent, the word, and the bits of the page
 
@@ -274,6 +283,8 @@ class Run:
             self.sync()
         elif service == 19:
             self.dup(edx, ecx)
+        elif service == 20:
+            self.pipe()
         else:
             self.now.answer(-INVALID)
 
@@ -285,8 +296,21 @@ class Run:
     def is_open(self, descriptor):
         return FIRST_DESCRIPTOR + descriptor in self.frames.entries[self.now.directory]
 
-    def drop(self, descriptor):
-        self.frames.remove(self.now.directory, FIRST_DESCRIPTOR + descriptor)
+    def has_pipe(self, descriptor):
+        return FIRST_PIPE + descriptor in self.frames.entries[self.now.directory]
+
+    def drops(self, descriptor):
+        """Whether a descriptor, which was open, is dropped behind the step. The entry of its pipe's page is read first; where there is a pipe,
+        its page goes behind the descriptor's."""
+        if self.now.stage == "looking for its pipe":
+            self.now.go_on("dropping the end" if self.has_pipe(descriptor) else "dropping", *self.now.found)
+            return False
+        page = (FIRST_PIPE if self.now.stage == "dropping the pipe" else FIRST_DESCRIPTOR) + descriptor
+        self.frames.remove(self.now.directory, page)
+        if self.now.stage == "dropping the end":
+            self.now.go_on("dropping the pipe", *self.now.found)
+            return False
+        return True
 
     def exit(self):
         if self.now.stage == "entered":
@@ -296,11 +320,9 @@ class Run:
         else:
             descriptor = self.now.found[0]
             if self.now.stage == "looking" and self.is_open(descriptor):
-                self.now.go_on("dropping", descriptor)
-                return
-            if self.now.stage == "dropping":
-                self.drop(descriptor)
-            self.now.go_on(*("looking", descriptor + 1) if descriptor + 1 < DESCRIPTORS else ("ending",))
+                self.now.go_on("looking for its pipe", descriptor)
+            elif self.now.stage == "looking" or self.drops(descriptor):
+                self.now.go_on(*("looking", descriptor + 1) if descriptor + 1 < DESCRIPTORS else ("ending",))
 
     def close(self, descriptor):
         if self.now.stage == "entered":
@@ -310,14 +332,14 @@ class Run:
                 self.now.answer(-INVALID)
         elif self.now.stage == "looking":
             if self.is_open(descriptor):
-                self.now.go_on("dropping")
+                self.now.go_on("looking for its pipe")
             else:
                 self.now.answer(-INVALID)
-        else:
-            self.drop(descriptor)
+        elif self.drops(descriptor):
             self.now.answer(0)
 
     def dup(self, old, new):
+        """The page of the old one's pipe, where it is an end of one, is mapped before that of the descriptor."""
         if self.now.stage == "entered":
             if old < DESCRIPTORS and self.has_descriptors():
                 self.now.go_on("looking at the old")
@@ -331,20 +353,232 @@ class Run:
             else:
                 self.now.go_on("looking at the new")
         elif self.now.stage == "looking at the new":
-            self.now.go_on("dropping" if self.is_open(new) else "mapping")
-        elif self.now.stage == "dropping":
-            self.drop(new)
+            self.now.go_on("looking for its pipe" if self.is_open(new) else "looking for the pipe of the old")
+        elif self.now.stage == "looking for the pipe of the old":
+            self.now.go_on("mapping the pipe" if self.has_pipe(old) else "mapping")
+        elif self.now.stage == "mapping the pipe":
+            self.maps(FIRST_PIPE + old, FIRST_PIPE + new)
             self.now.go_on("mapping")
-        else:
-            frame = self.frames.entries[self.now.directory][FIRST_DESCRIPTOR + old][0]
-            assert self.frames.insert(self.now.directory, FIRST_DESCRIPTOR + new, frame, P | U | W | SHARED)
+        elif self.now.stage == "mapping":
+            self.maps(FIRST_DESCRIPTOR + old, FIRST_DESCRIPTOR + new)
             self.now.answer(new)
+        elif self.drops(new):
+            self.now.go_on("looking for the pipe of the old")
+
+    def maps(self, page, to):
+        """Such a page is mapped at another of its region."""
+        frame = self.frames.entries[self.now.directory][page][0]
+        assert self.frames.insert(self.now.directory, to, frame, P | U | W | SHARED)
+
+    # ---- pipes
+
+    def pipe(self):
+        """The two lowest descriptors that are free get pages, of the reading end and of the writing end, and the first the page of the pipe,
+        which the second gets, too; with that it is made. Where a page is refused those before it are given back."""
+        stage, found = self.now.stage, self.now.found
+        if stage == "entered":
+            self.now.go_on(*("free", (), 0) if self.has_descriptors() else ("reading end", 0, 1))
+        elif stage == "free":
+            ends, descriptor = found
+            if not self.is_open(descriptor):
+                ends = *ends, descriptor
+            if len(ends) == 2:
+                self.now.go_on("reading end", *ends)
+            elif descriptor + 1 < DESCRIPTORS:
+                self.now.go_on("free", ends, descriptor + 1)
+            else:
+                self.now.answer(-MAX_OPEN)
+        elif stage in ("reading end", "writing end", "pipe"):
+            self.takes_shared(*found)
+        elif stage == "undoing":
+            pages, error = found
+            self.frames.remove(self.now.directory, pages[0])
+            if pages[1:]:
+                self.now.go_on("undoing", pages[1:], error)
+            else:
+                self.now.answer(error)
+        elif stage == "device of the reading end":
+            self.puts_into(FIRST_DESCRIPTOR + found[0], DEVICE, PIPE)
+            self.now.go_on("writing end", *found)
+        elif stage == "device of the writing end":
+            self.puts_into(FIRST_DESCRIPTOR + found[1], DEVICE, PIPE)
+            self.now.go_on("mode of the writing end", *found)
+        elif stage == "mode of the writing end":
+            self.puts_into(FIRST_DESCRIPTOR + found[1], MODE, WRITING)
+            self.now.go_on("pipe", *found)
+        else:
+            assert stage == "mapping"
+            self.maps(FIRST_PIPE + found[0], FIRST_PIPE + found[1])
+            self.now.answer(0)
+            self.now.processor.registers[EDX], self.now.processor.registers[ECX] = found
+
+    def takes_shared(self, reading, writing):
+        """A page for an end or for the pipe."""
+        pages = [FIRST_DESCRIPTOR + reading, FIRST_DESCRIPTOR + writing, FIRST_PIPE + reading]
+        taken = ["reading end", "writing end", "pipe"].index(self.now.stage)
+        if self.frames.allocate(self.now.directory, pages[taken], P | U | W | SHARED):
+            self.now.go_on(["device of the reading end", "device of the writing end", "mapping"][taken], reading, writing)
+        elif taken:
+            self.now.go_on("undoing", pages[taken - 1::-1], self.wanting(NO_MEMORY))
+        else:
+            self.now.answer(self.wanting(NO_MEMORY))
+
+    def pipe_word(self, descriptor, at):
+        return int.from_bytes(self.page_bytes(FIRST_PIPE + descriptor << 12)[at:at + 4], "little")
+
+    def puts_into(self, page, at, word):
+        self.page_bytes(page << 12)[at:at + 4] = word.to_bytes(4, "little")
+
+    def takes_lock(self, descriptor, then, *found):
+        """An exchange of the lock's word with 1. Where that was 1 before, another moves a byte: the turn is given up, by another step."""
+        was_free = self.pipe_word(descriptor, PIPE_LOCK) == 0
+        self.puts_into(FIRST_PIPE + descriptor, PIPE_LOCK, 1)
+        self.now.go_on(then if was_free else "leaving the lock", *found)
+
+    def gives_back_lock(self, descriptor, then, *found):
+        self.puts_into(FIRST_PIPE + descriptor, PIPE_LOCK, 0)
+        self.now.go_on(then, *found)
+
+    def is_stuck(self, begins, ends, reads):
+        """Whether there is nothing to be read, or no room, where the positions of the pipe are these."""
+        return (ends - begins) & MASK == (0 if reads else PIPE_SIZE)
+
+    def moves(self, descriptor, reads, wanted):
+        """Bytes go one by one, under the lock, from the pipe into the own page, or from there into the pipe. Where it is empty, or full, and none was
+        read, it is asked whether the other end is closed. What is found out begins with how many bytes were moved, and the own id, once that
+        was asked for."""
+        stage, (done, identity, *found) = self.now.stage, self.now.found
+        if stage == "locking":
+            self.takes_lock(descriptor, "reading from", done, identity)
+        elif stage in ("leaving the lock", "waiting"):
+            self.now.status = "runnable"
+            self.now.go_on("locking", done, 0)
+        elif stage == "reading from":
+            self.now.go_on("reading to", done, identity, self.pipe_word(descriptor, PIPE_READ))
+        elif stage == "reading to":
+            begins, ends = found[0], self.pipe_word(descriptor, PIPE_WRITE)
+            if not self.is_stuck(begins, ends, reads):
+                self.now.go_on("loading the byte", done, 0, begins if reads else ends)
+            elif reads and done:
+                self.now.go_on("giving back the lock at the end", done, 0)
+            else:
+                self.now.go_on("giving back the lock for the test", done, identity)
+        elif stage == "loading the byte":
+            place = PIPE_BYTES + found[0] % PIPE_SIZE
+            byte = self.page_bytes(FIRST_PIPE + descriptor << 12)[place] if reads else self.page_bytes(WORKING_PAGE << 12)[done]
+            self.now.go_on("storing the byte", done, 0, found[0], byte)
+        elif stage == "storing the byte":
+            at, byte = found
+            if reads:
+                self.page_bytes(WORKING_PAGE << 12)[done] = byte
+            else:
+                self.page_bytes(FIRST_PIPE + descriptor << 12)[PIPE_BYTES + at % PIPE_SIZE] = byte
+            self.now.go_on("going on", done, 0, at)
+        elif stage == "going on":
+            self.puts_into(FIRST_PIPE + descriptor, PIPE_READ if reads else PIPE_WRITE, found[0] + 1 & MASK)
+            self.now.go_on("giving back the lock", done + 1, 0)
+        elif stage == "giving back the lock" and done < wanted:
+            self.gives_back_lock(descriptor, "locking", done, 0)
+        elif stage in ("giving back the lock", "giving back the lock at the end"):
+            self.gives_back_lock(descriptor, *("region", 0, done) if reads else ("returning", done))
+        elif stage == "giving back the lock for the test":
+            self.gives_back_lock(descriptor, "runs" if identity else "identifying", done, identity)
+        elif stage == "identifying":
+            self.now.go_on("runs", done, self.now.id)
+        else:
+            self.is_closed(descriptor, reads)
+
+    def is_closed(self, descriptor, reads):
+        """The closed test: the other end is closed where the page of the own one is mapped as often as that of the pipe. In between others may have
+        had turns, and dropped one of the two or passed it on: so it counts only where the own turns are the same before and behind it, and is
+        made again else. It includes whether the pipe is still empty, or full."""
+        stage, (done, identity, *found) = self.now.stage, self.now.found
+        if stage == "runs":
+            self.now.go_on("still from", done, identity, self.now.runs)
+        elif stage == "still from":
+            self.now.go_on("still to", done, identity, *found, self.pipe_word(descriptor, PIPE_READ))
+        elif stage == "still to":
+            *found, begins = found
+            if self.is_stuck(begins, self.pipe_word(descriptor, PIPE_WRITE), reads):
+                self.now.go_on("entry of the end", done, identity, *found)
+            else:
+                self.now.go_on("locking", done, identity)
+        elif stage in ("entry of the end", "entry of the pipe"):
+            page = descriptor + (FIRST_DESCRIPTOR if stage == "entry of the end" else FIRST_PIPE)
+            frame = self.frames.entries[self.now.directory][page][0]
+            self.now.go_on("count of the end" if stage == "entry of the end" else "count of the pipe", done, identity, *found, frame)
+        elif stage == "count of the end":
+            *found, frame = found
+            self.now.go_on("entry of the pipe", done, identity, *found, self.frames.count(frame))
+        elif stage == "count of the pipe":
+            runs, count, frame = found
+            self.now.go_on("runs again", done, identity, runs, count == self.frames.count(frame))
+        else:
+            assert stage == "runs again", stage
+            runs, is_closed = found
+            if runs != self.now.runs:
+                self.now.go_on("runs", done, identity)
+            elif is_closed:
+                self.now.go_on("returning", done)
+            else:
+                self.now.go_on("waiting", done, identity)
+
+    def is_end_refused(self, descriptor, mode, va, wanted):
+        """The end's mode is read, with which a service is refused that is not for it, and the buffer, and the number of no bytes answered."""
+        if self.word_of(descriptor, MODE) != mode:
+            self.now.answer(-INVALID)
+        return self.now.service is None or self.is_refused(va, wanted)
+
+    def read_from_pipe(self, descriptor, va, wanted):
+        stage = self.now.stage
+        if stage == "mode":
+            if not self.is_end_refused(descriptor, READING, va, wanted):
+                self.now.go_on("taking")
+        elif stage == "taking":
+            self.takes_page("locking", 0, 0)
+        elif stage in ("region", "entry", "moving", "touching", "rest", "putting", "returning"):
+            self.is_handed(descriptor, va, READ, wanted)
+        else:
+            self.moves(descriptor, True, wanted)
+
+    def write_to_pipe(self, descriptor, va, wanted):
+        stage = self.now.stage
+        if stage == "mode":
+            if not self.is_end_refused(descriptor, WRITING, va, wanted):
+                self.now.go_on("taking")
+        elif stage == "taking":
+            self.takes_page("region", 0)
+        elif stage == "keeping":
+            self.keeps_on(va, wanted, 0, "locking", 0, 0)
+        elif stage == "returning":
+            self.frames.remove(self.now.directory, WORKING_PAGE)
+            self.now.answer(self.now.found[0])
+        elif stage not in ("region", "entry", "moving", "touching"):
+            self.moves(descriptor, False, wanted)
+        elif self.looks(va, P):
+            self.gathers(va, wanted)
+
+    def stat_of_pipe(self, descriptor):
+        """How many bytes it holds is asked under its lock."""
+        stage, found = self.now.stage, self.now.found
+        if stage == "locking":
+            self.takes_lock(descriptor, "from")
+        elif stage == "leaving the lock":
+            self.now.status = "runnable"
+            self.now.go_on("locking")
+        elif stage == "from":
+            self.now.go_on("to", self.pipe_word(descriptor, PIPE_READ))
+        elif stage == "to":
+            self.now.go_on("giving back the lock", self.pipe_word(descriptor, PIPE_WRITE) - found[0] & MASK)
+        else:
+            assert stage == "giving back the lock", stage
+            self.gives_back_lock(descriptor, "region", 0, *found)
 
     # ---- what a descriptor names is found, then the buffer's pages are looked at, and then bytes are moved
 
     def finds(self, descriptor):
-        """Whether the step is the third load, of the word that tells the console or a file; else it is made: the entry of the descriptors'
-        region, or that of the descriptor, either of which may refuse it."""
+        """Whether the step is the third load, of the word that tells the console, a file or an end of a pipe; else it is made: the entry of the
+        descriptors' region, or that of the descriptor, either of which may refuse it."""
         if self.now.stage == "entered":
             if descriptor < DESCRIPTORS and self.has_descriptors():
                 self.now.go_on("looking")
@@ -365,6 +599,10 @@ class Run:
     def is_file(self, descriptor):
         """Of a descriptor that is open."""
         return self.word_of(descriptor, DEVICE) == FILE
+
+    def is_end(self, descriptor):
+        """Of a pipe."""
+        return self.word_of(descriptor, DEVICE) == PIPE
 
     def takes_page(self, then, *found):
         """The page of a request, or of bytes."""
@@ -456,7 +694,7 @@ class Run:
         self.now.go_on("region" if (va + done) % PAGE_SIZE == 0 else "moving", done, *rest)
 
     def read(self, descriptor, va, length):
-        """A byte of the console; of a file those that come with the reply."""
+        """A byte of the console; of a file those that come with the reply; and of a pipe those that it has."""
         if self.now.stage == "getting":
             byte = self.input.pop(0) if self.input else END_OF_INPUT
             if byte == END_OF_INPUT:
@@ -465,10 +703,12 @@ class Run:
                 self.now.go_on("region", 0, byte)
         elif self.now.stage in ("entered", "looking", "what it names"):
             if self.finds(descriptor):
-                if self.is_file(descriptor):
+                if self.is_file(descriptor) or self.is_end(descriptor):
                     self.now.go_on("mode")
                 elif not self.is_refused(va, min(length, TRANSFER_MAX)):
                     self.now.go_on("getting")
+        elif self.is_end(descriptor):
+            self.read_from_pipe(descriptor, va, min(length, TRANSFER_MAX))
         elif self.is_file(descriptor):
             if self.now.stage == "mode":
                 if self.word_of(descriptor, MODE) == WRITING or not is_buffer(va, min(length, TRANSFER_MAX)):
@@ -489,7 +729,7 @@ class Run:
             self.takes_page("number")
         elif stage == "counting":
             told = self.now.message[1]
-            count = (told if told <= wanted else 0) if word == READ else len(CONSOLE_STAT) if told == 0 else 0
+            count = (told if told <= wanted else 0) if word == READ else STAT_BYTES if told == 0 else 0
             self.now.go_on(*("region", 0, count) if count else ("giving back",))
         elif stage == "returning":
             self.frames.remove(self.now.directory, WORKING_PAGE)
@@ -515,27 +755,35 @@ class Run:
     def stat(self, descriptor, va):
         """A name, a size and a kind."""
         if self.now.stage in ("entered", "looking", "what it names"):
-            if self.finds(descriptor) and not self.is_refused(va, len(CONSOLE_STAT)):
-                self.now.go_on(*("taking",) if self.is_file(descriptor) else ("region", 0))
+            if self.finds(descriptor) and not self.is_refused(va, STAT_BYTES):
+                if self.is_file(descriptor):
+                    self.now.go_on("taking")
+                else:
+                    self.now.go_on(*("locking",) if self.is_end(descriptor) else ("region", 0))
         elif self.is_file(descriptor):
-            self.is_handed(descriptor, va, STAT, len(CONSOLE_STAT))
+            self.is_handed(descriptor, va, STAT, STAT_BYTES)
+        elif self.now.stage not in ("region", "entry", "moving", "touching"):
+            self.stat_of_pipe(descriptor)
         elif self.looks(va, W | COPIED):
-            done = self.now.found[0]
-            moved = moved_at_once(va + done, len(CONSOLE_STAT) - done)
-            if self.puts(va + done, CONSOLE_STAT[done:done + moved]):
-                if done + moved == len(CONSOLE_STAT):
+            done, *held = self.now.found
+            moved = moved_at_once(va + done, STAT_BYTES - done)
+            told = told_by_stat(b"<pipe>", *held) if held else told_by_stat(b"<cons>", 0)
+            if self.puts(va + done, told[done:done + moved]):
+                if done + moved == STAT_BYTES:
                     self.now.answer(0)
                 else:
-                    self.behind(va, done + moved)
+                    self.behind(va, done + moved, *held)
 
     def write(self, descriptor, va, length):
         """A page is taken, the bytes are loaded and put there, and then all are printed and the page is given back; or it is that of a request,
         where they stand behind the first two words."""
-        stage, is_file = self.now.stage, False
+        stage, is_file, is_end = self.now.stage, False, False
         if stage not in ("entered", "looking"):
-            is_file = self.is_file(descriptor)
+            is_file, is_end = self.is_file(descriptor), self.is_end(descriptor)
         wanted = min(length, FILE_WRITE_MAX if is_file else TRANSFER_MAX)
-        if stage == "mode":
+        if is_end and stage != "what it names":
+            self.write_to_pipe(descriptor, va, wanted)
+        elif stage == "mode":
             if self.word_of(descriptor, MODE) == READING or not is_buffer(va, wanted):
                 self.now.answer(-INVALID)
             else:
@@ -543,13 +791,7 @@ class Run:
         elif stage == "taking":
             self.takes_page(*("region", 0) if wanted else ("number",))
         elif stage == "keeping":
-            done, _, rest = self.keeps(REQUEST_BYTES if is_file else 0)
-            if rest:
-                self.now.go_on("keeping", done, rest)
-            elif done == wanted:
-                self.now.go_on("number" if is_file else "printing")
-            else:
-                self.behind(va, done)
+            self.keeps_on(va, wanted, *(REQUEST_BYTES, "number") if is_file else (0, "printing"))
         elif stage == "printing":
             self.output += self.page_bytes(WORKING_PAGE << 12)[:wanted]
             self.now.go_on("giving it back")
@@ -558,7 +800,7 @@ class Run:
             self.now.answer(wanted)
         elif stage in ("entered", "looking", "what it names"):
             if self.finds(descriptor):
-                if is_file:
+                if is_file or is_end:
                     self.now.go_on("mode")
                 elif not self.is_refused(va, wanted):
                     self.now.go_on("taking")
@@ -566,6 +808,16 @@ class Run:
             self.requests(descriptor, wanted, WRITE, "giving back")
         elif self.looks(va, P):
             self.gathers(va, wanted)
+
+    def keeps_on(self, va, wanted, begins, then, *found):
+        """The next bytes are kept; behind the last it goes on."""
+        done, _, rest = self.keeps(begins)
+        if rest:
+            self.now.go_on("keeping", done, rest)
+        elif done == wanted:
+            self.now.go_on(then, *found)
+        else:
+            self.behind(va, done)
 
     def gathers(self, va, wanted):
         """The next bytes are loaded; or the handler of page faults has the fault."""
@@ -963,6 +1215,7 @@ class Run:
         self.last, self.now = slot, self.slots[slot]
         left = self.schedule[min(self.turns, len(self.schedule) - 1)]
         self.now.status = "running"
+        self.now.runs += 1
         self.turns += 1
         while left and self.steps_left and self.runs_on():
             self.step()

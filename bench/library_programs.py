@@ -11,16 +11,17 @@ ENDS = [0x1FFFFF, 0x200000, 0x3FFFFF, 0x400000, 0x7FFFFF, 0x800000, 0xCFFFFFFF, 
         0xEEBFDFFF, 0xEEBFE000, 0xEEC00000, 0xFFFFFFFF]
 IDS = [0, 0x1001, 0x1002, 0x2001, 0x2000, 0x13FF, 0xFFFFFFFF]
 LIKELY_IDS = [0x1001, 0x1002, 0x1002, 0x1003, 0x1004, 0x2002, 0x2003]
-NUMBERS = [20, 21, 22, 0x41, 0x80000000, 0xFFFFFFFF]
+NUMBERS = [21, 22, 23, 0x41, 0x80000000, 0xFFFFFFFF]
 FDS, ODD_FDS = [0, 1, 1, 2, 5, 31], [32, 33, 0x80000000, 0xFFFFFFFF]
 OPEN_FDS = [0, 1, 1, 1, 2]
 MODES, ODD_MODES = [0, 1, 2, 2, 0x100, 0x102, 0x102, 0x200, 0x301, 0x302, 0x400, 0x500], [3, 4, 0x103, 0x800, 0xFFFFFFFF]
 SIZES = [0, 1, 5, 4095, 4096, 4097, 9000, 40950, 40960, 40961, 50000, 4235263, 4235264, 4235265, 0x7FFFFFFF, 0x80000000, 0xFFFFFFFF]
 LONG_LENGTHS = [100, 1000, 2000, 4087, 4088, 4089, 4096, 0xFFFFFFFF]
+PIPE_LENGTHS = [1, 1, 2, 3, 4, 5, 7, 13, 31, 32]
 LENGTHS, ODD_LENGTHS = [1, 2, 3, 4, 5, 7, 8, 13, 16, 17], [0, 4095, 4096, 4097, 0x7FFFFFFF, 0xFFFFFFFF]
 
 # how often a program asks for which service; 99 is any other number
-ANY = {1: 4, 2: 1, 3: 2, 5: 2, 6: 6, 7: 3, 8: 4, 9: 1, 10: 8, 11: 2, 12: 5, 13: 7, 14: 4, 15: 3, 16: 3, 17: 5, 18: 2, 19: 4, 99: 1}
+ANY = {1: 4, 2: 1, 3: 2, 5: 2, 6: 6, 7: 3, 8: 4, 9: 1, 10: 8, 11: 2, 12: 5, 13: 7, 14: 4, 15: 3, 16: 3, 17: 5, 18: 2, 19: 4, 20: 2, 99: 1}
 # where ESP may lie, and at the end the first and last places where it may not
 STACKS = [STACK + 0x800, 0x902000, 0, 0xEEBFE000, 0xEEBFE7FF, 0xEEC00000, 0xEEC00FF0]
 RESIDENT = [0xEEBFE800, 0xEEBFF000, 0xEEBFFFFF]
@@ -154,6 +155,10 @@ class LibraryProgram:
         if number == 10:
             self.files.append(self.log_at + 4 * self.answers)
         self.log()
+        if number == 20:
+            for register in [EDX, ECX]:
+                self.files.append(self.log_at + 4 * self.answers)
+                self.log(register)
         if chance.random() < 0.2:
             self.log(chance.choice([EDX, ECX, EBX]))
 
@@ -514,6 +519,152 @@ class FileProgram(ForkProgram):
             self.fork()
         self.acts(chance.randint(5, 25))
         self.end()
+        assert len(self.code) < 0x2F00
+        return image(self.code, 0x6000)
+
+
+class PipeProgram(ForkProgram):
+    """The same with pipes above all, whose ends a parent and its children have: bytes are written and read, so that mostly nobody waits for ever."""
+
+    def __init__(self, chance, paths):
+        super().__init__(chance, paths)
+        self.pipes = []  # of each where in the log its reading end and its writing end stand, and about how many bytes it holds
+
+    def makes_pipe(self):
+        self.ask(20)
+        self.log()
+        for register in [EDX, ECX]:
+            self.files.append(self.log_at + 4 * self.answers)
+            self.log(register)
+        self.pipes.append([*self.files[-2:], 0])
+
+    def ask_of(self, number, place, ecx=None, ebx=None):
+        """Of the descriptor that stands there in the log."""
+        self.code += b"\x8b\x15" + word(place)
+        self.ask(number, None, ecx, ebx)
+
+    def moves(self, number, place, length):
+        """Bytes are read or written; a program may end by that."""
+        where = self.log_at + 0x1000 + self.chance.randrange(40)
+        self.ask_of(number, place, where if self.chance.random() < 0.95 else self.buffer(length), length)
+        return where
+
+    def reads_all(self, place):
+        """Pieces are read and printed, up to the end, or to an error."""
+        begin = len(self.code)
+        where = self.moves(12, place, self.chance.choice(PIPE_LENGTHS + [40, 4096]))
+        self.code += b"\x89\xc6\x89\xc1"  # mov eax to esi and to ecx
+        self.ask(1, where)
+        self.code += b"\x85\xf6\x0f\x8f" + word(begin - len(self.code) - 8)  # test esi, jg
+        self.log(ESI)
+
+    def in_child(self, act):
+        """A child does that, and ends; its parent goes on."""
+        self.ask(4)
+        self.code += b"\x85\xc0\x0f\x85" + word(0)  # test eax, jne
+        begin = len(self.code)
+        self.depth += 1
+        kept, self.pipes = self.pipes, []
+        act()
+        self.acts(self.chance.randint(0, 2))
+        if self.chance.random() < 0.1:
+            self.end()
+        self.ask(0)
+        self.depth -= 1
+        self.pipes = kept
+        self.code = self.code[:begin - 4] + word(len(self.code) - begin) + self.code[begin:]
+
+    def through(self):
+        """A child writes to a pipe, or reads from it, and its parent does the other; mostly each closes the end that it does not want, and the child
+        those of all other pipes."""
+        pipe = self.chance.choice(self.pipes)
+        self.pipes.remove(pipe)
+        others, child_writes = self.pipes, self.chance.random() < 0.5
+
+        def of_child():
+            for place in [place for each in others for place in each[:2]]:
+                if self.chance.random() < 0.9:
+                    self.ask_of(11, place)
+            self.uses_end(pipe, child_writes)
+
+        self.in_child(of_child)
+        self.uses_end(pipe, not child_writes)
+
+    def uses_end(self, pipe, writes):
+        chance = self.chance
+        if chance.random() < 0.95:
+            self.ask_of(11, pipe[0 if writes else 1])
+        if writes:
+            for _ in range(chance.randint(0, 5)):
+                self.moves(13, pipe[1], chance.choice(PIPE_LENGTHS + [0, 33, 40, 100]))
+                self.log()
+        elif chance.random() < 0.7:
+            self.reads_all(pipe[0])
+        else:
+            for _ in range(chance.randint(1, 4)):
+                self.moves(12, pipe[0], chance.choice(PIPE_LENGTHS))
+                self.log()
+        if chance.random() < 0.95:
+            self.ask_of(11, pipe[1 if writes else 0])
+
+    def act_on_pipe(self):
+        """Where no other act is to be expected: bytes are written where there is room, and read where there are any."""
+        chance = self.chance
+        if not self.pipes:
+            self.makes_pipe()
+            return
+        pipe = chance.choice(self.pipes)
+        reading, writing, held = pipe
+        number = chance.choices([20, 11, 12, 13, 14, 15, 16, 19], [2, 1, 6, 8, 1, 4, 1, 3])[0]
+        end = chance.choice([reading, writing])
+        if number == 20:
+            self.makes_pipe()
+            return
+        if number == 12:
+            length = chance.choice(PIPE_LENGTHS if held or chance.random() < 0.03 else [0])
+            self.moves(12, reading, length)
+            pipe[2] = max(held - length, 0)
+        elif number == 13:
+            length = chance.choice([each for each in PIPE_LENGTHS if each <= 32 - held] or [0])
+            if chance.random() < 0.03:
+                length = chance.choice(PIPE_LENGTHS + [33, 40])
+            self.moves(13, writing, length)
+            pipe[2] = min(held + length, 32)
+        elif number == 19:
+            # the copy may take the place of the end
+            self.ask_of(19, end, chance.choice([2, 3, 4, 5, 10, 31, 32]))
+            self.files.append(self.log_at + 4 * self.answers)
+            if chance.random() < 0.3:
+                pipe[0 if end == reading else 1] = self.files[-1]
+        elif number == 15:
+            self.ask_of(15, end, self.log_at + 0x1000 + chance.randrange(40))
+        else:
+            self.ask_of(number, end, chance.choice(SIZES))
+            if number == 11:
+                self.pipes.remove(pipe)
+        self.log()
+
+    def acts(self, count):
+        kinds = [self.act_on_pipe, self.write, self.service, self.through, self.fork]
+        for _ in range(count):
+            if len(self.code) < 0x2000:
+                may_fork = self.depth < self.depth_max
+                self.chance.choices(kinds, [12, 1, 0.3, 5 if may_fork and self.pipes else 0, 0.3 if may_fork else 0])[0]()
+
+    def build(self):
+        chance = self.chance
+        if chance.random() < 0.3:
+            self.opens_file()
+        if chance.random() < 0.1:
+            self.fill()
+            self.give_back(9)
+        for _ in range(chance.randint(1, 4)):
+            self.makes_pipe()
+        self.acts(chance.randint(3, 20))
+        if chance.random() < 0.3:
+            self.end()
+        self.ask(1, self.log_at, 4 * self.answers)
+        self.ask(0)
         assert len(self.code) < 0x2F00
         return image(self.code, 0x6000)
 

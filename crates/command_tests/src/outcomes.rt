@@ -44,7 +44,7 @@ fn check_first_turns(rt: &impl Abort, turns: &[Turn]) {
     let program = Turn {
         slot: 1,
         visible: 10,
-        hidden: 33,
+        hidden: 35,
     };
     assert_eq!(rt; turns, [server, program].as_slice());
 }
@@ -74,7 +74,7 @@ fn check_turns_of_sync(rt: &impl Abort, turns: &[Turn]) {
         turn_of(0, 1, 1),
         turn_of(1, 4, 1),
         turn_of(0, 3, 67),
-        turn_of(1, 6, 33),
+        turn_of(1, 6, 35),
     ];
     assert_eq!(rt; turns, wanted.as_slice());
 }
@@ -104,8 +104,8 @@ fn steps_of(turns: &[Turn], slot: u16) -> (u32, u32) {
 /// ask has not tried in vain 35 times, with a step that gives up the turn behind each.
 fn check_steps_of_two(rt: &impl Abort, turns: &[Turn]) {
     assert_eq!(rt; steps_of(turns, 0), (7, 135));
-    assert_eq!(rt; steps_of(turns, 1), (14, 4136));
-    assert_eq!(rt; steps_of(turns, 2), (10, 34));
+    assert_eq!(rt; steps_of(turns, 1), (14, 4138));
+    assert_eq!(rt; steps_of(turns, 2), (10, 36));
 }
 
 // Behind the fork each turn has one step.

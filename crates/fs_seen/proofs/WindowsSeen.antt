@@ -112,14 +112,14 @@ module _ (d : Disk) (s : KernelState) (n : ℕ) (h : StandsOver d s n) where
 
     module _ (words : HasWords s n) where
       recorded : e.frame < s.spaces.frames
-      recorded = words.recorded e.frame (uses.pages dir p e stands)
+      recorded = words.counted.recorded e.frame (uses.pages dir p e stands)
 
       low : e.frame < 65536
       unfolding frame_limit
       low = (uses.small dir p e stands).0
 
       pub count_gives : (load s n (count_at e.frame)).gives ≡ got (reference_count s.spaces e.frame)
-      count_gives = ap (λ (z : CallStep ℕ). z.gives) (load_count_word s n e.frame low recorded (words.counts e.frame (uses.pages dir p e stands)))
+      count_gives = ap (λ (z : CallStep ℕ). z.gives) (load_count_word s n e.frame low recorded (words.counted.counts e.frame (uses.pages dir p e stands)))
 
       pub count_loaded : (word : ℕ) (mid : KernelState) (output : Output) → IsStep (load s n (count_at e.frame)) (Ok word) mid output →
           (word ≡ reference_count s.spaces e.frame) × IsBehind d s mid n (view_in d s n)

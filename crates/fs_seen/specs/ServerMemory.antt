@@ -6,13 +6,14 @@ use Rattle.jos_base.specs.declared.memory.Access.{Access}
 use Rattle.jos_base.specs.declared.numbers.TheConstants.{FDTABLE}
 use Rattle.jos_base.specs.KernelState.{KernelState, slot_at}
 use Rattle.jos_base.specs.Reach.{Entry, allows}
-use Rattle.jos_base.specs.SpacesState.{page, reference_count}
+use Rattle.jos_base.specs.SpacesState.{reference_count}
 use Rattle.jos_base.specs.Words.{page_number}
 use Rattle.fs_layout.specs.declared.numbers.TheConstants.{MAXBLOCKS}
 use Rattle.fs_layout.specs.FileTree.{sync_files}
 use Rattle.lib_os.specs.declared.numbers.TheConstants.{MAXOPEN, OPEN_RECORDS, REQUEST}
 use Rattle.lib_os.specs.AbstractState.{Request, act, Server, looking, busy}
 use Rattle.lib_os.specs.Disk.{Disk}
+use Rattle.lib_os.specs.LibrarySteps.{HasCounts}
 use Rattle.lib_os.specs.MadeCalls.{is_server_page}
 use Rattle.lib_os.specs.Rows.{IsPage}
 use Rattle.fs_cache.specs.CacheStands.{CacheAt, IsBlockEntry}
@@ -133,10 +134,9 @@ HasRequested _ s n = Unit {0}
 
 -- ---- what the kernel keeps
 
--- The frame of a page has a record, which counts it by a word; and what is kept of the server is words.
+-- It counts pages and turns by words; and what is kept of the server is words.
 pub record HasWords (s : KernelState) (n : ℕ) : Type 0 where
-  pub recorded : (frame : ℕ) → s.spaces.uses frame ≡ page → frame < s.spaces.frames
-  pub counts : (frame : ℕ) → s.spaces.uses frame ≡ page → reference_count s.spaces frame < 2 ^ 32
+  pub counted : HasCounts s n
   pub words : (k : ℕ) → get_or (slot_at s n).extra k 0 < 2 ^ 32
   pub value : (slot_at s n).rendezvous.value < 2 ^ 32
   pub sender : (slot_at s n).rendezvous.sender < 2 ^ 32

@@ -34,6 +34,7 @@ use Rattle.jos_run.specs.AbstractTurns.{turn_begun, is_yielding, may_end, stands
 use Rattle.jos_run.specs.LibraryRuns.{IsBetween, IsInTurn, visible_steps}
 use Rattle.jos_run.specs.ServerStands.{KeepsWhole, MayGiveUpServing, ServerLeaves, WaitsToReply}
 use Rattle.jos_run.specs.Worlds.{World, with_state}
+use Rattle.jos_run.proofs.PipePlaces.{piped_silent}
 use Rattle.jos_run.proofs.RunsKept.{step_hidden, step_visible, stopped_cannot, stopped_may_end, running_born}
 use Rattle.jos_run.proofs.RunsKept.{turn_ends_whole, turn_ends_early, waiting_may_end, pausing_waits, yielded_may_end}
 use Rattle.jos_run.proofs.RunsKept.{yielded_further, yield_tells}
@@ -105,6 +106,7 @@ silent_step v k b (service.Receive va from) (step.ReadingValue id) h awake = by_
     by_come (has so) = so.silent
 silent_step v k b (service.Receive va from) (step.ReadingSender id value) h awake = h.2.silent
 silent_step v k b (service.Receive va from) (step.ReadingPerm id value sender) h awake = h.3.silent
+silent_step v k b s (step.Piped at) h awake = piped_silent v k b s at h
 silent_step v k b service.Sync (step.Asking id) h awake = h.1.silent
 silent_step v k b service.Sync (step.Pausing id) h awake = h.1.silent
 silent_step v k b service.Sync (step.Awaiting id) h awake = h.1.silent
@@ -215,6 +217,7 @@ silent_step v k b (service.OpenFile path mode) (step.OpenPausing id fd) h awake 
 silent_step v k b (service.OpenFile path mode) (step.OpenAwaiting id fd) h awake = h.2.silent
 silent_step v k b (service.OpenFile path mode) (step.OpenClearing id fd) h awake = silent_opened v k b (service.OpenFile path mode) fd h.1 awake
 silent_step v k b (service.OpenFile path mode) (step.ReadingOpened id fd) h awake = h.1.silent
+silent_step v k b service.Pipe (step.FreeEntry fd) h awake = h.0.silent
 silent_step v k b (service.Remove path) step.TakingPage h awake = h.0.silent
 silent_step v k b (service.Remove path) (step.Gathering done) h awake = silent_gathering (may_follow path done) v k b (service.Remove path) done h
 silent_step v k b (service.Remove path) (step.Keeping done word left) h awake = h.is_in.silent
@@ -288,24 +291,24 @@ comes : {schedule : List ℕ} {first : AbstractState} {turns : List Turn} {n vis
     Comes schedule first turns n (visible + visible_steps done) hidden after (written ++ bytes)
 unfolding step_hidden step_visible
 comes {n = n} {visible = visible} bytes h progress.Hidden keeps none_refused last runs gives hidden =
-    let stays = keeps h.now h.stands none_refused in
+    let stays = keeps h.now h.stands (λ other. runs) none_refused in
     let only = only_runs stays.1.0.1 n last in
     comes_by (step_hidden bytes h stays only)
     (λ ready. waiting_may_end h.before h.now (turn_of n (visible + 0) hidden) (gives ready))
 comes {n = n} bytes h progress.Waited keeps none_refused last runs gives hidden =
-    let stays = (keeps h.now h.stands none_refused).0 in
+    let stays = (keeps h.now h.stands (λ other. runs) none_refused).0 in
     comes_by (step_hidden bytes h stays (only_runs stays.1.0.1 n last)) (λ ready. absurd (gives ready))
 comes {n = n} bytes h progress.Visible keeps none_refused last runs gives hidden =
-    let goes_on = keeps h.now h.stands none_refused in
+    let goes_on = keeps h.now h.stands (λ other. runs) none_refused in
     comes_by (step_visible bytes h goes_on (only_runs goes_on.3.0.1 n last)) (λ ready. absurd (gives ready))
 comes {n = n} {visible = visible} bytes h progress.Finished keeps none_refused last runs gives hidden =
-    let goes_on = keeps h.now h.stands none_refused in
+    let goes_on = keeps h.now h.stands (λ other. runs) none_refused in
     let only = only_runs goes_on.3.0.1 n last in
     comes_by (step_visible bytes h goes_on only)
     (λ ready. yielded_may_end h.before goes_on.0 (turn_of n (visible + 1) hidden)
     (yielded_further n (turn_begun h.before n) h.now visible h.taken (gives ready)))
 comes {n = n} bytes h progress.Ended keeps none_refused last runs gives hidden =
-    let goes_on = keeps h.now h.stands none_refused in
+    let goes_on = keeps h.now h.stands (λ other. runs) none_refused in
     comes_by (step_visible bytes h goes_on (only_runs goes_on.3.0.1 n last)) (λ ready. absurd (gives ready))
 
 others_may : {names : Names} {s : KernelState} {a : AbstractState} → StandsFor names s a → (n : ℕ) → n ≢ 0 → is_running (slot_at s n).status ≡ true →

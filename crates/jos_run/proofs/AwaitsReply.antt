@@ -52,6 +52,8 @@ settled_home number (next.Answer word) t n =
     put_home t n (record (slot_at t n) { registers = record (slot_at t n).registers { eax = word }; extra = no_extra }) refl
 settled_home number (next.Answers eax edx ecx ebx) t n =
     put_home t n (record (slot_at t n) { registers = record (slot_at t n).registers { eax = eax; edx = edx; ecx = ecx; ebx = ebx }; extra = no_extra }) refl
+settled_home number (next.AnswersEnds reading writing) t n =
+    put_home t n (record (slot_at t n) { registers = record (slot_at t n).registers { eax = 0; edx = reading; ecx = writing }; extra = no_extra }) refl
 settled_home number (next.GoOn at) t n = put_home t n (record (slot_at t n) { extra = words_at number at }) refl
 settled_home number (next.GoBack word) t n =
     put_home t n (record (slot_at t n) { registers = record (slot_at t n).registers { eax = word }; extra = no_extra }) refl
@@ -65,6 +67,7 @@ settled_home number next.Gone t n = refl
 settled_spaces : (number : ℕ) (after : Next) (t : KernelState) (n : ℕ) → (settled number after t n).spaces ≡ t.spaces
 settled_spaces number (next.Answer word) t n = refl
 settled_spaces number (next.Answers eax edx ecx ebx) t n = refl
+settled_spaces number (next.AnswersEnds reading writing) t n = refl
 settled_spaces number (next.GoOn at) t n = refl
 settled_spaces number (next.GoBack word) t n = refl
 settled_spaces number (next.Show at) t n = refl

@@ -45,7 +45,7 @@ use Rattle.jos_run.specs.Closing.{ActsSooner, ActsWithinOver, IsCutClosing, IsOv
 use Rattle.jos_run.specs.RunReports.{LacksSpace}
 use Rattle.jos_run.specs.RunSteps.{ClosingStep, CloseTo, IsClosing, IsWrittenBack, acts_in, closing_written}
 use Rattle.jos_run.specs.Served.{Parts, kernel_state}
-use Rattle.jos_run.specs.ServerStands.{IsWholeStep, KeepsWhole, ServerLeaves, StandsWhole, WholeFollows, WholeGoesOn, WholeStays, step_of}
+use Rattle.jos_run.specs.ServerStands.{IsWholeStep, KeepsWhole, MayStep, ServerLeaves, StandsWhole, WholeFollows, WholeGoesOn, WholeStays, step_of}
 use Rattle.jos_run.specs.Steps.{is_awake, is_servers}
 use Rattle.jos_run.specs.Worlds.{World, beside, told_disk}
 use Rattle.jos_run.proofs.FilesStand.{acting_stands}
@@ -165,6 +165,10 @@ step_is : (a b : AbstractState) → server_step a ≡ Some b → served a a.serv
 unfolding server_step
 step_is a b is = is
 
+-- behind the turns the file server goes on alone
+first_may : (s : KernelState) → MayStep s 0
+first_may s other = absurd (other refl)
+
 -- ---- one step
 
 module _ (frames : ℕ) (begun : AbstractState) (count : ℕ) (w after : World) (done : Progress) (written : List ℕ) (h : HasGoneOn frames begun count w)
@@ -247,7 +251,7 @@ module _ (frames : ℕ) (begun : AbstractState) (count : ℕ) (w after : World) 
 
   gone_further : after.state.refusals ≡ w.state.refusals → FurtherSo
   gone_further same =
-      by_done done (keeps h.now h.stood.stands none_refused) (sooner acts h.now h.stood.stands none_refused left_now (h.soon busy_now).2)
+      by_done done (keeps h.now h.stood.stands (first_may w.state) none_refused) (sooner acts h.now h.stood.stands none_refused left_now (h.soon busy_now).2)
     where
       none_refused : NothingRefused w.state after.state
       none_refused = record { stays = same; could = (let none : w.state.refusals ≡ 0 = h.stood.quiet in omega (arith, none)) }
@@ -426,7 +430,7 @@ module _ (count turn : ℕ) (first mid : Option Refusal) (p q r : Parts) (d e f 
           ClosesBy o frames turn (from_to p.written q.written) begun count v h.printed →
           FailsBy o frames turn p.written begun (h.printed ++ take step.1.0 step.0)
       by_mid_failed frames begun None k =
-          let nothing : step.0 ≡ [] = step.2 k.2.now k.2.stood.stands in
+          let nothing : step.0 ≡ [] = step.2 k.2.now k.2.stood.stands (first_may v.state) in
           (λ i. k.0 i ++ take step.1.0 (nothing i)) ∙ take_none step.1.0
       by_mid_failed frames begun (Some refusal) k = k.1
 

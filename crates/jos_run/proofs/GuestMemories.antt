@@ -37,7 +37,8 @@ use Rattle.lib_os.specs.StandsInHandler.{is_refused_by, is_write}
 use Rattle.lib_os.proofs.BytesRead.{IsLostWrite, IsRefusal, user_right, user_allows, user_fault, user_entry_write, user_lost, user_refusal, user_byte_is}
 use Rattle.lib_os.proofs.BytesStand.{stored_stands}
 use Rattle.lib_os.proofs.Fences.{inside_number}
-use Rattle.lib_os.proofs.Logical.{inside_programs}
+use Rattle.lib_os.proofs.Logical.{inside_programs, is_making_pipe}
+use Rattle.lib_os.proofs.SlotsStand.{is_piped}
 use Rattle.lib_os.proofs.StatesStand.{quiet_stands}
 use Rattle.lib_os.proofs.Touching.{touched_quiet, byte_stored}
 use Rattle.lib_os.proofs.UsesKept.{touched_kept, stored_kept}
@@ -113,12 +114,13 @@ pub record IsGuestCopy (s : SpacesState) (d va : ℕ) : Type 0 where
 
 -- of the environment in slot n, which stands at its program
 module _ (names : Names) (n : ℕ) (k : Slot) (is_guest : place_of k ≡ place.Guest) (rows : Rows) (old : Born) (console : List ℕ) where
-  -- The kernel's state with the directory of slot n stands for the abstract state; of the environment in the slot nothing is
-  -- changed but its memory, and entries stand as they stood.
+  -- The kernel's state with the directory of slot n, which has the turn, stands for the abstract state; of the environment in the slot
+  -- nothing is changed but its memory, and entries stand as they stood.
   pub record Alike (m : Running) (g : GuestMemory) : Type 0 where
     pub loaded : m.directory ≡ Some (slot_at m.state n).directory
     pub slot : g.slot ≡ n
     pub kept : slot_at m.state n ≡ k
+    pub last : m.state.last ≡ Some n
     pub rows_kept : rows_of m.state.spaces ≡ rows
     pub after : StandsAfter g.state n old console
     pub stands : StandsFor names m.state g.state
@@ -197,6 +199,7 @@ module _ (names : Names) (n : ℕ) (k : Slot) (is_guest : place_of k ≡ place.G
           loaded = r.loaded;
           slot = r.slot;
           kept = r.kept;
+          last = r.last;
           rows_kept = quiet.rows ∙ r.rows_kept;
           after = r.after;
           stands = quiet_stands r.stands quiet (touched_order va access);
@@ -235,9 +238,11 @@ module _ (names : Names) (n : ℕ) (k : Slot) (is_guest : place_of k ≡ place.G
           loaded = r.loaded;
           slot = refl;
           kept = r.kept;
+          last = r.last;
           rows_kept = put.rows ∙ r.rows_kept;
           after = later (stored g.state n it va byte) (stored_after g.state n it va byte (it.memory (page_number va)) r.after.there);
-          stands = stored_stands r.stands n it r.after.there outside (ap borne_in stands_at) va byte small (inside_programs va h.0) (lasting found.0)
+          stands = stored_stands r.stands n it r.after.there outside (ap borne_in stands_at)
+              (ap is_making_pipe stands_at) (ap is_piped stands_at) r.last va byte small (inside_programs va h.0) (lasting found.0)
               (row_is m.state.spaces d (page_number va) found.0 found.1) found.3 put (stored_order va byte);
         }
 

@@ -30,7 +30,7 @@ use Rattle.lib_os.specs.Fence.{is_inside, is_resident}
 use Rattle.lib_os.specs.InOrder.{HasOneUse}
 use Rattle.lib_os.specs.LibrarySteps.{KeepsServer}
 use Rattle.lib_os.specs.Places.{words_entered}
-use Rattle.lib_os.specs.Rows.{is_descriptor}
+use Rattle.lib_os.specs.Rows.{is_of_descriptor}
 use Rattle.lib_os.proofs.Logical.{inside_programs, programs_no_descriptor}
 use Rattle.lib_os.proofs.ServerLeft.{IsAside, ServerStays, aside_asked, asked_before, handled_server, keeps_server}
 use Rattle.lib_os.proofs.SpacesLeft.{SpaceLeft, IsBesidePages, IsNoneLeft, begins_beside, destroyed_left, same_left, stored_beside, stored_left}
@@ -52,7 +52,7 @@ stored_uses s d va byte = by_outcome (reach_in s d va Write)
 
 -- what is left after one step and after the next, where none of the pages that are left is one of the program's in between
 stays_then : (d n : ℕ) (s t u : KernelState) →
-    ((p : ℕ) (e : Entry) → is_descriptor p ≡ false → t.spaces.entries (slot_at t n).directory p ≡ Some e →
+    ((p : ℕ) (e : Entry) → is_of_descriptor p ≡ false → t.spaces.entries (slot_at t n).directory p ≡ Some e →
     IsNoneLeft (slot_at s n).directory d s.spaces e.frame) →
     ServerStays d n s t → ServerStays d n t u → ServerStays d n s u
 stays_then d n s t u none h k = record {
@@ -149,7 +149,7 @@ module _ (d : ℕ) (s : KernelState) (n : ℕ) (h : IsAside d s n) where
         pages = touched_beside home d s.spaces h.frames x.state.spaces va access w.pages;
       })
 
-  stored_walks : (x : Running) → Walks x → (o : Option ℕ) → o ≡ Some home → (va byte : ℕ) → is_descriptor (page_number va) ≡ false →
+  stored_walks : (x : Running) → Walks x → (o : Option ℕ) → o ≡ Some home → (va byte : ℕ) → is_of_descriptor (page_number va) ≡ false →
       Walks (with_state x (stored_in_space x.state o va byte))
   stored_walks x w None none va byte beside = absurd cc
   stored_walks x w (Some q) is va byte beside =

@@ -52,6 +52,7 @@ use Rattle.lib_os.specs.StandsInHandler.{AreSmall, IsAtGuest, is_write}
 use Rattle.lib_os.proofs.EndsStand.{ended_stands}
 use Rattle.lib_os.proofs.FaultsStand.{esp_free, fault_copies, fault_ends, fault_handled, fault_lowers, guest_at, guest_beneath, handed, stack_frame}
 use Rattle.lib_os.proofs.Logical.{is_plain}
+use Rattle.lib_os.proofs.PipesStand.{calm_places, descriptors_turned, is_calm}
 use Rattle.lib_os.proofs.Removing.{destroyed_gone}
 use Rattle.lib_os.proofs.Serving.{library_moved, words_of_none}
 use Rattle.lib_os.proofs.Slots.{slot_back}
@@ -152,7 +153,8 @@ module _ (names : Names) (n : ℕ) (k : Slot) (is_guest : place_of k ≡ place.G
         let h = r.stands.in_order in
         let used = directory_is (m.state.spaces.uses d) (h.spaces.in_use n (born_live born_stands)) in record {
           printed = λ i. r.after.console_is i ++ line_text (sym born_stands.id i) why;
-          stands = λ order. printed_stands (ended_stands r.stands n it r.after.there (ap borne_in at_program) (destroyed_gone m.state.spaces d h.frames used) order)
+          stands = λ order. printed_stands (ended_stands r.stands n it r.after.there (ap borne_in at_program) (ap is_calm at_program) r.last
+              (destroyed_gone m.state.spaces d h.frames used) order)
               (line_text it.id why);
         }
 
@@ -163,10 +165,12 @@ module _ (names : Names) (n : ℕ) (k : Slot) (is_guest : place_of k ≡ place.G
 
     -- it goes on, with nothing written
     moves : (slot : Slot) (next : Born) → slot.directory ≡ d → Settles (slot_at m.state n) slot → is_plain (place_of slot) ≡ true →
-        StandsForBorn names m.state.spaces slot next → Goes (with_slot_at m.state n slot) [] (with_born g.state n next)
-    moves slot next same settles plain h = record {
+        is_calm (place_of slot) ≡ true → StandsForBorn names m.state.spaces slot next → ((fd : ℕ) → next.descriptors fd ≡ it.descriptors fd) →
+        Goes (with_slot_at m.state n slot) [] (with_born g.state n next)
+    moves slot next same settles plain calm h descriptors = record {
       printed = r.after.console_is ∙ sym (append-nil console);
-      stands = λ order. slot_changed r.stands n it r.after.there slot next same settles (ap is_plain at_program) plain h;
+      stands = λ order. slot_changed r.stands n it r.after.there slot next same settles (ap is_plain at_program) plain h
+          (calm_places (ap is_calm at_program) calm) descriptors;
     }
 
     abbrev with_regs : Regs → Slot
@@ -187,7 +191,8 @@ module _ (names : Names) (n : ℕ) (k : Slot) (is_guest : place_of k ≡ place.G
           env_type = h.env_type;
           runs = h.runs;
           upcall = h.upcall ∙ ap upcall_at (at_program ∙ sym there);
-          descriptors = h.descriptors;
+          descriptors = descriptors_turned names m.state.spaces d (place_of (slot_at m.state n)) (place_of (with_regs regs)) it.descriptors
+              (ap is_calm at_program) (ap is_calm there) h.descriptors;
           memory = h.memory;
           library = library_moved (place_of (slot_at m.state n)) (place_of (with_regs regs)) (slot_at m.state n).extra (slot_at m.state n).extra
               (rows_of m.state.spaces d) (ap has_copy (at_program ∙ sym there))
@@ -218,7 +223,8 @@ module _ (names : Names) (n : ℕ) (k : Slot) (is_guest : place_of k ≡ place.G
           env_type = h.env_type;
           runs = h.runs;
           upcall = h.upcall ∙ ap upcall_at at_program ∙ sym (ap upcall_at there);
-          descriptors = h.descriptors;
+          descriptors = descriptors_turned names m.state.spaces d (place_of (slot_at m.state n)) (place_of (asked_slot regs)) it.descriptors
+              (ap is_calm at_program) (ap is_calm there) h.descriptors;
           memory = h.memory;
           library = library_moved (place_of (slot_at m.state n)) (place_of (asked_slot regs)) (slot_at m.state n).extra (words_entered regs)
               (rows_of m.state.spaces d) (ap has_copy at_program ∙ sym (ap has_copy there))
@@ -249,8 +255,8 @@ module _ (names : Names) (n : ℕ) (k : Slot) (is_guest : place_of k ≡ place.G
             (if c then ends_with g.state n it (line.Trap T_GPFLT 0 ip) else with_born g.state n (record it { program = guest regs }))
         by_stack true is = ends_set regs (line.Trap T_GPFLT 0 ip)
         by_stack false is =
-            moves (with_regs regs) (record it { program = guest regs }) refl (record { id = refl; env_type = refl; calm = λ runs. runs })
-            (ap is_plain (place_with regs is)) (stepped regs is flags)
+            moves (with_regs regs) (record it { program = guest regs }) refl (record { id = refl; env_type = refl; turns = refl; calm = λ runs. runs })
+            (ap is_plain (place_with regs is)) (ap is_calm (place_with regs is)) (stepped regs is flags) (λ fd. refl)
 
     on_soft : (regs : Regs) (vector : ℕ) → regs.esp ≡ k.registers.esp → regs.eflags ≡ user_flags regs.eflags →
         GoesOnTo (after_event (with_registers m.state n regs) n ip (Soft vector)) (guests.after_event g.state n it ip regs (Soft vector))
@@ -259,7 +265,7 @@ module _ (names : Names) (n : ℕ) (k : Slot) (is_guest : place_of k ≡ place.G
         outside : is_resident regs.esp ≡ false
         outside =
             ap is_resident stack ∙ ap (λ (slot : Slot). is_resident slot.registers.esp) (sym r.kept)
-            ∙ esp_free r.stands n it r.after.there place.Guest at_program refl refl
+            ∙ esp_free r.stands n it r.after.there place.Guest at_program refl refl refl
 
         entered_is : with_extra (with_registers m.state n regs) n (words_entered (slot_at (with_registers m.state n regs) n).registers)
             ≡ with_slot_at m.state n (asked_slot regs)
@@ -273,8 +279,9 @@ module _ (names : Names) (n : ℕ) (k : Slot) (is_guest : place_of k ≡ place.G
             (if c then guests.service_entered g.state n it regs else ends_with g.state n it (line.Trap T_BRKPT 0 regs.eip))
         by_vector true =
             subst (λ (state : KernelState). Goes state [] (with_born g.state n (asked_born regs))) (sym entered_is)
-            (moves (asked_slot regs) (asked_born regs) refl (record { id = refl; env_type = refl; calm = λ runs. runs })
-            (ap is_plain (place_entered regs (not_handlers regs.esp outside)) ∙ entered_plain (service_of regs)) (asked regs outside flags))
+            (moves (asked_slot regs) (asked_born regs) refl (record { id = refl; env_type = refl; turns = refl; calm = λ runs. runs })
+            (ap is_plain (place_entered regs (not_handlers regs.esp outside)) ∙ entered_plain (service_of regs))
+            (ap is_calm (place_entered regs (not_handlers regs.esp outside))) (asked regs outside flags) (λ fd. refl))
         by_vector false =
             let e : (slot_at (with_registers m.state n regs) n).registers.eip ≡ regs.eip =
             ap (λ (slot : Slot). slot.registers.eip) (slot_set m.state n regs) in
@@ -282,14 +289,14 @@ module _ (names : Names) (n : ℕ) (k : Slot) (is_guest : place_of k ≡ place.G
 
     -- what is delivered of a page fault
     abbrev fault_state : PageFault → KernelState
-    fault_state fault = handed m.state n fault (stack_frame r.stands n it r.after.there place.Guest at_program refl refl)
+    fault_state fault = handed m.state n fault (stack_frame r.stands n it r.after.there place.Guest at_program refl refl refl)
 
     delivered_is : (regs : Regs) (fault : PageFault) → regs ≡ k.registers →
         deliver_fault (with_registers m.state n regs) n fault ≡ record { state = fault_state fault; written = [] }
     delivered_is regs fault same =
         ap (λ (t : KernelState). deliver_fault t n fault)
         (same_set m.state n regs (same ∙ ap (λ (slot : Slot). slot.registers) (sym r.kept)))
-        ∙ ap (delivered_to m.state n fault) (fault_handled r.stands n it r.after.there place.Guest at_program refl refl fault)
+        ∙ ap (delivered_to m.state n fault) (fault_handled r.stands n it r.after.there place.Guest at_program refl refl refl fault)
 
     -- it is marked with a page fault that ends it
     marked : (error va : ℕ) → AreSmall k.registers → IsGuestRefusal (rows_of m.state.spaces d) error va →
@@ -299,9 +306,9 @@ module _ (names : Names) (n : ℕ) (k : Slot) (is_guest : place_of k ≡ place.G
       stands = λ order.
           subst (λ (slot : Slot). StandsFor names (fault_state (record { va = va; error = error }))
           (with_born g.state n (record it { phase = faulted va slot.registers.eip }))) r.kept
-          (fault_ends r.stands n it r.after.there place.Guest at_program refl refl (record { va = va; error = error })
+          (fault_ends r.stands n it r.after.there place.Guest at_program refl refl refl (record { va = va; error = error })
           (guest_at r.stands n it r.after.there at_program)
-          (subst (λ (slot : Slot). AreSmall slot.registers) (sym r.kept) small) refusal.inside refusal.small refusal.refusal order);
+          (subst (λ (slot : Slot). AreSmall slot.registers) (sym r.kept) small) refusal.inside refusal.small refusal.refusal order r.last);
     }
 
     on_raised : (regs : Regs) (trap error va : ℕ) → regs ≡ k.registers → IsOfMemory guest_memory (Raised trap error va) g →
@@ -366,14 +373,14 @@ module _ (names : Names) (n : ℕ) (k : Slot) (is_guest : place_of k ≡ place.G
           written = ap (λ (done : Trapped). done.written) told;
           stands = λ order.
               subst (λ (t : KernelState). StandsFor names t g.state) (sym state_is)
-              (fault_copies r.stands n it r.after.there place.Guest at_program refl refl (copy_fault va)
+              (fault_copies r.stands n it r.after.there place.Guest at_program refl refl refl (copy_fault va)
               (subst (λ (slot : Slot). AreSmall slot.registers) (sym r.kept) small) copy.inside refl copy.lost.page
-              (guest_beneath r.stands n it r.after.there at_program) (subst IsInOrder state_is order));
+              (guest_beneath r.stands n it r.after.there at_program) (subst IsInOrder state_is order) r.last);
           lowers =
               subst (λ (t : KernelState). hidden_left t n < left_at (place_of k) (copies_left (rows k.directory))) (sym state_is)
               (subst (λ (left : ℕ). hidden_left (fault_state (copy_fault va)) n < left)
               (λ i. left_at (place_of (r.kept i)) (copies_left (r.rows_kept i (r.kept i).directory)))
-              (fault_lowers r.stands n it r.after.there place.Guest at_program refl refl (copy_fault va) refl copy.inside copy.lost.page));
+              (fault_lowers r.stands n it r.after.there place.Guest at_program refl refl refl (copy_fault va) refl copy.inside copy.lost.page));
         }
 
     copied_so : (va : ℕ) (regs : Regs) → IsGuestCopy m.state.spaces d va →
@@ -387,7 +394,7 @@ module _ (names : Names) (n : ℕ) (k : Slot) (is_guest : place_of k ≡ place.G
     handed_so va regs same =
         ap (λ (t : KernelState). is_some (handled t n (copy_fault va)))
         (same_set m.state n regs (same ∙ ap (λ (slot : Slot). slot.registers) (sym r.kept)))
-        ∙ ap is_some (fault_handled r.stands n it r.after.there place.Guest at_program refl refl (copy_fault va))
+        ∙ ap is_some (fault_handled r.stands n it r.after.there place.Guest at_program refl refl refl (copy_fault va))
 
   -- two steps in related memories
   after_both : (s : cpu.Stepped Running) (z : cpu.Stepped GuestMemory) → SameStep AlikeHere s z → Leaves s.event k.registers s.regs →
@@ -427,7 +434,8 @@ pub record IsCopied (names : Names) (s : KernelState) (a : AbstractState) (n : �
   pub lowers : hidden_left (guest_instruction s n).state n < hidden_left s n
 
 module _ (names : Names) (s : KernelState) (a : AbstractState) (n : ℕ) (b : Born) (h : StandsFor names s a) (there : a.slots n ≡ born b)
-    (is_guest : place_of (slot_at s n) ≡ place.Guest) (small : SmallAtFault (slot_at s n).registers (instruction_step s n).event) where
+    (is_guest : place_of (slot_at s n) ≡ place.Guest) (small : SmallAtFault (slot_at s n).registers (instruction_step s n).event)
+    (last : s.last ≡ Some n) where
   abbrev k : Slot
   k = slot_at s n
 
@@ -442,6 +450,7 @@ module _ (names : Names) (s : KernelState) (a : AbstractState) (n : ℕ) (b : Bo
     loaded = refl;
     slot = refl;
     kept = refl;
+    last = last;
     rows_kept = refl;
     after = record { it = b; there = there; program = refl; phase = refl; console_is = refl };
     stands = h;

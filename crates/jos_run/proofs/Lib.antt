@@ -17,6 +17,7 @@ pub mod OthersLive
 pub mod Printed
 pub mod Puts
 pub mod BlockMoves
+pub mod PipePlaces
 pub mod RunsKept
 pub mod TurnsTaken
 pub mod SpacesKept

@@ -10,7 +10,7 @@ use Rattle.jos_kernel.specs.declared.trace.TrapLine.{TrapLine}
 use Rattle.lib_os.specs.declared.progress.Progress.{Progress}
 use Rattle.lib_os.specs.Disk.{Disk, DiskFile}
 use Rattle.lib_os.specs.MadeCalls.{MakesServersCall}
-use Rattle.lib_os.specs.LibrarySteps.{IsLibraryStep, Leaves, LeavesRest, Lowers, GivesUp, TakesByPlace}
+use Rattle.lib_os.specs.LibrarySteps.{HasCounts, IsLibraryStep, Leaves, LeavesRest, Lowers, GivesUp, TakesByPlace}
 use Rattle.lib_os.specs.Places.{place_of}
 use Rattle.lib_os.specs.UserCalls.{Output}
 use Rattle.jos_run.specs.declared.steps.StepOutcome.{StepOutcome}
@@ -19,7 +19,7 @@ use Rattle.jos_run.specs.Steps.{LeavesAs, Raises, RaisesAs, is_awake, is_servers
 use Rattle.jos_run.specs.StepsAtOnce.{MakesSteps}
 use Rattle.jos_run.specs.Worlds.{World, beside}
 use Rattle.jos_run.proofs.ServerLeavings.{server_call_leaves}
-use Rattle.jos_run.proofs.ProgramSteps.{leaves_as, raises_as, whole_step}
+use Rattle.jos_run.proofs.ProgramSteps.{leaves_as, raises_as, running_step, whole_step}
 use Rattle.jos_run.proofs.RequestsCalm.{RequestsCalmly}
 
 -- ---- a step alone, by what it has come to
@@ -63,13 +63,13 @@ module _ (disk : Option Disk) (s after : KernelState) (n : ℕ) (output : Output
   step_rest (Ok done) leaves = leaves.rest
   step_rest (Err failed) leaves = tt
 
-  pub library_made : (did : Result Progress Failed) (last : Result StepOutcome Failed) → step_progress last ≡ did →
+  pub library_made : HasCounts s n → (did : Result Progress Failed) (last : Result StepOutcome Failed) → step_progress last ≡ did →
       IfOk last (λ stepped. stepped.trap ≡ trap) → IsLibraryStep did n s after output → Leaves did n s after → Lowers did n s after →
       GivesUp did (slot_at s n) (slot_at after n) → IfOk did (λ done. TakesByPlace n s after) → IfOk did (λ done. RequestsCalmly n s after) →
       MakesSteps n 0 last (beside s disk) (beside after disk) output
-  library_made did last told with_trap step leaves lowers gives_up takes calm =
+  library_made words did last told with_trap step leaves lowers gives_up takes calm =
       made_alone (beside s disk) (beside after disk) n output did trap (raises_as (is_servers s n) s after n trap user raised) last told with_trap
-      (whole_step disk s after n output user awake did leaves calm step)
+      (whole_step disk s after n output user awake did leaves calm (running_step s after n output words did step))
       (step_rest did leaves)
       (leaves_as (is_servers s n) disk did s after n user (record { each = leaves; lowers = lowers; gives_up = gives_up; takes = takes }))
 

@@ -25,7 +25,7 @@ use Rattle.lib_os.specs.Descriptors.{is_held}
 use Rattle.lib_os.specs.FileServer.{reply, reply_at}
 use Rattle.lib_os.specs.GuestStep.{born_in}
 use Rattle.lib_os.specs.Places.{place_of}
-use Rattle.lib_os.specs.Rows.{IsNamed, Names, ShowsBy, descriptor_page, descriptor_perm, is_shared, logical, rows_of}
+use Rattle.lib_os.specs.Rows.{HasThing, IsNamed, Names, ShowsBy, descriptor_page, descriptor_perm, is_shared, logical, rows_of}
 use Rattle.lib_os.specs.StandsFor.{IsServerStatus, StandsFor, StandsForBorn, things_in, view_of}
 use Rattle.lib_os.specs.UserCalls.{giving}
 use Rattle.lib_os.proofs.AskedPlaces.{AskedPlace, asked_place}
@@ -34,6 +34,7 @@ use Rattle.lib_os.proofs.Holders.{HeldAs, other_entry}
 use Rattle.lib_os.proofs.Logical.{clients_are, logical_of}
 use Rattle.lib_os.proofs.NamesGiven.{IsUnused}
 use Rattle.lib_os.proofs.PassedOn.{given_with}
+use Rattle.lib_os.proofs.PipeOwners.{pipe_ends}
 use Rattle.lib_os.proofs.Sends.{found_where, not_waited_for, page_has_no_table}
 use Rattle.lib_os.proofs.ServerOpens.{HasGivenFile, HasOpenedFile, descriptor_entry, file_given, open_reply_call, opener}
 use Rattle.lib_os.proofs.ServerReplies.{served_is, status_at}
@@ -77,14 +78,26 @@ module _ {names : Names} {s : KernelState} {a : AbstractState} (h : StandsFor na
       named_so : IsNamed names s.spaces.pages a.shared (things_in s a) a.next_name p x.frame
       named_so = h.named m p x counts shared_page
 
-      shows : ShowsBy (things_in s a) name x.frame (names.is_object name) (a.shared name) (s.spaces.pages x.frame)
+      shows : ShowsBy (things_in s a) name x.frame (names.is_object name) (names.is_pipe name) (a.shared name) (s.spaces.pages x.frame)
       shows =
-          subst (λ (n : ℕ). ShowsBy (things_in s a) n x.frame (names.is_object n) (a.shared n) (s.spaces.pages x.frame)) same named_so.shows
+          subst (λ (n : ℕ). ShowsBy (things_in s a) n x.frame (names.is_object n) (names.is_pipe n) (a.shared n) (s.spaces.pages x.frame)) same
+          named_so.shows
+
+      -- a pipe's page would be that of an end
+      no_pipe : names.is_pipe name ≡ true → ⊥
+      no_pipe is =
+          let end = pipe_ends h m p x counts shared_page (sym named_so.of_pipe ∙ ap (λ (n : ℕ). names.is_pipe n) same ∙ is) in
+          nobodys.ends end.0 (end.1 ∙ ap (λ (n : ℕ). Some n) same)
+
+      off_pipes : (c : Bool) → names.is_pipe name ≡ c → c ≡ false
+      off_pipes false is = refl
+      off_pipes true is = absurd (no_pipe is)
 
       by_kind : (c : Bool) → names.is_object name ≡ c → ⊥
       by_kind true is =
           let has : HasObject (things_in s a) name x.frame (a.objects name) (s.spaces.pages x.frame) =
-          subst (λ (c : Bool). ShowsBy (things_in s a) name x.frame c (a.shared name) (s.spaces.pages x.frame)) is shows in
+          subst (λ (c : Bool). HasThing (things_in s a) name x.frame c (s.spaces.pages x.frame)) (off_pipes (names.is_pipe name) refl)
+          (subst (λ (c : Bool). ShowsBy (things_in s a) name x.frame c (names.is_pipe name) (a.shared name) (s.spaces.pages x.frame)) is shows) in
           let it : IsOpenFile (things_in s a) name x.frame f (s.spaces.pages x.frame) =
           subst (λ (o : Object). HasObject (things_in s a) name x.frame o (s.spaces.pages x.frame)) object has in
           let its_number : number ≡ number_of (s.spaces.pages x.frame) = alone (number_of (s.spaces.pages x.frame)) it.held in
@@ -94,7 +107,7 @@ module _ {names : Names} {s : KernelState} {a : AbstractState} (h : StandsFor na
           counted_frame m p x counts (sym it.same ∙ ap (λ (y : Entry). y.frame) (sym raw.2) ∙ ap (λ (y : Entry). y.frame) one)
       by_kind false is =
           let bytes : a.shared name ≡ s.spaces.pages x.frame =
-          subst (λ (c : Bool). ShowsBy (things_in s a) name x.frame c (a.shared name) (s.spaces.pages x.frame)) is shows in
+          subst (λ (c : Bool). ShowsBy (things_in s a) name x.frame c (names.is_pipe name) (a.shared name) (s.spaces.pages x.frame)) is shows in
           let whole : length (s.spaces.pages x.frame) ≡ PGSIZE = (h.whole m p x counts).long in
           let none : length (s.spaces.pages x.frame) ≡ 0 = ap (λ (l : List ℕ). length l) (sym bytes ∙ nobodys.page) in
           omega (arith, whole, none)

@@ -26,7 +26,7 @@ use Rattle.lib_os.specs.Disk.{Disk}
 use Rattle.lib_os.specs.LibraryPages.{IsOwnWritable, View, has_working}
 use Rattle.lib_os.specs.LibrarySteps.{KeepsWorking, LacksFrame, LeavesServer, Stands}
 use Rattle.lib_os.specs.Places.{place_of}
-use Rattle.lib_os.specs.Rows.{MayBeHad, Names, Rows, is_descriptor, is_shared, lasting, logical, rows_of}
+use Rattle.lib_os.specs.Rows.{MayBeHad, Names, Rows, is_of_descriptor, is_shared, lasting, logical, rows_of}
 use Rattle.lib_os.specs.StandsFor.{IsStatusFor, StandsFor, StandsForBorn, view_of}
 use Rattle.lib_os.proofs.AskedPlaces.{IsRequesting, asked_step, asks as asks_it, awaiting_step, expects, expects_so, is_request, is_requests}
 use Rattle.lib_os.proofs.AskedPlaces.{requesting}
@@ -110,8 +110,14 @@ module _ {names : Names} {s : KernelState} {a : AbstractState} (h : StandsFor na
       let had : MayBeHad false found.page found.entry =
       subst (λ (c : Bool). MayBeHad c found.page found.entry) no_request
       (h.beside found.slot found.page q found.entry (lasting e) found.counts (ap (option_map lasting) there) (found.frame ∙ same)) in
-      let at_page : found.page ≡ p = found.itself (sym found.sharing ∙ had.shared) in
-      let contradiction : false ≡ true = sym beside ∙ ap is_descriptor (sym at_page) ∙ had.descriptor in cc
+      let at_page : found.page ≡ p = found.itself (by_test found.entry (is_shared (lasting x).perm) refl found.own had.shared) in
+      let contradiction : false ≡ true = sym beside ∙ ap is_of_descriptor (sym at_page) ∙ had.descriptor in cc
+    where
+      -- what counts as shared stands shared
+      by_test : (e : Entry) (c : Bool) → is_shared (lasting x).perm ≡ c → (is_shared (lasting x).perm ≡ false → is_shared e.perm ≡ false) →
+          is_shared e.perm ≡ true → is_shared (lasting x).perm ≡ true
+      by_test e true test own shared_page = test
+      by_test e false test own shared_page = absurd (false≢true (sym (own test) ∙ shared_page))
 
   -- ---- the page in which a client has told its request
 

@@ -27,7 +27,7 @@ use Rattle.lib_os.specs.AbstractState.{AbstractState}
 use Rattle.lib_os.specs.Fence.{is_resident}
 use Rattle.lib_os.specs.Disk.{Disk}
 use Rattle.lib_os.specs.InOrder.{IsInOrder}
-use Rattle.lib_os.specs.LibrarySteps.{GoesOn, KeepsStanding, LeavesEach, NothingRefused}
+use Rattle.lib_os.specs.LibrarySteps.{GoesOn, LeavesEach, NothingRefused}
 use Rattle.lib_os.specs.Need.{EachHasUse}
 use Rattle.lib_os.specs.Places.{place_of, words_entered}
 use Rattle.lib_os.specs.UserCalls.{is_file_server}
@@ -45,7 +45,7 @@ use Rattle.jos_run.proofs.Choices.{only_runs}
 use Rattle.jos_run.proofs.GuestLeaves.{GuestLeaves, guest_leaves, instruction_left}
 use Rattle.jos_run.proofs.GuestStands.{SmallAtFault, guest_goes_on, instruction_end, instruction_step}
 use Rattle.jos_run.proofs.GuestUses.{guest_uses}
-use Rattle.jos_run.proofs.WholeStands.{others_slot, whole_kept}
+use Rattle.jos_run.proofs.WholeStands.{KeepsRunning, others_slot, whole_kept}
 use Rattle.jos_run.proofs.ProgramSteps.{awake_born}
 use Rattle.jos_run.proofs.RequestsCalm.{none_requests}
 use Rattle.jos_run.proofs.RunsKept.{step_visible}
@@ -181,12 +181,12 @@ module _ (s after : KernelState) (n : ℕ) (is : guest_instruction s n ≡ quiet
   quiet_calm = subst (λ (t : KernelState). StaysCalm s n t) state_is (instruction_calm s n (ap tells is))
 
   quiet_stands : is_servers s n ≡ false → is_awake (slot_at s n).status ≡ true → place_of (slot_at s n) ≡ place.Guest →
-      KeepsStanding progress.Visible n s after []
-  quiet_stands user awake guest a h none_refused =
+      KeepsRunning progress.Visible n s after []
+  quiet_stands user awake guest a h runs none_refused =
       let b = awake_born h.0 s a h.1 n (others_slot h.1 n user) awake in
       let none = instruction_none n s (ap tells is) in
       subst (λ (step : EnvStep). GoesOn n step.state a step.written) is
-      (guest_goes_on h.0 s a n b.0 h.1 b.1 guest none.small none.seen (subst IsInOrder (sym state_is) (quiet_calm.in_order h.1.in_order)))
+      (guest_goes_on h.0 s a n b.0 h.1 b.1 guest none.small (h.1.tabled.running n runs) none.seen (subst IsInOrder (sym state_is) (quiet_calm.in_order h.1.in_order)))
 
   pub quiet_keeps : (disk : Option Disk) → is_servers s n ≡ false → is_awake (slot_at s n).status ≡ true → place_of (slot_at s n) ≡ place.Guest →
       KeepsWhole progress.Visible n (beside s disk) (beside after disk) []
@@ -252,7 +252,7 @@ quiet_in_turn {schedule = schedule} {first = first} {turns = turns} {n = n} {pri
     let left = quiet_left s next n g.1 in
     let none_refused : NothingRefused s next = record { stays = left.refusals; could = few } in
     let who = guest (omega arith) in
-    let goes_on = quiet_keeps s next n g.1 disk who.0 (running_awake (slot_at s n).status runs) who.1 h.now h.stands none_refused in
+    let goes_on = quiet_keeps s next n g.1 disk who.0 (running_awake (slot_at s n).status runs) who.1 h.now h.stands (λ other. runs) none_refused in
     let one : IsInTurn schedule first turns n (visible + 1) (beside next disk) printed =
     subst (λ (l : List ℕ). IsInTurn schedule first turns n (visible + 1) (beside next disk) l) (append-nil printed)
     (step_visible [] h goes_on (only_runs goes_on.3.0.1 n (left.last ∙ last))) in

@@ -41,13 +41,16 @@ use Rattle.lib_os.specs.LibraryPages.{View}
 use Rattle.lib_os.specs.Places.{place_of}
 use Rattle.lib_os.specs.Requests as requests_of
 use Rattle.lib_os.specs.Rows.{Names, rows_of}
-use Rattle.lib_os.specs.StandsFor.{HasWholePath, HasWordAt, IsIn, IsLowestFree, StandsFor, TellsOfFile, TellsRequest, borne_in, count_given}
+use Rattle.lib_os.specs.InService.{IsIn, IsLowestFree}
+use Rattle.lib_os.specs.StandsFor.{HasWholePath, HasWordAt, StandsFor, TellsOfFile, TellsRequest, borne_in, count_given}
 use Rattle.lib_os.specs.StandsFor.{view_of}
 use Rattle.lib_os.specs.StandsInHandler.{stage_with, wanted_from, wanted_of}
+use Rattle.lib_os.proofs.DescriptorLooks.{seen_calm}
 use Rattle.lib_os.proofs.DeviceLooks.{NamesFile}
 use Rattle.lib_os.proofs.FilesLeft.{name-same}
 use Rattle.lib_os.proofs.FreeSeen.{lowest_seen}
 use Rattle.lib_os.proofs.Paths.{path_ends}
+use Rattle.lib_os.proofs.PipesStand.{is_calm}
 use Rattle.lib_os.proofs.RequestPages.{IsBeside, brings_page, word_asked}
 use Rattle.lib_os.proofs.RequestsTold.{file_named_so}
 use Rattle.lib_os.proofs.Serving.{step_in}
@@ -136,7 +139,8 @@ writes_file a n b regs fd va len f name (byte ∷ rest) object named mode buffer
 -- ---- its page
 
 module _ {names : Names} {s : KernelState} {a : AbstractState} (h : StandsFor names s a) (n : ℕ) (small : n < NENV) (b : Born)
-    (at : a.slots n ≡ born b) (unborne : borne_in (place_of (slot_at s n)) ≡ None) (waits : a.server ≡ idle) (own : Entry)
+    (at : a.slots n ≡ born b) (unborne : borne_in (place_of (slot_at s n)) ≡ None) (calm : is_calm (place_of (slot_at s n)) ≡ true)
+    (waits : a.server ≡ idle) (own : Entry)
     (kept : rows_of s.spaces (slot_at s n).directory (page_number UTEMP) ≡ Some own) (page : ℕ → ℕ)
     (come : (i : ℕ) → i < PGSIZE → page i ≡ slice_index (s.spaces.pages own.frame) i) where
   abbrev v : View
@@ -187,7 +191,7 @@ module _ {names : Names} {s : KernelState} {a : AbstractState} (h : StandsFor na
   open_made path mode fd lowest it told =
       let call = service.OpenFile path mode in
       let regs = (slot_at s n).registers in
-      let free : is_none (lowest_free b) ≡ false = ap is_none (lowest_seen h n b at fd lowest) in
+      let free : is_none (lowest_free b) ≡ false = ap is_none (lowest_seen h n b at (seen_calm h n b at calm) fd lowest) in
       record {
         request = act (open_path (before_first is_nul it.bytes) mode) None;
         asks = step_in a n b (slot_at s n) call (gathering it.bytes) at it.is_in
@@ -203,7 +207,7 @@ module _ {names : Names} {s : KernelState} {a : AbstractState} (h : StandsFor na
 
   module _ (call : Service) (fd : ℕ) (it : TellsOfFile v (slot_at s n) b call fd) where
     abbrev file_is : NamesFile s a b fd it.asks.of_file.file.entry
-    file_is = file_named_so h n b at unborne fd it.asks
+    file_is = file_named_so h n b at unborne calm fd it.asks
 
     abbrev f : OpenFile
     f = file_is.f

@@ -1,6 +1,6 @@
 -- A run of the library's programs goes on as one of the abstract system: at its beginning, where a turn begins, by each step,
 -- and where a turn ends.
-use Rattle.std.proofs.Common.{◌≡◌, ◌≢◌, ◌∙◌, ℕ, ◌+◌, ◌<◌, ◌≤◌, ◌==◌, ◌||◌, Bool, true, false, List, [], ◌∷◌, ◌++◌, length}
+use Rattle.std.proofs.Common.{◌≡◌, ◌≢◌, ◌∙◌, ℕ, ◌+◌, ◌^◌, ◌<◌, ◌≤◌, ◌==◌, ◌||◌, Bool, true, false, List, [], ◌∷◌, ◌++◌, length}
 use Rattle.std.proofs.Common.{Option, Some, None, refl, sym, ap, subst, arith, add-one, append_assoc, if◌then◌else◌}
 use Rattle.std.specs.Prelude.{not, nat_le, nat_lt}
 use Rattle.std.proofs.lemmas.Bool.{false≢true}
@@ -37,6 +37,7 @@ use Rattle.lib_os.specs.LibraryPages.{View}
 use Rattle.lib_os.specs.Rows.{Names}
 use Rattle.lib_os.specs.StandsFor.{StandsFor, StandsForSlot, StandsAt, StandsAtStep, TellsRequest, IsStatusFor, borne_in, view_of}
 use Rattle.lib_os.specs.Disk.{Disk}
+use Rattle.lib_os.proofs.PipesStand.{is_calm}
 use Rattle.lib_os.proofs.RequestPages.{IsBeside, brings_page, pausing_step, told_pausing}
 use Rattle.lib_os.proofs.RequestsTold.{request_told}
 use Rattle.lib_os.proofs.SlotsStand.{born_at}
@@ -44,9 +45,10 @@ use Rattle.lib_os.proofs.StatesStand.{turn_begun_stands, turn_ended_stands}
 use Rattle.jos_run.specs.AbstractTurns.{turn_begun, steps_taken, abs_run, asks, asks_behind, waits_in, stands_waiting}
 use Rattle.jos_run.specs.AbstractTurns.{yields_in, is_yielding, has_yielded, has_yielded_after, may_end, turn_fits, fits, all_fit}
 use Rattle.jos_run.specs.LibraryRuns.{NoneRuns, OnlyRuns, IsBetween, IsInTurn, visible_steps}
-use Rattle.jos_run.specs.ServerStands.{KeepsWhole, ServesOver, StandsWhole, WholeGoesOn, WholeStays}
+use Rattle.jos_run.specs.ServerStands.{KeepsWhole, MayStep, ServesOver, StandsWhole, WholeGoesOn, WholeStays}
 use Rattle.jos_run.specs.Worlds.{World, with_state}
 use Rattle.jos_run.proofs.Choices.{runs_stand, serving_first, next_stands, begun_only, ended_none}
+use Rattle.jos_run.proofs.PipePlaces.{read_waits, stat_waits, write_waits}
 use Rattle.jos_run.proofs.ServerTurns.{awake_serves, server_begun_stands}
 use Rattle.jos_run.proofs.TurnsTaken.{run_with_turn, taken_is, no_steps, one_more_step, all_fit_append, fits_append, all_fit_fits}
 use Rattle.jos_run.proofs.WholeStands.{begun_server, ended_server}
@@ -94,10 +96,10 @@ runnable_who {names = names} {s = s} {a = a} h n runs = by_slot (a.slots n) refl
         server first (awake_serves h (λ is. let contradiction : true ≡ false = sym ready ∙ ap (λ (x : Status). is_runnable x) is in cc))
 
 pub begun_stands : {names : Names} {s : KernelState} {a : AbstractState} → StandsFor names s a → NoneRuns s → (n : ℕ) → MayRun a n →
-    StandsFor names (kernel.turn_begun s n) (turn_begun a n)
-begun_stands h none n (environment b at awake) = turn_begun_stands h n b at awake none
-begun_stands {names = names} {s = s} {a = a} h none n (server first busy_now) =
-    subst (λ (m : ℕ). StandsFor names (kernel.turn_begun s m) (turn_begun a m)) first (server_begun_stands h busy_now none)
+    s.turns + 1 < 2 ^ 32 → StandsFor names (kernel.turn_begun s n) (turn_begun a n)
+begun_stands h none n (environment b at awake) few = turn_begun_stands h n b at awake none few
+begun_stands {names = names} {s = s} {a = a} h none n (server first busy_now) few =
+    subst (λ (m : ℕ). StandsFor names (kernel.turn_begun s m) (turn_begun a m)) first (server_begun_stands h busy_now none few)
 
 -- the file server stands as it stood
 pub serves_begun : (disk : Option Disk) (s : KernelState) (n : ℕ) (a : AbstractState) → Stands s a → Stands (kernel.turn_begun s n) (turn_begun a n) →
@@ -112,12 +114,12 @@ serves_ended (Some d) s n a before behind h = ended_server d s n a before behind
 
 -- the turn of the slot that the kernel chooses
 unfoldable pub turn_begins : {schedule : List ℕ} {first : AbstractState} {turns : List Turn} {w : World} {written : List ℕ} →
-    IsBetween schedule first turns w written → (n : ℕ) → next w.state.environments w.state.last ≡ Some n →
+    IsBetween schedule first turns w written → (n : ℕ) → next w.state.environments w.state.last ≡ Some n → w.state.turns + 1 < 2 ^ 32 →
     IsInTurn schedule first turns n 0 (with_state w (kernel.turn_begun w.state n)) written
-turn_begins {w = w} h n chosen =
+turn_begins {w = w} h n chosen few =
     let stands = h.stands.0.1 in
     let begun : Stands (kernel.turn_begun w.state n) (turn_begun h.now n) =
-    (h.stands.0.0, begun_stands stands h.none n (runnable_who stands n (next_runs w.state.environments w.state.last n chosen).1)) in
+    (h.stands.0.0, begun_stands stands h.none n (runnable_who stands n (next_runs w.state.environments w.state.last n chosen).1) few) in
     record {
       before = h.now;
       ran = h.ran;
@@ -168,13 +170,13 @@ step_visible {first = first} {n = n} {visible = visible} {written = written} byt
 -- whatever the step has come to
 pub step_kept : {schedule : List ℕ} {first : AbstractState} {turns : List Turn} {n visible : ℕ} {w after : World}
     {written : List ℕ} (bytes : List ℕ) → IsInTurn schedule first turns n visible w written → (progress : Progress) →
-    KeepsWhole progress n w after bytes → NothingRefused w.state after.state → OnlyRuns after.state n →
+    KeepsWhole progress n w after bytes → MayStep w.state n → NothingRefused w.state after.state → OnlyRuns after.state n →
     IsInTurn schedule first turns n (visible + visible_steps progress) after (written ++ bytes)
-step_kept bytes h progress.Hidden keeps none_refused only = step_hidden bytes h (keeps h.now h.stands none_refused) only
-step_kept bytes h progress.Waited keeps none_refused only = step_hidden bytes h (keeps h.now h.stands none_refused).0 only
-step_kept bytes h progress.Visible keeps none_refused only = step_visible bytes h (keeps h.now h.stands none_refused) only
-step_kept bytes h progress.Finished keeps none_refused only = step_visible bytes h (keeps h.now h.stands none_refused) only
-step_kept bytes h progress.Ended keeps none_refused only = step_visible bytes h (keeps h.now h.stands none_refused) only
+step_kept bytes h progress.Hidden keeps may none_refused only = step_hidden bytes h (keeps h.now h.stands may none_refused) only
+step_kept bytes h progress.Waited keeps may none_refused only = step_hidden bytes h (keeps h.now h.stands may none_refused).0 only
+step_kept bytes h progress.Visible keeps may none_refused only = step_visible bytes h (keeps h.now h.stands may none_refused) only
+step_kept bytes h progress.Finished keeps may none_refused only = step_visible bytes h (keeps h.now h.stands may none_refused) only
+step_kept bytes h progress.Ended keeps may none_refused only = step_visible bytes h (keeps h.now h.stands may none_refused) only
 
 -- ---- a turn ends
 
@@ -276,7 +278,7 @@ yield_step v k b (step.LoadingBytes done count) h = absurd (false≢true h.has.h
 yield_step v k b (step.LoadingRest done count first) h = absurd (false≢true h.has.hands)
 yield_step v k b (step.PuttingBytes done count word) h = absurd (false≢true h.has.hands)
 yield_step v k b (step.FileFaulting done count) h = absurd (false≢true h.0.hands)
-yield_step v k b (step.Returning answer) h = absurd (false≢true h.hands)
+yield_step v k b (step.Returning answer) h = absurd (false≢true h.goes)
 yield_step v k b _ h = absurd h
 
 -- one that is about to ask the file server does so where that is idle
@@ -297,43 +299,51 @@ module _ {names : Names} {s : KernelState} {a : AbstractState} (h : StandsFor na
   abbrev seen : View
   seen = view_of s.spaces (slot_at s n).directory
 
-  asks_told : (call : Service) (fd : ℕ) → borne_in (place_of (slot_at s n)) ≡ None → IsBeside seen.row call fd →
+  asks_told : (call : Service) (fd : ℕ) → borne_in (place_of (slot_at s n)) ≡ None → is_calm (place_of (slot_at s n)) ≡ true →
+      IsBeside seen.row call fd →
       TellsRequest seen (slot_at s n) b call → asks a n ≡ true
-  asks_told call fd unborne beside tells =
-      let it = request_told h n b at unborne call fd beside tells in
+  asks_told call fd unborne calm beside tells =
+      let it = request_told h n b at unborne calm call fd beside tells in
       ap asks_behind (it.asks idle) ∙ ap not (begun_serves n it.request)
 
   -- a service that asks with a page
   pauses_to_ask : (call : Service) → brings_page call ≡ true → (id fd : ℕ) → place_of (slot_at s n) ≡ place.InService call (pausing_step call id fd) →
       StandsAtStep seen (slot_at s n) b call (pausing_step call id fd) → borne_in (place.InService call (pausing_step call id fd)) ≡ None →
-      (waits_in b.phase || asks a n) ≡ true
-  pauses_to_ask call with_page id fd is there unborne =
+      is_calm (place.InService call (pausing_step call id fd)) ≡ true →
+      (waits_in a b b.phase || asks a n) ≡ true
+  pauses_to_ask call with_page id fd is there unborne calm =
       let told = told_pausing seen (slot_at s n) b call with_page id fd there in
-      ap (λ (c : Bool). waits_in b.phase || c) (asks_told call fd (ap borne_in is ∙ unborne) told.1 told.2)
-      ∙ or-true (waits_in b.phase)
+      ap (λ (c : Bool). waits_in a b b.phase || c) (asks_told call fd (ap borne_in is ∙ unborne) (ap is_calm is ∙ calm) told.1 told.2)
+      ∙ or-true (waits_in a b b.phase)
 
-  pausing_place : (p : Place) → place_of (slot_at s n) ≡ p → StandsAt p seen (slot_at s n) b → is_pausing p ≡ true → (waits_in b.phase || asks a n) ≡ true
+  pausing_place : (p : Place) → place_of (slot_at s n) ≡ p → StandsAt p seen (slot_at s n) b → is_pausing p ≡ true → (waits_in a b b.phase || asks a n) ≡ true
   pausing_place (place.InService (service.Wait id) (step.Pausing perm)) is there pauses =
-      ap (λ (x : Phase). waits_in x || asks a n) there.is_in.phase
+      ap (λ (x : Phase). waits_in a b x || asks a n) there.is_in.phase
   pausing_place (place.InService (service.Send id value va) (step.Pausing perm)) is there pauses =
-      ap (λ (x : Phase). waits_in x || asks a n) there.is_in.phase
+      ap (λ (x : Phase). waits_in a b x || asks a n) there.is_in.phase
   pausing_place (place.InService service.Sync (step.Pausing id)) is there pauses =
-      ap (λ (c : Bool). waits_in b.phase || c) (asks_sync a n b (slot_at s n).registers at there.1.awake there.1.program there.1.phase)
-      ∙ or-true (waits_in b.phase)
+      ap (λ (c : Bool). waits_in a b b.phase || c) (asks_sync a n b (slot_at s n).registers at there.1.awake there.1.program there.1.phase)
+      ∙ or-true (waits_in a b b.phase)
   pausing_place (place.InService (service.Remove path) (step.Pausing id)) is there pauses =
-      pauses_to_ask (service.Remove path) refl id 0 is there refl
+      pauses_to_ask (service.Remove path) refl id 0 is there refl refl
   pausing_place (place.InService (service.OpenFile path mode) (step.OpenPausing id fd)) is there pauses =
-      pauses_to_ask (service.OpenFile path mode) refl id fd is there refl
+      pauses_to_ask (service.OpenFile path mode) refl id fd is there refl refl
   pausing_place (place.InService (service.Seek fd offset) (step.Pausing id)) is there pauses =
-      pauses_to_ask (service.Seek fd offset) refl id 0 is there refl
+      pauses_to_ask (service.Seek fd offset) refl id 0 is there refl refl
   pausing_place (place.InService (service.SetSize fd size) (step.Pausing id)) is there pauses =
-      pauses_to_ask (service.SetSize fd size) refl id 0 is there refl
+      pauses_to_ask (service.SetSize fd size) refl id 0 is there refl refl
   pausing_place (place.InService (service.Write fd va len) (step.Pausing id)) is there pauses =
-      pauses_to_ask (service.Write fd va len) refl id 0 is there refl
+      pauses_to_ask (service.Write fd va len) refl id 0 is there refl refl
   pausing_place (place.InService (service.Read fd va len) (step.Pausing id)) is there pauses =
-      pauses_to_ask (service.Read fd va len) refl id 0 is there refl
+      pauses_to_ask (service.Read fd va len) refl id 0 is there refl refl
   pausing_place (place.InService (service.Stat fd va) (step.Pausing id)) is there pauses =
-      pauses_to_ask (service.Stat fd va) refl id 0 is there refl
+      pauses_to_ask (service.Stat fd va) refl id 0 is there refl refl
+  pausing_place (place.InService (service.Read fd va len) (step.Piped stands)) is there pauses =
+      ap (λ (c : Bool). c || asks a n) (read_waits h n b at fd va len stands is there pauses)
+  pausing_place (place.InService (service.Write fd va len) (step.Piped stands)) is there pauses =
+      ap (λ (c : Bool). c || asks a n) (write_waits h n b at fd va len stands is there pauses)
+  pausing_place (place.InService (service.Stat fd va) (step.Piped stands)) is there pauses =
+      ap (λ (c : Bool). c || asks a n) (stat_waits h n b at fd va stands is there pauses)
   pausing_place _ is there pauses = absurd (false≢true pauses)
 
 -- One that is about to give up its turn waits in a service.

@@ -156,7 +156,7 @@ module _ (disk : DiskFile) (before after : KernelState) (files : Around (Option 
         let printed = prints_only output (made_prints made.call before 0 disk files made.makes.mid output made.makes.made) in (
           printed.written,
           printed.prints,
-          (λ a whole nothing.
+          (λ a whole may nothing.
               let it = comes awake a whole in
               subst (λ (written : List ℕ). WholeFollows done 0 (world_of after files.after disk) a written) (sym (printed.quiet it.quiet))
               (it.follows (in_order whole.0.1.in_order) nothing)),
@@ -182,7 +182,7 @@ module _ (disk : DiskFile) (before after : KernelState) (files : Around (Option 
       let printed = prints_part_only output some in (
         printed.written,
         printed.prints,
-        (λ a whole. let it = told_over a whole in
+        (λ a whole may. let it = told_over a whole in
             printed.quiet (fails it.f it.told a it.whole words failed (now_at (disk_in it.f disk) a it.whole awake) serves)),
       )
 
@@ -215,8 +215,8 @@ module _ (result : Result Progress Failed) (disk : DiskFile) (n : ℕ) (before a
           OnErr r (PrintsPartOfSome output) → KeptBy r n
       other_keeps other (Ok done) made failed =
           let printed = made_prints made.call before n disk files made.makes.mid output made.makes.made in
-          (printed.bytes, printed.prints, (λ a whole quiet. absurd (other (is_first before a n whole.0 server))))
-      other_keeps other (Err failure) made failed = (failed.0, failed.1, (λ a whole. absurd (other (is_first before a n whole.0 server))))
+          (printed.bytes, printed.prints, (λ a whole may quiet. absurd (other (is_first before a n whole.0 server))))
+      other_keeps other (Err failure) made failed = (failed.0, failed.1, (λ a whole may. absurd (other (is_first before a n whole.0 server))))
 
       by_slot : (t : Bool) → (n == 0) ≡ t → KeptBy result n
       by_slot true test =

@@ -1,5 +1,6 @@
 -- Turns of the file server: where one begins, and that others stay live in it.
-use Rattle.std.proofs.Common.{◌≡◌, ◌≢◌, ◌∙◌, ℕ, ◌+◌, ◌%◌, ◌^◌, ◌==◌, Bool, true, false, not, nat_lt, if◌then◌else◌, List, [], Option, Some, None, refl, sym, ap, subst}
+use Rattle.std.proofs.Common.{◌≡◌, ◌≢◌, ◌∙◌, ℕ, ◌+◌, ◌%◌, ◌^◌, ◌<◌, ◌≤◌, ◌==◌, Bool, true, false, not, nat_lt, if◌then◌else◌, List}
+use Rattle.std.proofs.Common.{[], Option, Some, None, refl, sym, ap, subst, arith}
 use Rattle.std.specs.Prelude.{unwrap_or}
 use Rattle.jos_base.specs.declared.environment.EnvType.TheVariants.{User}
 use Rattle.jos_base.specs.declared.environment.Status.{Status}
@@ -13,13 +14,15 @@ use Rattle.lib_os.specs.AbstractState.{AbstractState, AbstractSlot, Born, free, 
 use Rattle.lib_os.specs.AbstractState.{Object, Request, file, read_end, terminal, write_end}
 use Rattle.lib_os.specs.declared.numbers.TheConstants.{MAXOPEN}
 use Rattle.lib_os.specs.AbstractState.{Phase, in_service, awaiting, replied, with_born}
+use Rattle.lib_os.specs.PipeEnds.{EndsStandAt, locked_at}
 use Rattle.lib_os.specs.Places.{place_of}
 use Rattle.lib_os.specs.Rows.{Names, counted, is_clients, logical, logical_by, rows_of}
 use Rattle.lib_os.specs.StandsFor.{StandsFor, StandsForSlot, StandsForServer, IsServerStatus}
 use Rattle.lib_os.proofs.Children.{BearsNone, children_kept}
 use Rattle.lib_os.proofs.EntriesStand.{rows_same, rows_stand, rows_turned}
+use Rattle.lib_os.proofs.PipesStand.{locks_same}
 use Rattle.lib_os.proofs.SlotsStand.{SeenAlike}
-use Rattle.lib_os.proofs.StatesStand.{server_same, slot_in_order}
+use Rattle.lib_os.proofs.StatesStand.{server_same, slot_in_order, turns_set}
 use Rattle.lib_os.specs.declared.progress.Progress.{Progress}
 use Rattle.lib_os.specs.declared.progress.Progress.TheVariants as progress
 use Rattle.lib_os.specs.AbstractRun.{abs_step, slot_step}
@@ -37,7 +40,7 @@ use Rattle.jos_run.specs.LibraryRuns.{others_live}
 use Rattle.jos_run.specs.ServerStands.{KeepsWhole, StandsWhole, WholeFollows, WholeGoesOn, WholeStays}
 use Rattle.jos_run.specs.Worlds.{World}
 use Rattle.jos_run.proofs.Choices.{any_live_stands, only_first_serves}
-use Rattle.jos_base.proofs.Maps.{upd-all, upd-at, upd-other}
+use Rattle.jos_base.proofs.Maps.{upd-alike, upd-all, upd-at, upd-other}
 
 same_space : (names : Names) (sp : SpacesState) (d : ℕ) → SeenAlike names names sp sp d
 same_space names sp d = record {
@@ -45,6 +48,7 @@ same_space names sp d = record {
   bytes = λ p x is own_page. refl;
   named_so = λ p x is shared_page. refl;
   devices = λ p x descriptor is shared_page. refl;
+  pipes = λ p x pipes is shared_page. refl;
   regions = λ r. refl;
 }
 
@@ -56,8 +60,9 @@ bears_none k slot id is = record {
 
 -- where it does not wait for a request
 pub server_begun_stands : {names : Names} {s : KernelState} {a : AbstractState} → StandsFor names s a → is_idle a.server ≡ false →
-    ((m : ℕ) → is_running (slot_at s m).status ≡ false) → StandsFor names (turn_begun s 0) (record a { last = Some 0; turns = a.turns + 1 })
-server_begun_stands {names = names} {s = s} {a = a} h busy_now none =
+    ((m : ℕ) → is_running (slot_at s m).status ≡ false) → s.turns + 1 < 2 ^ 32 →
+    StandsFor names (turn_begun s 0) (record a { last = Some 0; turns = a.turns + 1 })
+server_begun_stands {names = names} {s = s} {a = a} h busy_now none few =
     let rows = rows_turned (ap (λ (x : Slot). rows_of s.spaces x.directory) (upd-at s.environments.slots 0 k))
     (rows_same (logical s.spaces s.environments.slots) (logical s.spaces (upd s.environments.slots 0 k)) counts (rows_stand h)) in
     record {
@@ -71,6 +76,12 @@ server_begun_stands {names = names} {s = s} {a = a} h busy_now none =
       users = rows.users;
       whole = rows.whole;
       beside = rows.beside;
+      ends = upd-all (λ m (x : Slot). EndsStandAt names a.objects (place_of x) (rows_of s.spaces x.directory) (a.slots m)) s.environments.slots 0 k
+          (h.ends 0) (λ m ne. h.ends m);
+      locks = locks_same (upd-alike (λ (x : Slot). locked_at (place_of x)) s.environments.slots 0 k refl) (λ m p is. counts m p)
+          (λ m p x is stands shared_page. refl) h.locks;
+      runs = turns_set s.environments.slots 0 k (λ m. let was = h.runs m in omega (arith, was)) own_runs;
+      old = h.old;
       free_slots = h.free_slots;
       first = h.first;
       server = server_same (upd-at s.environments.slots 0 k)
@@ -113,6 +124,12 @@ server_begun_stands {names = names} {s = s} {a = a} h busy_now none =
         by_server (looking client request number) none is = (tt, is.1)
         by_server (busy client request place) none is = (tt, is.1)
         by_server (acted client answer bytes object) none is = (tt, is.1)
+
+    own_runs : k.runs ≤ s.turns + 1
+    own_runs =
+        let few_own = h.runs 0 in
+        let one_more : ((slot_at s 0).runs + 1) % 2 ^ 32 ≡ (slot_at s 0).runs + 1 = grind (arith, few, few_own) in
+        omega (arith, one_more, few_own)
 
     counts : (m p : ℕ) → logical s.spaces (upd s.environments.slots 0 k) m p ≡ logical s.spaces s.environments.slots m p
     counts =
@@ -245,7 +262,7 @@ server_leaves a b id first step =
 -- Where another environment is there, it is there still behind a step of the file server.
 pub server_others : (n : ℕ) (w after : World) (done : Progress) (bytes : List ℕ) → n ≡ 0 → (a : AbstractState) → StandsWhole w a →
     NothingRefused w.state after.state → KeepsWhole done n w after bytes → others_live w.state ≡ true → others_live after.state ≡ true
-server_others n w after done bytes is_first a h none_refused keeps live = by_done done (keeps a h none_refused)
+server_others n w after done bytes is_first a h none_refused keeps live = by_done done (keeps a h (λ other. absurd (other is_first)) none_refused)
   where
     stood : any_live a ≡ true
     stood = any_live_stands h.0.1 (only_first_serves h.0.1) ∙ live

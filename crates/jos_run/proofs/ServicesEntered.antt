@@ -39,6 +39,7 @@ place_entered regs outside =
 -- nobody is borne where a service is entered
 pub entered_plain : (s : Service) → is_plain (place.InService s step.Entered) ≡ true
 entered_plain service.Fork = refl
+entered_plain service.Pipe = refl
 entered_plain _ = refl
 
 -- nor is there a page in which a service keeps bytes

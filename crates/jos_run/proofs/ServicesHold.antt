@@ -21,6 +21,7 @@ use Rattle.lib_msg.proofs.ReceiveLaw.{receive_holds}
 use Rattle.lib_msg.proofs.SendLaw.{send_holds}
 use Rattle.lib_offset.proofs.OffsetLaw.{seek_holds, set_size_holds}
 use Rattle.lib_os.specs.StandsInHandler.{AreSmall}
+use Rattle.lib_pipe.proofs.MakingLaw.{pipe_holds}
 use Rattle.lib_read.proofs.ReadLaw.{read_holds}
 use Rattle.lib_read.proofs.StatLaw.{stat_holds}
 use Rattle.lib_request.proofs.OpenLaw.{open_holds}
@@ -54,6 +55,7 @@ module _ (s : KernelState) (n : ℕ) (live : is_live (slot_at s n) ≡ true)
   by_service (service.Remove path) built stands = remove_holds s n path live small awake at stands
   by_service service.Sync built stands = sync_holds s n live awake at stands
   by_service (service.Dup old new) built stands = dup_holds s n old new live at stands
+  by_service service.Pipe built stands = pipe_holds s n live at stands
   by_service service.Unknown built stands = memory_holds s n at live memory.Unknown stands
   by_service _ built stands = absurd (false≢true built)
 

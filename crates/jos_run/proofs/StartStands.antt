@@ -2,7 +2,7 @@
 use Rattle.std.proofs.Common.{◌≡◌, ◌≢◌, ◌∙◌, ◌⊎◌, inl, inr, ◌+◌, ◌-◌, ◌*◌, ◌<◌, ◌≤◌, ◌==◌, ◌||◌, ◌&&◌, ℕ, not, Bool, true, false, List, [], ◌∷◌}
 use Rattle.std.proofs.Common.{Option, Some, None, Ok, All, length}
 use Rattle.std.proofs.Common.{refl, sym, ap, subst, arith, if◌then◌else◌}
-use Rattle.std.specs.Prelude.{is_some, nat_le, nat_lt}
+use Rattle.std.specs.Prelude.{is_some, nat_le, nat_lt, unwrap_or}
 use Rattle.std.specs.Option.{option_map}
 use Rattle.std.proofs.lemmas.Bool.{cases_eq, false≢true}
 use Rattle.std.proofs.lemmas.Bool.Decides.{nat_tests}
@@ -22,18 +22,21 @@ use Rattle.lib_os.specs.declared.numbers.TheConstants.{DEVICE_CONSOLE}
 use Rattle.lib_os.specs.declared.place.Place.{Place}
 use Rattle.lib_os.specs.declared.place.Place.TheVariants as place
 use Rattle.lib_os.specs.AbstractMemory.{has_page_in}
-use Rattle.lib_os.specs.AbstractState.{Born, Page, free, own, named, terminal, unborn}
+use Rattle.lib_os.specs.AbstractState.{AbstractSlot, Born, Object, Page, free, own, named, terminal, unborn}
+use Rattle.lib_os.specs.AbstractState.{born as born_of}
 use Rattle.lib_os.specs.Disk.{Disk}
 use Rattle.lib_os.specs.DescriptorPages.{Things, device_of}
 use Rattle.lib_os.specs.Fence.{in_fence, is_resident}
+use Rattle.lib_os.specs.GuestStep.{born_in}
 use Rattle.lib_os.specs.LibraryPages.{LibraryPages, region_index}
+use Rattle.lib_os.specs.PipeEnds.{EndsStand, EndsStandAt, LocksStand, is_made, locked_at, pipe_named}
 use Rattle.lib_os.specs.Places.{is_handlers, place_of}
 use Rattle.lib_os.specs.Rows.{Agree, EntryRow, IsNamed, IsPage, IsUsers, Names, counted, is_clients, is_programs, is_shared, logical, logical_by}
-use Rattle.lib_os.specs.Rows.{may_write}
-use Rattle.lib_os.specs.Rows.{descriptor_page, descriptor_perm, descriptor_seen, is_descriptor, lasting, name_of, page_by, page_seen, rows_of}
+use Rattle.lib_os.specs.Rows.{is_pipe_page, may_write, pipe_page}
+use Rattle.lib_os.specs.Rows.{descriptor_page, descriptor_perm, descriptor_seen, is_of_descriptor, lasting, name_of, page_by, page_seen, rows_of}
 use Rattle.lib_os.specs.Rows.{seen_where}
 use Rattle.lib_os.specs.Rows.{shown_at}
-use Rattle.lib_os.specs.StandsFor.{HasChildren, StandsFor, StandsForBorn, borne_in, upcall_at, view_of}
+use Rattle.lib_os.specs.StandsFor.{HasChildren, NamesAreOld, StandsFor, StandsForBorn, borne_in, seen_unless, upcall_at, view_of}
 use Rattle.lib_os.proofs.Logical.{programs_no_descriptor}
 use Rattle.lib_os.proofs.PageBytes.{page_overlaid, words_bytes, zero_page_whole}
 use Rattle.lib_os.proofs.Releasing.{row_entry}
@@ -66,7 +69,7 @@ use Rattle.jos_run.proofs.Unopened.{HasRecordsAlone}
 
 -- the name of the console, which stands in this frame
 abbrev pub the_names : ℕ → Names
-the_names f = record { name = λ g. 0; frame = λ name. f; is_object = λ name. true }
+the_names f = record { name = λ g. 0; frame = λ name. f; is_object = λ name. true; is_pipe = λ name. false }
 
 -- ---- pages of an environment's own, which may be written or not
 
@@ -109,18 +112,35 @@ console_users : IsUsers descriptor_perm
 console_users = record { page = refl; copied = λ is_cow. absurd (false≢true is_cow) }
 
 -- it stands where no page of a program's is
-descriptor_outside : (p : ℕ) → is_descriptor p ≡ true → is_programs p ≡ false
+descriptor_outside : (p : ℕ) → is_of_descriptor p ≡ true → is_programs p ≡ false
 descriptor_outside p is = by_test (is_programs p) refl
   where
     by_test : (t : Bool) → is_programs p ≡ t → is_programs p ≡ false
     by_test true inside = absurd (false≢true (sym (programs_no_descriptor p inside) ∙ is))
     by_test false outside = outside
 
-descriptor_is : (fd : ℕ) → fd < 32 → is_descriptor (descriptor_page fd) ≡ true
+descriptor_is : (fd : ℕ) → fd < 32 → is_of_descriptor (descriptor_page fd) ≡ true
 descriptor_is fd lt =
     let low : nat_le 851968 (851968 + fd) ≡ true = grind (arith, nat_tests) in
-    let high : nat_lt (851968 + fd) 852000 ≡ true = grind (arith, nat_tests) in
-    ap (λ (t : Bool). t && nat_lt (851968 + fd) 852000) low ∙ high
+    let high : nat_lt (851968 + fd) 852032 ≡ true = grind (arith, nat_tests) in
+    ap (λ (t : Bool). t && nat_lt (851968 + fd) 852032) low ∙ high
+
+pipe_is : (fd : ℕ) → fd < 32 → is_of_descriptor (pipe_page fd) ≡ true
+pipe_is fd lt =
+    let low : nat_le 851968 (852000 + fd) ≡ true = grind (arith, nat_tests) in
+    let high : nat_lt (852000 + fd) 852032 ≡ true = grind (arith, nat_tests) in
+    ap (λ (t : Bool). t && nat_lt (852000 + fd) 852032) low ∙ high
+
+-- the first descriptors name the first object
+first_named : (fd name : ℕ) → first_descriptors fd ≡ Some name → name < 1
+first_named fd name is = by_test (nat_lt fd 2) is
+  where
+    by_test : (t : Bool) → (if t then Some 0 else None) ≡ Some name → name < 1
+    by_test true same = let zero_is : 0 ≡ name = same_Some 0 name same in omega (arith, zero_is)
+    by_test false same = absurd (none-some name same)
+
+same_born : {b c : Born} → born_of b ≡ born_of c → c ≡ b
+same_born {b = b} is = ap (λ (slot : AbstractSlot). unwrap_or (born_in slot) b) (sym is)
 
 -- a region of the descriptors' is one of the library's
 or_true : (t : Bool) → (t || true) ≡ true
@@ -201,29 +221,29 @@ module _ (image : Layout) (words : List (List ℕ)) (input : List ℕ) (frames f
     -- ---- what stands in its space
 
     abbrev IsConsoles : ℕ → Entry → Type 0
-    IsConsoles p x = (is_descriptor p ≡ true) × (x ≡ console)
+    IsConsoles p x = (is_of_descriptor p ≡ true) × (x ≡ console) × (is_pipe_page p ≡ false)
 
     abbrev StoodBefore : ℕ → Entry → Type 0
-    StoodBefore p x = (is_descriptor p ≡ false) × (row_before p ≡ Some x)
+    StoodBefore p x = (is_of_descriptor p ≡ false) × (row_before p ≡ Some x)
 
-    none_before : (p : ℕ) → is_descriptor p ≡ true → row_before p ≡ None
+    none_before : (p : ℕ) → is_of_descriptor p ≡ true → row_before p ≡ None
     none_before p is = outside_no_row image file words lie h.has.had p (descriptor_outside p is)
-        (λ same. false≢true (sym (ap (λ (q : ℕ). is_descriptor q) same) ∙ is))
+        (λ same. false≢true (sym (ap (λ (q : ℕ). is_of_descriptor q) same) ∙ is))
 
-    row_is : (p : ℕ) → is_descriptor p ≡ false → row p ≡ row_before p
-    row_is p other = h.has.rows p (λ same. false≢true (sym other ∙ ap (λ (q : ℕ). is_descriptor q) same))
-        (λ same. false≢true (sym other ∙ ap (λ (q : ℕ). is_descriptor q) same))
+    row_is : (p : ℕ) → is_of_descriptor p ≡ false → row p ≡ row_before p
+    row_is p other = h.has.rows p (λ same. false≢true (sym other ∙ ap (λ (q : ℕ). is_of_descriptor q) same))
+        (λ same. false≢true (sym other ∙ ap (λ (q : ℕ). is_of_descriptor q) same))
 
     which : (p : ℕ) (x : Entry) → row p ≡ Some x → IsConsoles p x ⊎ StoodBefore p x
     which p x is = elim (cases_eq p (descriptor_page 0)) [
-      | inl same ↦ inl (ap (λ (q : ℕ). is_descriptor q) same, same_Some x console (sym is ∙ ap row same ∙ h.has.first))
+      | inl same ↦ inl (ap (λ (q : ℕ). is_of_descriptor q) same, same_Some x console (sym is ∙ ap row same ∙ h.has.first), ap (λ (q : ℕ). is_pipe_page q) same)
       | inr ne ↦ elim (cases_eq p (descriptor_page 1)) [
-        | inl same ↦ inl (ap (λ (q : ℕ). is_descriptor q) same, same_Some x console (sym is ∙ ap row same ∙ h.has.second))
-        | inr ne_too ↦ inr (by_test (is_descriptor p) refl (sym (h.has.rows p ne ne_too) ∙ is))
+        | inl same ↦ inl (ap (λ (q : ℕ). is_of_descriptor q) same, same_Some x console (sym is ∙ ap row same ∙ h.has.second), ap (λ (q : ℕ). is_pipe_page q) same)
+        | inr ne_too ↦ inr (by_test (is_of_descriptor p) refl (sym (h.has.rows p ne ne_too) ∙ is))
       ]
     ]
       where
-        by_test : (t : Bool) → is_descriptor p ≡ t → row_before p ≡ Some x → StoodBefore p x
+        by_test : (t : Bool) → is_of_descriptor p ≡ t → row_before p ≡ Some x → StoodBefore p x
         by_test true at there = absurd (none-some x (sym (none_before p at) ∙ there))
         by_test false at there = (at, there)
 
@@ -310,7 +330,8 @@ module _ (image : Layout) (words : List (List ℕ)) (input : List ℕ) (frames f
       env_type = refl;
       runs = tt;
       upcall = sym (ap upcall_at program_place);
-      descriptors = descriptors_seen;
+      descriptors = λ fd still. descriptors_seen fd
+          ∙ sym (ap (λ (at : Place). seen_unless (is_made at fd) (descriptor_seen names u (second_at first) fd)) program_place);
       memory = memory_seen;
       library = subst (λ (at : Place). LibraryPages at no_extra row) (sym program_place) library_pages;
       regions_have = λ r is. h.has.tables r
@@ -397,6 +418,48 @@ module _ (image : Layout) (words : List (List ℕ)) (input : List ℕ) (frames f
       have = λ m id b is bears. absurd (none-some id (sym (bears_none m) ∙ bears));
     }
 
+    -- ---- there are no pipes
+
+    no_pipe_page : (fd : ℕ) → fd < 32 → row (pipe_page fd) ≡ None
+    no_pipe_page fd below =
+        h.has.rows (pipe_page fd) (λ same. omega (arith, same)) (λ same. omega (arith, same)) ∙ none_before (pipe_page fd) (pipe_is fd below)
+
+    unlocked : (m : ℕ) → locked_at (place_of (two.slots first (second_at first) regs m)) ≡ None
+    unlocked = two.each_slot first (second_at first) regs (λ m k. locked_at (place_of k) ≡ None) (ap locked_at server_place)
+        (ap locked_at program_place) (λ m a b. ap locked_at (words_of_none zero_registers no_extra refl refl))
+
+    program_ends : (objects : ℕ → Object) → objects ≡ (λ name. terminal) → EndsStand names objects (place_of program) row born
+    program_ends objects are = record {
+      have = λ fd name pipe below is at. absurd (none-some pipe (sym (ap (λ (o : ℕ → Object). pipe_named o name) are) ∙ at));
+      only = λ fd entry below off stands. absurd (none-some entry (sym (no_pipe_page fd below) ∙ stands));
+    }
+
+    ends_stand : (objects : ℕ → Object) → objects ≡ (λ name. terminal) → (m : ℕ) →
+        EndsStandAt names objects (place_of (two.slots first (second_at first) regs m)) (rows_of u (two.slots first (second_at first) regs m).directory)
+        (two.slot_of born m)
+    ends_stand objects are = two.each_slot first (second_at first) regs
+        (λ m k. EndsStandAt names objects (place_of k) (rows_of u k.directory) (two.slot_of born m)) tt (program_ends objects are) (λ m a b. rw (a, b) tt)
+
+    locks_stand : LocksStand u.pages (two.slots first (second_at first) regs) entries
+    locks_stand = record {
+      held = λ m frame holds. absurd (none-some holds.fd (sym (unlocked m) ∙ holds.locked));
+      holder = λ m fd entry below stands shared_page some. absurd (none-some entry (sym (no_pipe_page fd below) ∙ (found m (pipe_page fd) entry stands).1));
+      alone = λ m k frame holds too. absurd (none-some holds.fd (sym (unlocked m) ∙ holds.locked));
+    }
+
+    no_turns : (m : ℕ) → (two.slots first (second_at first) regs m).runs ≤ 0
+    no_turns = two.each_slot first (second_at first) regs (λ m k. k.runs ≤ 0) (omega arith) (omega arith) (λ m a b. omega arith)
+
+    -- each descriptor names the console
+    names_old : NamesAreOld (two.slot_of born) 1
+    names_old = two.each_slot first (second_at first) regs
+        (λ m k. (fd name : ℕ) (b : Born) → two.slot_of born m ≡ born_of b → b.descriptors fd ≡ Some name → name < 1)
+        (λ fd name b is named_so. absurd cc)
+        (λ fd name b is named_so.
+        let same : b ≡ born = same_born is in
+        first_named fd name (sym (ap (λ (c : Born). c.descriptors fd) same) ∙ named_so))
+        (λ m x y fd name b is named_so. let none : free 0 ≡ born_of b = rw (x, y) at is in absurd cc)
+
     -- ---- each entry
 
     agree : (p q : ℕ) (x y : Entry) → p ≢ q → x.frame ≡ y.frame → IsConsoles p x ⊎ StoodBefore p x → IsConsoles q y ⊎ StoodBefore q y →
@@ -410,13 +473,14 @@ module _ (image : Layout) (words : List (List ℕ)) (input : List ℕ) (frames f
     agree p q x y ne same (inr a) (inr b) = absurd (h.has.had.alone p q x y ne a.1 b.1 same)
 
     abbrev things : Things
-    things = record { objects = λ name. terminal; opened = λ number. no_place; row = rows_of u first }
+    things = record { objects = λ name. terminal; pipes = λ name. []; opened = λ number. no_place; row = rows_of u first }
 
     named_so : (p : ℕ) (x : Entry) → is_shared x.perm ≡ true → IsConsoles p x ⊎ StoodBefore p x →
         IsNamed names u.pages (λ name. []) things 1 p x.frame
     named_so p x shared_page (inl consoles) = record {
       home = sym (ap (λ (e : Entry). e.frame) consoles.1);
       kind = sym consoles.0;
+      of_pipe = sym consoles.2;
       shows = record {
         device = ap (λ (e : Entry). device_of (u.pages e.frame)) consoles.1 ∙ ap (λ (bytes : List ℕ). device_of bytes) h.has.shows ∙ console_device;
         apart = λ q e stands same. server_apart q (descriptor_page 0) e console stands h.has.first
@@ -455,6 +519,10 @@ module _ (image : Layout) (words : List (List ℕ)) (input : List ℕ) (frames f
         whole = λ d p x is. let a = found d p x is in whole_page p x (which p x a.1);
         free_slots = record { same = refl; within = rising-slots 2 1022 (omega arith) };
         first = refl;
+        old = names_old;
+        ends = ends_stand (λ name. terminal) refl;
+        locks = locks_stand;
+        runs = no_turns;
         beside = λ m p q x e is stands same. let a = found m p x is in absurd (server_apart q p e x stands a.1 (sym same));
         server = two.server_has first (second_at first) regs u no_server_row has_records.tables (λ number. no_place) files.blocks;
         input = (refl, input_bytes);
@@ -494,6 +562,7 @@ module _ (image : Layout) (words : List (List ℕ)) (input : List ℕ) (frames f
           opens = record {
             pages = λ name above. refl;
             held = first_held image file words input files;
+            ends = λ end pipe is. absurd (none-some pipe is);
             opened = λ name is. absurd (none-some name is);
           };
         };

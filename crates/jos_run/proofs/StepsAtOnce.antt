@@ -22,7 +22,7 @@ use Rattle.jos_kernel.specs.Steps.{EnvStep}
 use Rattle.lib_os.specs.declared.place.Place.TheVariants as place
 use Rattle.lib_os.specs.declared.progress.Progress.{Progress}
 use Rattle.lib_os.specs.declared.progress.Progress.TheVariants as progress
-use Rattle.lib_os.specs.LibrarySteps.{IsLibraryStep, Leaves, LeavesRest, Lowers, TakesByPlace, is_pausing}
+use Rattle.lib_os.specs.LibrarySteps.{Leaves, LeavesRest, Lowers, TakesByPlace, is_pausing}
 use Rattle.lib_os.specs.Disk.{Disk}
 use Rattle.lib_os.specs.InOrder.{IsInOrder}
 use Rattle.lib_os.specs.Places.{place_of}
@@ -43,7 +43,8 @@ use Rattle.jos_run.specs.Worlds.{World, beside}
 use Rattle.jos_run.proofs.GuestLeaves.{guest_leaves}
 use Rattle.jos_run.proofs.GuestStands.{SmallAtFault, copying_at, instruction_end, instruction_step}
 use Rattle.jos_run.proofs.GuestTakes.{guest_takes}
-use Rattle.jos_run.proofs.ProgramSteps.{program_goes_on, program_ends, program_copies, program_lowers, program_fails, guest_raises, leaves_as, raises_as, whole_step}
+use Rattle.jos_run.proofs.ProgramSteps.{IsRunningStep, program_goes_on, program_ends, program_copies, program_lowers, program_fails, guest_raises, leaves_as}
+use Rattle.jos_run.proofs.ProgramSteps.{raises_as, whole_step}
 use Rattle.jos_run.proofs.RequestsCalm.{none_requests}
 use Rattle.jos_run.proofs.QuietSteps.{gone_quietly, quiet_calm, quiet_keeps, running_awake, still_user}
 use Rattle.jos_run.proofs.RunSteps.{turns_further, turn_longer}
@@ -85,7 +86,7 @@ module _ {n going ip : ℕ} {event : Event} (disk : Option Disk) (s mid after : 
       small_before step.event k.registers step.regs (step_leaves fenced_memory Run k.registers (loaded_in b.reached k.directory))
       (subst AreSmall ((λ i. (slot_at (sym b.end_is i) n).registers) ∙ ap (λ (x : Slot). x.registers) (slot_put step.memory.state n set)) small)
 
-  makes : (last : Result StepOutcome Failed) → IsLibraryStep (step_progress last) n b.reached after output →
+  makes : (last : Result StepOutcome Failed) → IsRunningStep (step_progress last) n b.reached after output →
       Leaves (step_progress last) n b.reached after → Lowers (step_progress last) n b.reached after → IfOk (step_progress last) (λ done. TakesByPlace n b.reached after) →
       IfOk last (λ stepped. Raises (place_of (slot_at b.reached n)) n b.reached stepped.trap after) → MakesSteps n going last (beside s disk) (beside after disk) output
   makes (Ok stepped) step leaves lowers takes raises = record {

@@ -41,7 +41,7 @@ use Rattle.jos_run.specs.AbstractTurns.{turn_begun as begun_at}
 use Rattle.jos_run.specs.LibraryRuns.{IsBetween, IsInTurn, end_seen, others_live, visible_steps, hidden_steps}
 use Rattle.jos_run.specs.RunReports.{CutOffBy, IsCutOff, IsRefusedInTurn, LacksSpace, in_a_turn, printing, quietly}
 use Rattle.jos_run.specs.RunSteps.{StepMade, LeadTo, traps_of, written_in, turns_with}
-use Rattle.jos_run.specs.ServerStands.{KeepsWhole, ServerLeaves, StandsWhole}
+use Rattle.jos_run.specs.ServerStands.{KeepsWhole, MayStep, ServerLeaves, StandsWhole}
 use Rattle.jos_run.specs.Steps.{LeavesAs, RaisesAs, is_servers}
 use Rattle.jos_run.specs.StepsAtOnce.{GuestGoesOn, MakesSteps}
 use Rattle.jos_run.specs.Worlds.{World, beside}
@@ -111,32 +111,40 @@ entered_turns r n holds = by_test (made r.book == 0) refl holds.turns
     by_test true is h = ap (λ (k : ℕ). k + 1) h
     by_test false is h = h
 
-in_turn_of : (first : AbstractState) (disk : Option Disk) (r : LibraryRun) (n : ℕ) (printed : List ℕ) → IsChosen r n →
+-- there is room for one more
+few_turns : (r : LibraryRun) (n : ℕ) → Holds r → IsChosen r n → (made r.book == 0) ≡ true → (state_of r).turns + 1 < 2 ^ 32
+few_turns r n holds chosen is =
+    let so : (state_of r).turns ≡ vec_len r.book.turns =
+    holds.turns ∙ ap (λ (c : Bool). if c then vec_len r.book.turns else vec_len r.book.turns + 1) is in
+    let room : vec_len r.book.turns < TURN_MAX = chosen.room in
+    omega (arith, so, room)
+
+in_turn_of : (first : AbstractState) (disk : Option Disk) (r : LibraryRun) (n : ℕ) (printed : List ℕ) → Holds r → IsChosen r n →
     StandsBy (made r.book == 0) r.book.schedule first disk r printed →
     IsInTurn r.book.schedule first r.book.turns.items n r.book.visible (beside (entered r n) disk) printed
-in_turn_of first disk r n printed chosen stands = by_test (made r.book == 0) refl stands
+in_turn_of first disk r n printed holds chosen stands = by_test (made r.book == 0) refl stands
   where
     by_test : (c : Bool) → (made r.book == 0) ≡ c → StandsBy c r.book.schedule first disk r printed →
         IsInTurn r.book.schedule first r.book.turns.items n r.book.visible (beside (if c then turn_begun (state_of r) n else state_of r) disk) printed
     by_test true is h =
         let none : 0 ≡ r.book.visible = (let all : made r.book ≡ 0 = none_made r is in omega arith) in
         subst (λ (visible : ℕ). IsInTurn r.book.schedule first r.book.turns.items n visible (beside (turn_begun (state_of r) n) disk) printed) none
-        (turn_begins h n (chosen.next_is (none_made r is)))
+        (turn_begins h n (chosen.next_is (none_made r is)) (few_turns r n holds chosen is))
     by_test false is h =
         subst (λ (m : ℕ). IsInTurn r.book.schedule first r.book.turns.items m r.book.visible (beside (state_of r) disk) printed)
         (sym (chosen.turn (some_made r is))) h
 
 -- Where the file server's turn is under way, or begins, there is another environment.
-entered_others : {frames : ℕ} (first : AbstractState) (disk : Option Disk) (r : LibraryRun) (n : ℕ) (printed : List ℕ) → IsChosen r n →
+entered_others : {frames : ℕ} (first : AbstractState) (disk : Option Disk) (r : LibraryRun) (n : ℕ) (printed : List ℕ) → Holds r → IsChosen r n →
     StandsSo first frames disk r printed → n ≡ 0 → others_live (entered r n) ≡ true
 unfolding turn_begins
-entered_others first disk r n printed chosen so is_first = by_test (made r.book == 0) refl so.stands
+entered_others first disk r n printed holds chosen so is_first = by_test (made r.book == 0) refl so.stands
   where
     by_test : (c : Bool) → (made r.book == 0) ≡ c → StandsBy c r.book.schedule first disk r printed →
         others_live (if c then turn_begun (state_of r) n else state_of r) ≡ true
     by_test true is h =
         let none = none_made r is in
-        let t = turn_begins h n (chosen.next_is none) in
+        let t = turn_begins h n (chosen.next_is none) (few_turns r n holds chosen is) in
         sym (any_live_stands t.stands.0.1 (only_first_serves t.stands.0.1)) ∙ any_live_stands h.stands.0.1 (only_first_serves h.stands.0.1)
         ∙ seen_others (state_of r) (vec_len r.book.turns) (chosen.goes_on none)
     by_test false is h = let some = some_made r is in so.others some (sym (chosen.turn some) ∙ is_first)
@@ -325,14 +333,14 @@ module _ {r : LibraryRun} {n going : ℕ} (k : Reaches r n going) where
       IsInTurn r.book.schedule first r.book.turns.items n (r.book.visible + going) (beside k.reached disk) printed
   before_stands first disk printed stands quiet =
       let few : (entered r n).refusals ≡ 0 = (entered_rest r n).1 ∙ quiet in
-      quiet_in_turn disk going r.book.visible (entered r n) k.reached k.went (in_turn_of first disk r n printed k.chosen stands) k.is_guest k.running
+      quiet_in_turn disk going r.book.visible (entered r n) k.reached k.went (in_turn_of first disk r n printed k.holds k.chosen stands) k.is_guest k.running
       (entered_last r n k.holds k.chosen) (omega (arith, few))
 
   -- each frame that is handed out has a use
   before_used : (first : AbstractState) (disk : Option Disk) (printed : List ℕ) →
       StandsBy (made r.book == 0) r.book.schedule first disk r printed → EachHasUse (state_of r).spaces → EachHasUse k.reached.spaces
   before_used first disk printed stands used =
-      let begun = in_turn_of first disk r n printed k.chosen stands in
+      let begun = in_turn_of first disk r n printed k.holds k.chosen stands in
       quiet_each n going (entered r n) k.reached k.went begun.stands.0.1.in_order (running_live (slot_at (entered r n) n) k.running)
       (subst (λ (x : SpacesState). EachHasUse x) (sym (entered_rest r n).0) used)
 
@@ -342,11 +350,11 @@ module _ {r : LibraryRun} {n going : ℕ} (k : Reaches r n going) where
   reached_others {first = first} {disk = disk} {printed = printed} h is_first = by_going going k.went k.is_guest
     where
       begun : IsInTurn r.book.schedule first r.book.turns.items n r.book.visible (beside (entered r n) disk) printed
-      begun = in_turn_of first disk r n printed k.chosen h.stands
+      begun = in_turn_of first disk r n printed k.holds k.chosen h.stands
 
       by_going : (count : ℕ) → GuestGoesOn n count (entered r n) k.reached →
           (0 < count → (is_servers (entered r n) n ≡ false) × (place_of (slot_at (entered r n) n) ≡ place.Guest)) → others_live k.reached ≡ true
-      by_going zero went guest = ap others_live went ∙ entered_others first disk r n printed k.chosen h is_first
+      by_going zero went guest = ap others_live went ∙ entered_others first disk r n printed k.holds k.chosen h is_first
       by_going (suc count) went guest = absurd (others_slot begun.stands.0.1 n (guest (omega arith)).0 is_first)
 
 -- ---- the steps
@@ -674,7 +682,7 @@ cut_off_by r m first frames disk turn more printed same turns slot visible cut =
 -- what the calls of steps have done, in the last of which the host failed
 pub record Fails (r m : LibraryRun) (disk : Option Disk) (n going : ℕ) (bytes : List ℕ) : Type 0 where
   pub before : Reaches r n going
-  pub would : (a : AbstractState) → StandsWhole (beside before.reached disk) a →
+  pub would : (a : AbstractState) → StandsWhole (beside before.reached disk) a → MayStep before.reached n →
       (b : AbstractState) × (abs_step a n ≡ Some b) × (b.console ≡ a.console ++ bytes)
   pub slot : m.served.slot ≡ n
   pub book : m.book ≡ record r.book { visible = r.book.visible + (going + 1) }
@@ -694,7 +702,10 @@ module _ {r m : LibraryRun} {disk : Option Disk} {n going : ℕ} {bytes : List �
       (printed ++ take part bytes)
   cut_off_in first frames part printed h =
       let t = before_stands k.before first disk printed h.stands h.quiet in
-      let b = step_failed bytes t r.book.hidden k.would in
+      let would : (a : AbstractState) → StandsWhole (beside k.before.reached disk) a →
+      (b : AbstractState) × (abs_step a n ≡ Some b) × (b.console ≡ a.console ++ bytes) =
+      λ a stands. k.would a stands (λ other. still_runs k.before) in
+      let b = step_failed bytes t r.book.hidden would in
       let left : made r.book + going < quantum r.book.schedule (length r.book.turns.items) = k.before.left in
       printing (record {
         before = r.book.turns.items;
@@ -709,7 +720,7 @@ module _ {r m : LibraryRun} {disk : Option Disk} {n going : ℕ} {bytes : List �
         console = t.console;
         now = b.0;
         whole = bytes;
-        would = record { ran = b.1; fit = failed_fits t r.book.hidden k.would (omega arith) (omega arith); console = b.2 };
+        would = record { ran = b.1; fit = failed_fits t r.book.hidden would (omega arith) (omega arith); console = b.2 };
         part = take part bytes;
         rest = drop part bytes;
         whole_is = sym (take-append-drop part bytes);

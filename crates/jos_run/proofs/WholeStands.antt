@@ -44,12 +44,13 @@ use Rattle.lib_os.specs.FileServer.{await_reply, request_begun, request_taken}
 use Rattle.lib_os.specs.LibraryCall.{library_step}
 use Rattle.lib_os.specs.LibraryPages.{View}
 use Rattle.lib_os.specs.LibrarySteps.{AbstractFollows, AsksServer, BringsRequest, BringsWithPage, GivesPage, GoesOn, KeepsPlaces, KeepsServer}
-use Rattle.lib_os.specs.LibrarySteps.{KeepsStanding, KeepsWorking, LeavesEach, LeavesOrAsks, LeavesServer, Stands, Stays, asked_it, asking_step}
+use Rattle.lib_os.specs.LibrarySteps.{KeepsWorking, LeavesEach, LeavesOrAsks, LeavesServer, NothingRefused, Stands, Stays, asked_it, asking_step}
 use Rattle.lib_os.specs.LibrarySteps.{left_alone, request_perm, with_message_in}
 use Rattle.lib_os.specs.MadeCalls.{is_server_page}
 use Rattle.lib_os.specs.Requests as requests_of
-use Rattle.lib_os.specs.Rows.{Names, is_descriptor, lasting, rows_of}
-use Rattle.lib_os.specs.StandsFor.{AwaitsRequest, IsIn, IsServerStatus, IsStatusFor, StandsAt, StandsFor, StandsForBorn, TellsRequest, borne_in}
+use Rattle.lib_os.specs.Rows.{Names, is_of_descriptor, lasting, rows_of}
+use Rattle.lib_os.specs.InService.{IsIn}
+use Rattle.lib_os.specs.StandsFor.{AwaitsRequest, IsServerStatus, IsStatusFor, StandsAt, StandsFor, StandsForBorn, TellsRequest, borne_in}
 use Rattle.lib_os.specs.StandsFor.{StandsForServer, StandsForSlot, view_of}
 use Rattle.lib_os.specs.UserCalls.{is_file_server}
 use Rattle.lib_os.proofs.AnswersFit.{asked_fits, client_fits}
@@ -58,7 +59,8 @@ use Rattle.lib_os.proofs.AskersStay.{asker_waits}
 use Rattle.lib_os.proofs.Effects.{Placed}
 use Rattle.lib_os.proofs.FilesLeft.{clients_leave_files}
 use Rattle.lib_os.proofs.Placing.{inserted_given}
-use Rattle.lib_os.proofs.RequestPages.{IsBeside, brings_page, brings_unborne, told_asking, word_asked}
+use Rattle.lib_os.proofs.PipesStand.{is_calm}
+use Rattle.lib_os.proofs.RequestPages.{IsBeside, asking_calm, brings_page, brings_unborne, told_asking, word_asked}
 use Rattle.lib_os.proofs.ServedStay.{HasClient, client_is, served_clients_stay}
 use Rattle.lib_os.proofs.SlotsStand.{born_at, born_live}
 use Rattle.fs_tree.specs.TreeSteps.{memory_in, request_bytes}
@@ -250,8 +252,14 @@ begun_server d s n a before behind h =
       given = h.asked.given;
       opens = record {
         pages = h.asked.opens.pages;
+        ends = h.asked.opens.ends;
         held = h.asked.opens.held;
-        opened = λ name is. let was = h.asked.opens.opened name is in record { old = was.old; page = was.page; held = was.held };
+        opened = λ name is. let was = h.asked.opens.opened name is in record {
+          old = was.old;
+          page = was.page;
+          ends = was.ends;
+          held = was.held;
+        };
       };
     }) h.fits h
 
@@ -381,6 +389,7 @@ leaves_itself a = record {
     opened = refl;
     names = omega arith;
     objects = λ name below. refl;
+    ends = λ name pipe is. inl is;
     held = λ name is. inl is;
     pages = λ name old none. none;
   };
@@ -627,13 +636,14 @@ module _ (d : Disk) (n : ℕ) (s after : KernelState) (other : n ≢ 0) (live : 
             lone q y servers y_is same = elim (cases_eq q request_page) [
               | inl here ↦ here
               | inr ne ↦
-                  let beside : is_descriptor (page_number UTEMP) ≡ false = refl in
+                  let beside : is_of_descriptor (page_number UTEMP) ≡ false = refl in
                   absurd (others_lack h.1 n other live q ne y y_is (page_number UTEMP) gives.entry beside gives.stands (sym same))
             ]
 
         made : Asks a n b call (request_bytes after 0)
         made =
-            request_made h.1 n below b at (ap borne_in place_is ∙ brings_unborne call is (asking_step call it.id it.fd)) idle_so (lasting gives.entry)
+            request_made h.1 n below b at (ap borne_in place_is ∙ brings_unborne call is (asking_step call it.id it.fd))
+            (ap is_calm place_is ∙ asking_calm call it.id it.fd) idle_so (lasting gives.entry)
             (ap (option_map lasting) gives.stands) (request_bytes after 0) come.bytes call it.fd there.1 there.2
 
         home : (slot_at after n).directory ≡ (slot_at s n).directory
@@ -684,13 +694,20 @@ module _ (d : Disk) (n : ℕ) (s after : KernelState) (other : n ≢ 0) (live : 
           (served_clients_stay a goes.0 n below k.asked goes.1) (client_fits a goes.0 n b at k.asked k.fits goes.1 same)
       by_way (asked_it it) = asked_whole it goes.0 goes.1 goes.3 it.by_service it.at it.brings
 
+-- A step of one that is RUNNING keeps what the library's steps promise.
+abbrev pub KeepsRunning : Progress → ℕ → KernelState → KernelState → List ℕ → Type 0
+KeepsRunning done n before after written =
+    (a : AbstractState) → Stands before a → is_running (slot_at before n).status ≡ true → NothingRefused before after →
+    AbstractFollows done n after a written
+
 -- So it keeps the whole.
 pub whole_kept : (disk : Option Disk) (n : ℕ) (s after : KernelState) (done : Progress) (written : List ℕ) → is_servers s n ≡ false →
     is_awake (slot_at s n).status ≡ true → ((names : Names) (a : AbstractState) → StandsFor names s a → n ≢ 0 → (b : Born) × (a.slots n ≡ born b)) →
-    LeavesEach done n s after → RequestsCalmly n s after → KeepsStanding done n s after written →
+    LeavesEach done n s after → RequestsCalmly n s after → KeepsRunning done n s after written →
     KeepsWhole done n (beside s disk) (beside after disk) written
-whole_kept None n s after done written user awake who left_each calm keeps a h none_refused = absurd h.1
-whole_kept (Some d) n s after done written user awake who left_each calm keeps a h none_refused = by_done done (keeps a h.0 none_refused)
+whole_kept None n s after done written user awake who left_each calm keeps a h may none_refused = absurd h.1
+whole_kept (Some d) n s after done written user awake who left_each calm keeps a h may none_refused =
+    by_done done (keeps a h.0 (may (others_slot h.0.1 n user)) none_refused)
   where
     other : n ≢ 0
     other = others_slot h.0.1 n user

@@ -29,11 +29,15 @@ page_there c sound f is = below_frames c.frames c f sound (role_there (c.role f)
 
 pub has_words : (machine : Parts) (n : ℕ) → HasSoundFrames machine.system → IsInOrder (kernel_state machine) →
     ((i : ℕ) → get_or (slot_at (kernel_state machine) n).extra i 0 < 2 ^ 32) →
+    (slot_at (kernel_state machine) n).runs < 2 ^ 32 →
     (slot_at (kernel_state machine) n).rendezvous.value < 2 ^ 32 → (slot_at (kernel_state machine) n).rendezvous.sender < 2 ^ 32 →
     HasWords (kernel_state machine) n
-has_words machine n sound in_order words value sender = record {
-  recorded = page_there (held_in machine.system.spaces) sound.sound;
-  counts = frame_counted (kernel_state machine) in_order (live_within machine.system.table);
+has_words machine n sound in_order words runs value sender = record {
+  counted = record {
+    recorded = page_there (held_in machine.system.spaces) sound.sound;
+    counts = frame_counted (kernel_state machine) in_order (live_within machine.system.table);
+    runs = runs;
+  };
   words = words;
   value = value;
   sender = sender;

@@ -2,7 +2,7 @@
 -- so many of its steps. And which turns a schedule allows.
 -- (MIT 6.828, kern/sched.c; turns of so many steps are this system's own.)
 use Rattle.std.specs.Prelude.{◌≡◌, ◌<◌, ℕ, ◌+◌, ◌%◌, ◌==◌, ◌&&◌, ◌||◌, nat_le, nat_lt, not, zero, suc, Bool, true, false, List, [], ◌∷◌}
-use Rattle.std.specs.Prelude.{Option, Some, None, is_none, if◌then◌else◌, option_and_then}
+use Rattle.std.specs.Prelude.{Option, Some, None, is_none, is_some, if◌then◌else◌, option_and_then}
 use Rattle.std.specs.Option.{ForSome}
 use Rattle.jos_base.specs.declared.numbers.TheConstants.{NENV, TURN_MAX}
 use Rattle.jos_base.specs.Words.{is_exactly}
@@ -14,9 +14,9 @@ use Rattle.jos_kernel.specs.declared.report.Turn.{Turn}
 use Rattle.jos_base.specs.Below.{some_below}
 use Rattle.lib_os.specs.declared.service.Service.{Service}
 use Rattle.lib_os.specs.declared.service.Service.TheVariants as service
-use Rattle.lib_os.specs.AbstractState.{AbstractState, AbstractSlot, Server, born, serving, idle, acted}
+use Rattle.lib_os.specs.AbstractState.{AbstractState, AbstractSlot, Born, Server, born, serving, idle, acted}
 use Rattle.lib_os.specs.AbstractState.{is_idle, Phase, in_service, can_run, is_live}
-use Rattle.lib_os.specs.AbstractRun.{abs_step}
+use Rattle.lib_os.specs.AbstractRun.{abs_step, moved_descriptor, pipe_at}
 use Rattle.fs_serving.specs.ServerRuns.{is_acting}
 
 -- ---- turns
@@ -85,9 +85,10 @@ is_waiting_service (service.Wait id) = true
 is_waiting_service (service.Send id value va) = true
 is_waiting_service _ = false
 
-abbrev pub waits_in : Phase → Bool
-waits_in (in_service s stage) = is_waiting_service s
-waits_in _ = false
+-- or one on an end of a pipe
+abbrev pub waits_in : AbstractState → Born → Phase → Bool
+waits_in a b (in_service s stage) = is_waiting_service s || is_some (pipe_at a b (moved_descriptor s))
+waits_in a b _ = false
 
 -- it has acted, and waits with its reply
 abbrev pub waits_to_reply : Server → Bool
@@ -103,7 +104,7 @@ abbrev pub asks : AbstractState → ℕ → Bool
 asks a n = asks_behind (abs_step (record a { server = idle }) n)
 
 abbrev pub stands_waiting : AbstractState → ℕ → AbstractSlot → Bool
-stands_waiting a n (born b) = waits_in b.phase || asks a n
+stands_waiting a n (born b) = waits_in a b b.phase || asks a n
 stands_waiting a n (serving id) = waits_to_reply a.server
 stands_waiting a n _ = false
 

@@ -10,6 +10,7 @@ use Rattle.lib_msg.specs.ReceiveStages.{receive_at, receiving}
 use Rattle.lib_msg.specs.SendStages.{send_at, sending}
 use Rattle.lib_offset.specs.declared.offset.OffsetService.TheVariants as of
 use Rattle.lib_offset.specs.OffsetStages.{offset_at, offsetting}
+use Rattle.lib_pipe.specs.MakingStages.{making, pipe_at}
 use Rattle.lib_read.specs.ReadStages.{read_at, reading}
 use Rattle.lib_read.specs.StatStages.{stat_at, telling}
 use Rattle.lib_request.specs.OpenStages.{open_at, opening}
@@ -29,6 +30,7 @@ plan_of (stage.Receive it) = receiving it
 plan_of (stage.Memory it) = memory_plan it
 plan_of (stage.Close it) = closing it
 plan_of (stage.Dup it) = duplicating it
+plan_of (stage.Pipe it) = making it
 plan_of (stage.Read it) = reading it
 plan_of (stage.Write it) = writing it
 plan_of (stage.Offset it) = offsetting it
@@ -47,6 +49,7 @@ plan_at (service.Send id value va) step = or_nowhere sending (send_at id value v
 plan_at (service.Receive va from) step = or_nowhere receiving (receive_at va from step)
 plan_at (service.Close fd) step = or_nowhere closing (close_at fd step)
 plan_at (service.Dup old new) step = or_nowhere duplicating (dup_at old new step)
+plan_at service.Pipe step = or_nowhere making (pipe_at step)
 plan_at (service.Read fd va len) step = or_nowhere reading (read_at fd va len step)
 plan_at (service.Write fd va len) step = or_nowhere writing (write_at fd va len step)
 plan_at (service.Seek fd offset) step = or_nowhere offsetting (offset_at (of.Seek offset) fd step)

@@ -1,6 +1,6 @@
 -- What turns of the kernel are to the abstract system: the same slot is chosen, the same end test holds, and a run goes on
 -- from turn to turn and from step to step as the abstract run does. And its files are those of the disk as the cache of the file server holds it.
-use Rattle.std.specs.Prelude.{◌≡◌, ℕ, ◌+◌, true, Bool, List, [], ◌∷◌, ◌++◌, length, false, Some}
+use Rattle.std.specs.Prelude.{◌≡◌, ◌<◌, ℕ, ◌+◌, ◌^◌, true, Bool, List, [], ◌∷◌, ◌++◌, length, false, Some}
 use Rattle.jos_base.specs.KernelState.{KernelState, turn_begun, turn_ended}
 use Rattle.jos_sched.specs.RoundRobin.{next}
 use Rattle.jos_kernel.specs.declared.report.Turn.{Turn}
@@ -15,7 +15,7 @@ use Rattle.fs_tree.specs.TreeSteps.{memory_in}
 use Rattle.fs_serving.specs.ServerRuns.{HasFiles, is_acting}
 use Rattle.jos_run.specs.AbstractTurns.{next_slot, end_of, turn_fits, fits}
 use Rattle.jos_run.specs.LibraryRuns.{NoneRuns, OnlyRuns, OnlyFirstServes, IsBetween, IsInTurn, visible_steps, end_seen}
-use Rattle.jos_run.specs.ServerStands.{KeepsWhole, StandsWhole}
+use Rattle.jos_run.specs.ServerStands.{KeepsWhole, MayStep, StandsWhole}
 use Rattle.jos_run.specs.Worlds.{World, beside, with_state}
 
 -- Between two turns the kernel chooses the slot that the abstract system chooses.
@@ -33,17 +33,17 @@ abbrev pub RunsBegin : Type 0
 RunsBegin = (schedule : List ℕ) (first : AbstractState) (w : World) → StandsWhole w first → NoneRuns w.state →
     IsBetween schedule first [] w []
 
--- The turn of the slot that is chosen begins.
+-- The turn of the slot that is chosen begins, where turns are counted by words.
 abbrev pub TurnsBegin : Type 0
 TurnsBegin = (schedule : List ℕ) (first : AbstractState) (turns : List Turn) (w : World) (written : List ℕ) →
     IsBetween schedule first turns w written → (n : ℕ) → next w.state.environments w.state.last ≡ Some n →
-    IsInTurn schedule first turns n 0 (with_state w (turn_begun w.state n)) written
+    w.state.turns + 1 < 2 ^ 32 → IsInTurn schedule first turns n 0 (with_state w (turn_begun w.state n)) written
 
 -- A step that keeps what the library's steps and the file server's promise leads on in its turn.
 abbrev pub StepsLeadOn : Type 0
 StepsLeadOn = (schedule : List ℕ) (first : AbstractState) (turns : List Turn) (n visible : ℕ) (w after : World)
     (written bytes : List ℕ) → IsInTurn schedule first turns n visible w written → (progress : Progress) →
-    KeepsWhole progress n w after bytes → NothingRefused w.state after.state → OnlyRuns after.state n →
+    KeepsWhole progress n w after bytes → MayStep w.state n → NothingRefused w.state after.state → OnlyRuns after.state n →
     IsInTurn schedule first turns n (visible + visible_steps progress) after (written ++ bytes)
 
 -- A turn that fits ends.

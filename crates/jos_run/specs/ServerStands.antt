@@ -1,6 +1,6 @@
 -- What is known of the file server beside what its environment has where the kernel's state stands for an abstract one: at which of its steps
 -- it stands over the disk, for whom, and by whose page it serves.
-use Rattle.std.specs.Prelude.{◌≡◌, ◌==◌, ◌<◌, ℕ, ◌%◌, ◌++◌, Bool, true, false, List, [], Option, Some, None, Result, Ok, Err, length}
+use Rattle.std.specs.Prelude.{◌≡◌, ◌≢◌, ◌==◌, ◌<◌, ℕ, ◌%◌, ◌++◌, Bool, true, false, List, [], Option, Some, None, Result, Ok, Err, length}
 use Rattle.jos_host.specs.declared.host.Failed.{Failed}
 use Rattle.jos_base.specs.declared.numbers.TheConstants.{NENV, UTEMP}
 use Rattle.jos_base.specs.Environments.{Slot, is_runnable, is_running}
@@ -124,10 +124,15 @@ WholeFollows progress.Visible n after a written = WholeGoesOn n after a written
 WholeFollows progress.Finished n after a written = WholeGoesOn n after a written
 WholeFollows progress.Ended n after a written = WholeGoesOn n after a written
 
+-- Who makes a step is RUNNING; but the file server goes on alone where no turn is under way.
+abbrev pub MayStep : KernelState → ℕ → Type 0
+MayStep s n = n ≢ 0 → is_running (slot_at s n).status ≡ true
+
 -- A step of the environment in slot n that has come to this, be it the file server's or another's.
 abbrev pub KeepsWhole : Progress → ℕ → World → World → List ℕ → Type 0
 KeepsWhole progress n before after written =
-    (a : AbstractState) → StandsWhole before a → NothingRefused before.state after.state → WholeFollows progress n after a written
+    (a : AbstractState) → StandsWhole before a → MayStep before.state n → NothingRefused before.state after.state →
+    WholeFollows progress n after a written
 
 -- Where a call of the host failed it was made in a step that is seen, and prints so much; or, by the file server, in one that nobody sees.
 abbrev pub WouldFollow : Bool → ℕ → AbstractState → List ℕ → Type 0
@@ -139,7 +144,7 @@ abbrev pub IsWholeStep : Result Progress Failed → ℕ → World → World → 
 IsWholeStep (Ok progress) n before after output =
     (written : List ℕ) × Prints output written × KeepsWhole progress n before after written
 IsWholeStep (Err _) n before after output =
-    (written : List ℕ) × PrintsPart output written × ((a : AbstractState) → StandsWhole before a → WouldFollow (n == 0) n a written)
+    (written : List ℕ) × PrintsPart output written × ((a : AbstractState) → StandsWhole before a → MayStep before.state n → WouldFollow (n == 0) n a written)
 
 -- ---- what its step leaves
 

@@ -10,6 +10,7 @@ use lib_mem::MemoryService;
 use lib_msg::{Receive, Send};
 use lib_offset::{Offset, OffsetService};
 use lib_os::{Service, Step};
+use lib_pipe::Pipe;
 use lib_read::{Read, Stat};
 use lib_request::{Open, Remove, Sync};
 use lib_spawn::Wait;
@@ -27,6 +28,7 @@ pub(crate) enum ServiceStage {
     Memory(MemoryService),
     Close(Close),
     Dup(Dup),
+    Pipe(Pipe),
     Read(Read),
     Write(Write),
     Offset(Offset),
@@ -69,6 +71,10 @@ pub(crate) fn stage_of(service: Service, step: Step) -> ServiceStage
         },
         Service::Dup { old, new } => match Dup::at_step(old, new, step) {
             Some(dup) => ServiceStage::Dup(dup),
+            None => ServiceStage::Nowhere(Nowhere),
+        },
+        Service::Pipe => match Pipe::at_step(step) {
+            Some(pipe) => ServiceStage::Pipe(pipe),
             None => ServiceStage::Nowhere(Nowhere),
         },
         Service::Read { fd, va, len } => match Read::at_step(fd, va, len, step) {
@@ -133,6 +139,7 @@ impl Planned for ServiceStage {
             ServiceStage::Memory(memory) => memory.number(),
             ServiceStage::Close(close) => close.number(),
             ServiceStage::Dup(dup) => dup.number(),
+            ServiceStage::Pipe(pipe) => pipe.number(),
             ServiceStage::Read(read) => read.number(),
             ServiceStage::Write(write) => write.number(),
             ServiceStage::Offset(service) => service.number(),
@@ -154,6 +161,7 @@ impl Planned for ServiceStage {
             ServiceStage::Memory(memory) => memory.ask(),
             ServiceStage::Close(close) => close.ask(),
             ServiceStage::Dup(dup) => dup.ask(),
+            ServiceStage::Pipe(pipe) => pipe.ask(),
             ServiceStage::Read(read) => read.ask(),
             ServiceStage::Write(write) => write.ask(),
             ServiceStage::Offset(service) => service.ask(),
@@ -175,6 +183,7 @@ impl Planned for ServiceStage {
             ServiceStage::Memory(memory) => memory.next(called),
             ServiceStage::Close(close) => close.next(called),
             ServiceStage::Dup(dup) => dup.next(called),
+            ServiceStage::Pipe(pipe) => pipe.next(called),
             ServiceStage::Read(read) => read.next(called),
             ServiceStage::Write(write) => write.next(called),
             ServiceStage::Offset(service) => service.next(called),

@@ -303,8 +303,8 @@ impl Served {
         ensures notes { H.notes host.new ≡ H.notes host.old }
         ensures cause { HasCause (H.faults host.old) (H.faults host.new) result.last }
     {
+        self.keep_words();
         if self.is_server() {
-            self.keep_words();
             let answer = server_step(self, host);
             return Steps {
                 going: 0,

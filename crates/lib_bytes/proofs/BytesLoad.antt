@@ -164,12 +164,12 @@ module _ (s : KernelState) (n : ℕ) (call : Service) (hands : hands_back call �
           (told_byte (load_byte s n at_byte)).gives ≡ got (Answered (page h done))
       byte_given h = ap (λ (z : CallStep Called). z.gives) (byte_is h)
 
-      byte_never : NeverFaults s (told_byte (load_byte s n at_byte))
-      byte_never a h handled =
+      byte_never : NeverFaults s n (told_byte (load_byte s n at_byte))
+      byte_never a h turn handled =
           absurd (let contradiction : ◌≡◌ {A = Got Called} to_handler (got (Answered (page h.1 done))) = sym handled ∙ byte_given h.1 in cc)
 
       byte_keeps : IsInOrder (load_byte s n at_byte).state → KeepsBy s n (loading false apart) (told_byte (load_byte s n at_byte))
-      byte_keeps order a h quiet =
+      byte_keeps order a h turn quiet =
           let ordered : IsInOrder (loaded s n at_byte) =
           subst (λ (t : KernelState). IsInOrder t) (ap (λ (z : CallStep Called). z.state) (byte_is h.1)) order in
           subst (λ (z : CallStep Called). FollowsBy s n (loading false apart) a z) (sym (byte_is h.1)) (
@@ -182,7 +182,7 @@ module _ (s : KernelState) (n : ℕ) (call : Service) (hands : hands_back call �
           )
 
       byte_fails : FailsBy s n (loading false apart) (told_byte (load_byte s n at_byte))
-      byte_fails may a h =
+      byte_fails may a h turn =
           absurd (let contradiction : ◌≡◌ {A = Got Called} gone (got (Answered (page h.1 done))) = sym may ∙ byte_given h.1 in cc)
 
       byte_holds : ServiceHolds s n (loading false apart)

@@ -1,6 +1,6 @@
 -- The law of the stage in which read or stat of a file puts the next of its bytes into the program's memory, a step of its own of the abstract
 -- system, and of that in which the program's page refuses them.
-use Rattle.std.proofs.Common.{◌≡◌, ◌∙◌, ◌+◌, ◌-◌, ◌%◌, ◌^◌, ◌==◌, ◌++◌, ◌<◌, ◌≢◌, ℕ, Bool, true, false, [], Ok, refl, sym, ap, subst, arith}
+use Rattle.std.proofs.Common.{◌≡◌, ◌∙◌, ◌+◌, ◌-◌, ◌%◌, ◌^◌, ◌==◌, ◌++◌, ◌<◌, ◌≢◌, ℕ, Bool, true, false, [], Ok, Some, refl, sym, ap, subst, arith}
 use Rattle.std.proofs.Common.{if◌then◌else◌}
 use Rattle.std.specs.Prelude.{nat_le}
 use Rattle.std.proofs.lemmas.Bool.Decides.{nat_tests}
@@ -18,7 +18,7 @@ use Rattle.lib_os.specs.AbstractState.{AbstractState}
 use Rattle.lib_os.specs.Answers.{moved_at_once}
 use Rattle.lib_os.specs.LibrarySteps.{Lowers, Stands}
 use Rattle.lib_os.specs.Places.{place_of}
-use Rattle.lib_os.specs.Rows.{Names, is_descriptor, rows_of}
+use Rattle.lib_os.specs.Rows.{Names, is_of_descriptor, rows_of}
 use Rattle.lib_os.specs.StandsFor.{StandsFor, view_of}
 use Rattle.lib_os.specs.StandsInHandler.{AreSmall, answer_behind, buffer_of, hands_back, is_refused_by, next_page, put_at_once}
 use Rattle.lib_os.specs.UserCalls.{CallStep, store, store_byte}
@@ -85,13 +85,13 @@ module _ (s : KernelState) (n : ℕ) (call : Service) (hands : hands_back call �
       -- what it is in the abstract system
       module _ (on : is_allowed s.spaces (slot_at s n).directory (va + done) Write ≡ true) where
         abbrev goes : Next → Type 0
-        goes x = Follows (file_after h n call done count word stands on) n call a x
+        goes x = s.last ≡ Some n → Follows (file_after h n call done count word stands on) n call a x
 
         abbrev behind : ℕ
         behind = done + put_at_once call done count
 
-        same : (file_delivered h n call done count word stands).console ≡ a.console ++ []
-        same = file_console h n call done count word stands on ∙ printed_nothing a
+        same : s.last ≡ Some n → (file_delivered h n call done count word stands).console ≡ a.console ++ []
+        same last = file_console h n call done count word stands on last ∙ printed_nothing a
 
         -- the next byte lies in the page of the last
         same_page : behind < count → ((va + behind) % 2 ^ 32 % PGSIZE == 0) ≡ false → next_page call behind ≡ next_page call done
@@ -105,19 +105,19 @@ module _ (s : KernelState) (n : ℕ) (call : Service) (hands : hands_back call �
 
         by_page : behind < count → (t : Bool) → ((va + behind) % 2 ^ 32 % PGSIZE == 0) ≡ t →
             goes (if t then next.Show (step.FileRegion behind count) else next.Show (step.LoadingBytes behind count))
-        by_page more true test = (
+        by_page more true test last = (
           file_delivered h n call done count word stands,
           file_put_step h n call done count word stands,
-          same,
-          (names, file_goes_on h n call done count word stands on (step.FileRegion behind count) refl more (λ w c row has. has)),
+          same last,
+          (names, file_goes_on h n call done count word stands on last (step.FileRegion behind count) refl refl more (λ w c row has. has)),
         )
-        by_page more false test = (
+        by_page more false test last = (
           file_delivered h n call done count word stands,
           file_put_step h n call done count word stands,
-          same,
+          same last,
           (
             names,
-            file_goes_on h n call done count word stands on (step.LoadingBytes behind count) refl more (λ w c row has. record {
+            file_goes_on h n call done count word stands on last (step.LoadingBytes behind count) refl refl more (λ w c row has. record {
               has = has;
               allowed = (λ i. is_refused_by true (row i (next_page call behind)))
                   ∙ ap (λ (p : ℕ). is_refused_by true (rows_of s.spaces (slot_at s n).directory p)) (same_page more test)
@@ -129,13 +129,13 @@ module _ (s : KernelState) (n : ℕ) (call : Service) (hands : hands_back call �
         by_past : (t : Bool) → nat_le count behind ≡ t →
             goes (if t then next.Show (step.Returning (answer_behind call count))
             else if (va + behind) % 2 ^ 32 % PGSIZE == 0 then next.Show (step.FileRegion behind count) else next.Show (step.LoadingBytes behind count))
-        by_past true past = (
+        by_past true past last = (
           file_delivered h n call done count word stands,
           file_put_step h n call done count word stands,
-          same,
-          (names, file_answers h n call done count word stands on (grind (arith, nat_tests, past))),
+          same last,
+          (names, file_answers h n call done count word stands on last (grind (arith, nat_tests, past))),
         )
-        by_past false more = by_page (grind (arith, nat_tests, more)) ((va + behind) % 2 ^ 32 % PGSIZE == 0) refl
+        by_past false more last = by_page (grind (arith, nat_tests, more)) ((va + behind) % 2 ^ 32 % PGSIZE == 0) refl last
 
         put_follows : goes next_here
         put_follows =
@@ -194,7 +194,7 @@ module _ (s : KernelState) (n : ℕ) (call : Service) (hands : hands_back call �
           })
 
     -- the next byte lies on no page of a descriptor's
-    aside : (a : AbstractState) → Stands s a → is_descriptor (page_number at) ≡ false
+    aside : (a : AbstractState) → Stands s a → is_of_descriptor (page_number at) ≡ false
     aside a h = inside_aside (va + done) (put_inside h.1 n call done count word stands)
 
     by_four : (t : Bool) → (many == 4) ≡ t → ServiceHolds s n (putting t)
@@ -228,7 +228,7 @@ module _ (s : KernelState) (n : ℕ) (call : Service) (hands : hands_back call �
     faulting = staged call (ask.StoreByte at 0) (λ x. next.Gone)
 
     -- the byte lies on no page of a descriptor's
-    stop_aside : (a : AbstractState) → Stands s a → is_descriptor (page_number at) ≡ false
+    stop_aside : (a : AbstractState) → Stands s a → is_of_descriptor (page_number at) ≡ false
     stop_aside a h =
         let v = served h.1 n call (step.FileFaulting done count) stands in
         inside_aside (va + done) (bytes_inside (view_of s.spaces (slot_at s n).directory) (slot_at s n) v.b call done count v.at.0)

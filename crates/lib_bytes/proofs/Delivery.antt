@@ -1,6 +1,6 @@
 -- The law of a step in which a service puts bytes into the program's memory: where the kernel lets it, they are there, and it shows its next
 -- step or answers; where their page waits to be copied, the handler of page faults gets the fault, which nobody sees.
-use Rattle.std.proofs.Common.{◌≡◌, ◌∙◌, ◌<◌, ◌++◌, ℕ, true, Some, Ok, refl, sym, ap, subst}
+use Rattle.std.proofs.Common.{◌≡◌, ◌∙◌, ◌<◌, ◌++◌, ℕ, true, inl, Some, Ok, refl, sym, ap, subst}
 use Rattle.jos_base.specs.declared.called.Called.{Called}
 use Rattle.jos_base.specs.declared.called.Called.TheVariants.{Answered}
 use Rattle.jos_base.specs.Environments.{Slot, is_live}
@@ -10,7 +10,7 @@ use Rattle.lib_os.specs.declared.service.Service.{Service}
 use Rattle.lib_os.specs.AbstractRun.{abs_step}
 use Rattle.lib_os.specs.AbstractState.{AbstractState}
 use Rattle.lib_os.specs.InOrder.{IsInOrder}
-use Rattle.lib_os.specs.LibrarySteps.{Lowers, hidden_left}
+use Rattle.lib_os.specs.LibrarySteps.{Lowers, LowersOrAsksAgain, hidden_left}
 use Rattle.lib_os.specs.Rows.{Names}
 use Rattle.lib_os.specs.StandsFor.{StandsFor}
 use Rattle.lib_os.specs.UserCalls.{CallStep, Got, giving, gone, got, store, store_byte, to_handler}
@@ -26,7 +26,7 @@ use Rattle.lib_file.proofs.FaultingLaw.{IsHandedOver}
 pub record IsPutThere (s : KernelState) (n : ℕ) (plan : Plan) (a : AbstractState) : Type 0 where
   pub after : KernelState
   pub is : performed s n plan.asks ≡ giving after (Answered 0)
-  pub goes : FollowsBy s n plan a (giving after (Answered 0))
+  pub goes : s.last ≡ Some n → FollowsBy s n plan a (giving after (Answered 0))
 
 pub data PutOrLost (s : KernelState) (n : ℕ) (plan : Plan) (names : Names) (a : AbstractState) : Type 0 where
   put : IsPutThere s n plan a → PutOrLost s n plan names a
@@ -61,16 +61,16 @@ module _ (s : KernelState) (n : ℕ) (plan : Plan) (service : Service) (from : S
     Lowers (Ok (seen_as (plan.next called))) n s (settled plan.number (plan.next called) after n))
     (comes : (names : Names) (a : AbstractState) → StandsFor names s a → PutOrLost s n plan names a) where
   keeps : IsInOrder (performed s n plan.asks).state → KeepsBy s n plan (performed s n plan.asks)
-  keeps order a h quiet = by_case (comes h.0 a h.1)
+  keeps order a h turn quiet = by_case (comes h.0 a h.1)
     where
       by_case : PutOrLost s n plan h.0 a → FollowsBy s n plan a (performed s n plan.asks)
-      by_case (put it) = subst (λ (z : CallStep Called). FollowsBy s n plan a z) (sym it.is) it.goes
+      by_case (put it) = subst (λ (z : CallStep Called). FollowsBy s n plan a z) (sym it.is) (it.goes turn.last)
       by_case (lost it) =
           subst (λ (z : CallStep Called). FollowsBy s n plan a z) (sym it.is)
-          (refl, (h.0, it.stands (subst (λ (t : KernelState). IsInOrder t) (ap (λ (z : CallStep Called). z.state) it.is) order)))
+          (refl, (h.0, it.stands (subst (λ (t : KernelState). IsInOrder t) (ap (λ (z : CallStep Called). z.state) it.is) order) turn.last))
 
   fails : FailsBy s n plan (performed s n plan.asks)
-  fails may a h = by_case (comes h.0 a h.1)
+  fails may a h turn = by_case (comes h.0 a h.1)
     where
       none : (performed s n plan.asks).gives ≡ gone
       none = fails_gone may
@@ -85,12 +85,12 @@ module _ (s : KernelState) (n : ℕ) (plan : Plan) (service : Service) (from : S
   lowers_by : (g : Got Called) → (performed s n plan.asks).gives ≡ g →
       let did = upshot_by plan n (performed s n plan.asks) g in Lowers (Ok did.progress) n s did.state
   lowers_by (got called) is = shows called (performed s n plan.asks).state
-  lowers_by to_handler is = λ a h quiet. by_case a (comes h.0 a h.1)
+  lowers_by to_handler is = λ a h turn quiet. by_case a (comes h.0 a h.1)
     where
-      by_case : {names : Names} (a : AbstractState) → PutOrLost s n plan names a → hidden_left (performed s n plan.asks).state n < hidden_left s n
+      by_case : {names : Names} (a : AbstractState) → PutOrLost s n plan names a → LowersOrAsksAgain n s (performed s n plan.asks).state
       by_case a (put it) =
           absurd (let contradiction : ◌≡◌ {A = Got Called} to_handler (got (Answered 0)) = sym is ∙ ap (λ (z : CallStep Called). z.gives) it.is in cc)
-      by_case a (lost it) = subst (λ (z : CallStep Called). hidden_left z.state n < hidden_left s n) (sym it.is) it.lower
+      by_case a (lost it) = inl (subst (λ (z : CallStep Called). hidden_left z.state n < hidden_left s n) (sym it.is) it.lower)
   lowers_by gone is = tt
 
   pub delivery_holds : ServiceHolds s n plan

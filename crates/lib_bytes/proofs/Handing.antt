@@ -14,7 +14,7 @@ use Rattle.lib_os.specs.AbstractState.{AbstractState}
 use Rattle.lib_os.specs.Answers.{moved_at_once}
 use Rattle.lib_os.specs.Fence.{is_inside}
 use Rattle.lib_os.specs.LibrarySteps.{Stands, is_pausing}
-use Rattle.lib_os.specs.Rows.{is_descriptor}
+use Rattle.lib_os.specs.Rows.{is_of_descriptor}
 use Rattle.lib_os.specs.StandsInHandler.{hands_back}
 use Rattle.lib_os.proofs.Fences.{inside_below}
 use Rattle.lib_os.proofs.Logical.{inside_programs, programs_no_descriptor}
@@ -70,13 +70,13 @@ moved_aligned va wanted = by_tests (va % 4 == 0) refl (nat_le 4 wanted)
 -- ---- what they put lies on no page of a descriptor's
 
 -- a byte that a program may touch does not
-pub inside_aside : (va : ℕ) → is_inside va ≡ true → is_descriptor (page_number (va % 2 ^ 32)) ≡ false
+pub inside_aside : (va : ℕ) → is_inside va ≡ true → is_of_descriptor (page_number (va % 2 ^ 32)) ≡ false
 inside_aside va inside =
     let below = inside_below va inside in
     let same : va % 2 ^ 32 ≡ va = omega (arith, below) in
-    ap (λ (x : ℕ). is_descriptor (page_number x)) same ∙ programs_no_descriptor (page_number va) (inside_programs va inside)
+    ap (λ (x : ℕ). is_of_descriptor (page_number x)) same ∙ programs_no_descriptor (page_number va) (inside_programs va inside)
 
 -- nor does a word, where four bytes are put at once
 pub word_aside : (s : KernelState) (n va wanted word : ℕ) → (moved_at_once va wanted == 4) ≡ true →
-    ((a : AbstractState) → Stands s a → is_descriptor (page_number va) ≡ false) → IsPlain s n (ask.Store va word)
+    ((a : AbstractState) → Stands s a → is_of_descriptor (page_number va) ≡ false) → IsPlain s n (ask.Store va word)
 word_aside s n va wanted word four aside = store_aside s n va word (λ a h. aligned_beside va (moved_aligned va wanted four) (aside a h))

@@ -41,23 +41,23 @@ unfolding performed
 taking_keeps s n va live stands order = elim (page_made_or_refused s n PFTEMP copy_perm (0 ∷ 0 ∷ []) live refl refl) [
   | inl made ↦
       subst (λ (z : CallStep Called). IsInOrder z.state → KeepsBy s n (handling (handler.Taking va)) z) (sym made.step)
-      (λ in_order a h quiet. (
+      (λ in_order a h turn quiet. (
         refl,
         (
           h.0,
           taken_stands h.1 n va stands
               (allocated_made s.spaces made.spaces (slot_at s n).directory copy_page copy_perm made.frame h.1.in_order.frames in_order.frames refl made.is)
-              in_order,
+              in_order turn.last,
         ),
       )) order
   | inr none ↦
       subst (λ (z : CallStep Called). KeepsBy s n (handling (handler.Taking va)) z) (sym none.step)
-      (λ a h quiet. absurd (refusal_is_seen s (record { stays = quiet.stays; could = quiet.could })))
+      (λ a h turn quiet. absurd (refusal_is_seen s (record { stays = quiet.stays; could = quiet.could })))
 ]
 
 pub taking_fails : (s : KernelState) (n va : ℕ) → is_live (slot_at s n) ≡ true → place_of (slot_at s n) ≡ place.InHandler (handler.Taking va) →
     FailsBy s n (handling (handler.Taking va)) (performed s n (ask_of (handler.Taking va)))
-taking_fails s n va live stands may a h = absurd (let contradiction : false ≡ true = may in cc)
+taking_fails s n va live stands may a h turn = absurd (let contradiction : false ≡ true = may in cc)
 
 -- ---- a word is stored in the copy
 
@@ -73,7 +73,7 @@ module _ (s : KernelState) (n va index word : ℕ) (live : is_live (slot_at s n)
   pub storing_keeps : IsInOrder (performed s n (ask_of (handler.Storing va index word))).state →
       KeepsBy s n (handling (handler.Storing va index word)) (performed s n (ask_of (handler.Storing va index word)))
   unfolding performed
-  storing_keeps order a h quiet =
+  storing_keeps order a h turn quiet =
       let call = stores_word h.1 n va index word stands in
       subst (λ (z : CallStep (Unit {0})). IsInOrder z.state → FollowsBy s n (handling at) a (told_as (λ done. 0) z)) (sym call.step)
       (λ in_order. by_test call in_order (nat_lt index (PAGE_WORDS - 1)) refl) order
@@ -86,7 +86,7 @@ module _ (s : KernelState) (n va index word : ℕ) (live : is_live (slot_at s n)
             refl,
             (
               h.0,
-              word_stored h.1 n va index word stands (step_is_there (slot_at s n) at stands) call.copy call.stands call.rewritten in_order more,
+              word_stored h.1 n va index word stands (step_is_there (slot_at s n) at stands) call.copy call.stands call.rewritten in_order turn.last more,
             ),
           )
       by_test call in_order false test =
@@ -95,21 +95,21 @@ module _ (s : KernelState) (n va index word : ℕ) (live : is_live (slot_at s n)
             refl,
             (
               h.0,
-              last_stored h.1 n va index word stands there call.copy call.stands call.rewritten in_order all,
+              last_stored h.1 n va index word stands there call.copy call.stands call.rewritten in_order turn.last all,
             ),
           )
 
   pub storing_fails : FailsBy s n (handling (handler.Storing va index word)) (performed s n (ask_of (handler.Storing va index word)))
   unfolding performed
-  storing_fails may a h =
+  storing_fails may a h turn =
       let call = stores_word h.1 n va index word stands in
       let given : got (Answered 0) ≡ gone = sym (ap (λ (z : CallStep (Unit {0})). got_as (λ done. 0) z.gives) call.step) ∙ may in
       absurd (let contradiction : ◌≡◌ {A = Got Called} (got (Answered 0)) gone = given in cc)
 
   -- the copy may always be written
-  pub storing_never : NeverFaults s (performed s n (ask_of (handler.Storing va index word)))
+  pub storing_never : NeverFaults s n (performed s n (ask_of (handler.Storing va index word)))
   unfolding performed
-  storing_never a h faults =
+  storing_never a h turn faults =
       let call = stores_word h.1 n va index word stands in
       let given : got (Answered 0) ≡ to_handler = sym (ap (λ (z : CallStep (Unit {0})). got_as (λ done. 0) z.gives) call.step) ∙ faults in
       let contradiction : ◌≡◌ {A = Got Called} (got (Answered 0)) to_handler = given in cc
@@ -122,14 +122,14 @@ unfolding performed
 unmapping_keeps s n va live stands order =
     subst (λ (z : CallStep Called). IsInOrder z.state → KeepsBy s n (handling (handler.Unmapping va)) z)
     (sym (page_unmap_is s n live PFTEMP (0 ∷ 0 ∷ 0 ∷ []) refl))
-    (λ in_order a h quiet. (
+    (λ in_order a h turn quiet. (
       refl,
-      (h.0, unmapped_stands h.1 n va stands (unmapped_removed s.spaces (slot_at s n).directory copy_page h.1.in_order.frames) in_order),
+      (h.0, unmapped_stands h.1 n va stands (unmapped_removed s.spaces (slot_at s n).directory copy_page h.1.in_order.frames) in_order turn.last),
     )) order
 
 pub unmapping_fails : (s : KernelState) (n va : ℕ) → is_live (slot_at s n) ≡ true → place_of (slot_at s n) ≡ place.InHandler (handler.Unmapping va) →
     FailsBy s n (handling (handler.Unmapping va)) (performed s n (ask_of (handler.Unmapping va)))
-unmapping_fails s n va live stands may a h = absurd (let contradiction : false ≡ true = may in cc)
+unmapping_fails s n va live stands may a h turn = absurd (let contradiction : false ≡ true = may in cc)
 
 -- ---- the copy is put in the place of the page
 
@@ -147,7 +147,7 @@ module _ (s : KernelState) (n va : ℕ) (live : is_live (slot_at s n) ≡ true)
   over mid = settled SERVICES (next.Handle (handler.Unmapping va)) mid n
 
   over_keeps : IsInOrder asked.state → KeepsStanding progress.Hidden n s (over asked.state) asked.written
-  over_keeps order a h quiet =
+  over_keeps order a h turn quiet =
       let call = puts_over h.1 n va live stands in
       subst (λ (z : CallStep Called). IsInOrder z.state → Stays (over z.state) a z.written) (sym call.step)
       (λ in_order. (
@@ -156,7 +156,7 @@ module _ (s : KernelState) (n va : ℕ) (live : is_live (slot_at s n) ≡ true)
           h.0,
           over_stands h.1 n va stands call.copy call.stands
               (inserted_given s.spaces call.spaces (slot_at s n).directory (page_number va) (record { frame = call.copy.frame; perm = copy_perm })
-              (slot_at s n).directory copy_page call.entry h.1.in_order.frames in_order.frames refl call.there call.frame call.is) in_order,
+              (slot_at s n).directory copy_page call.entry h.1.in_order.frames in_order.frames refl call.there call.frame call.is) in_order turn.last,
         ),
       )) order
 
@@ -169,4 +169,4 @@ module _ (s : KernelState) (n va : ℕ) (live : is_live (slot_at s n) ≡ true)
       (sym gives.1) (over_keeps order)
 
   pub mapping_over_fails : FailsBy s n (handling (handler.MappingOver va)) (performed s n (ask_of (handler.MappingOver va)))
-  mapping_over_fails may a h = absurd (let contradiction : false ≡ true = may in cc)
+  mapping_over_fails may a h turn = absurd (let contradiction : false ≡ true = may in cc)

@@ -21,7 +21,7 @@ use Rattle.lib_os.specs.GuestStep.{ends_with}
 use Rattle.lib_os.specs.InOrder.{IsInOrder}
 use Rattle.lib_os.specs.LibrarySteps.{GoesOn}
 use Rattle.lib_os.specs.Places.{place_of}
-use Rattle.lib_os.specs.Rows.{Names, is_descriptor, rows_of}
+use Rattle.lib_os.specs.Rows.{Names, is_of_descriptor, rows_of}
 use Rattle.lib_os.specs.StandsFor.{StandsFor, view_of, upcall_at, borne_in}
 use Rattle.lib_os.specs.StandsInHandler.{CopiesOrEnds, copies, ends, Ends, is_write}
 use Rattle.lib_os.specs.UserCalls.{CallStep, Got, gone, to_handler, giving, load_byte, store_byte, user_byte, with_user_byte}
@@ -30,6 +30,7 @@ use Rattle.lib_os.proofs.FaultEnds.{IsRefused, access_of, access_refused, ended_
 use Rattle.lib_os.proofs.Fences.{inside_number}
 use Rattle.lib_os.proofs.Handled.{IsHandled, handled_part}
 use Rattle.lib_os.proofs.Logical.{inside_programs, is_plain, programs_no_descriptor}
+use Rattle.lib_os.proofs.PipesStand.{is_calm}
 use Rattle.lib_os.proofs.Slots.{slot_put}
 use Rattle.lib_os.proofs.StopsEnd.{stopped_step}
 use Rattle.lib_os.proofs.UpcallSet.{upcall_unset_is, unset_stands}
@@ -58,7 +59,7 @@ module _ (s : KernelState) (n va error ip : ℕ) (live : is_live (slot_at s n) �
         by_way (ends way) = way
 
     unset_keeps : KeepsBy s n (handling unsetting) (giving (with_upcall s n 0) (Answered 0))
-    unset_keeps a h quiet =
+    unset_keeps a h turn quiet =
         let v = handled_part h.1 n unsetting stands in
         (refl, (h.0, unset_stands h.1 n va error ip v stands (ends_there v)))
 
@@ -67,7 +68,7 @@ module _ (s : KernelState) (n va error ip : ℕ) (live : is_live (slot_at s n) �
 
     -- nothing is printed by it
     pub unsetting_fails : FailsBy s n (handling unsetting) (performed s n (ask_of unsetting))
-    unsetting_fails may a h = absurd (let contradiction : false ≡ true = may in cc)
+    unsetting_fails may a h turn = absurd (let contradiction : false ≡ true = may in cc)
 
   -- ---- the fault, once more
 
@@ -132,9 +133,9 @@ module _ (s : KernelState) (n va error ip : ℕ) (live : is_live (slot_at s n) �
           (subst (λ (at : ℕ). IsRefused s.spaces (slot_at s n).directory at (access_of (is_write v.at.fault.error))) (sym way.at.0) it)
 
       -- in no page of a descriptor's
-      pub touching_apart : is_descriptor (page_number va) ≡ false
+      pub touching_apart : is_of_descriptor (page_number va) ≡ false
       touching_apart =
-          ap (λ (at : ℕ). is_descriptor (page_number at)) way.at.0
+          ap (λ (at : ℕ). is_of_descriptor (page_number at)) way.at.0
           ∙ programs_no_descriptor (page_number v.at.fault.va) (inside_programs v.at.fault.va way.inside)
 
       no_handler : (slot_at s n).upcall ≡ 0
@@ -150,7 +151,7 @@ module _ (s : KernelState) (n va error ip : ℕ) (live : is_live (slot_at s n) �
 
       ends_by : abs_step a n ≡ Some ended
       ends_by =
-          stopped_step h n v.b v.is (ap is_plain stands) (is_write v.at.fault.error) v.at.fault.va v.at.regs way.eax way.program way.awake way.inside way.refused
+          stopped_step h n v.b v.is (ap is_plain stands) (ap is_calm stands) (is_write v.at.fault.error) v.at.fault.va v.at.regs way.eax way.program way.awake way.inside way.refused
           way.stopped
 
       -- with the line that the kernel writes
@@ -159,24 +160,24 @@ module _ (s : KernelState) (n va error ip : ℕ) (live : is_live (slot_at s n) �
           ap (λ (l : List ℕ). a.console ++ l) (sym (same_line h n v.b v.is v.at.fault.va v.at.regs.eip))
           ∙ (λ i. a.console ++ line_text (slot_at s n).id (UserFault (sym way.at.0 i) (sym way.at.2 i)))
 
-      gone_there : IsInOrder (without_environment s n) → GoesOn n (without_environment s n) a line
-      gone_there order = (ended, ends_by, written, (names, fault_ended h n v.b v.is (ap borne_in stands) v.at.fault.va v.at.regs.eip order))
+      gone_there : IsInOrder (without_environment s n) → s.last ≡ Some n → GoesOn n (without_environment s n) a line
+      gone_there order last = (ended, ends_by, written, (names, fault_ended h n v.b v.is (ap borne_in stands) (ap is_calm stands) last v.at.fault.va v.at.regs.eip order))
 
     pub touching_keeps : IsInOrder (performed s n (ask_of touching_again)).state →
         KeepsBy s n (handling touching_again) (performed s n (ask_of touching_again))
-    touching_keeps order a h quiet =
+    touching_keeps order a h turn quiet =
         let is = goes_there h.1 in
         subst (λ (z : CallStep Called). FollowsBy s n (handling touching_again) a z) (sym is)
-        (gone_there h.1 (subst (λ (z : CallStep Called). IsInOrder z.state) is order))
+        (gone_there h.1 (subst (λ (z : CallStep Called). IsInOrder z.state) is order) turn.last)
 
     -- it is gone, and not in its handler
-    pub touching_never : NeverFaults s (performed s n (ask_of touching_again))
-    touching_never a h faults =
+    pub touching_never : NeverFaults s n (performed s n (ask_of touching_again))
+    touching_never a h turn faults =
         let given : to_handler ≡ gone = sym faults ∙ ap (λ (z : CallStep Called). z.gives) (goes_there h.1) in
         let contradiction : ◌≡◌ {A = Got Called} to_handler gone = given in cc
 
     -- where the host failed, the line is what the end prints
     pub touching_fails : FailsBy s n (handling touching_again) (performed s n (ask_of touching_again))
-    touching_fails may a h =
+    touching_fails may a h turn =
         subst (λ (z : CallStep Called). (b : AbstractState) × (abs_step a n ≡ Some b) × (b.console ≡ a.console ++ z.written)) (sym (goes_there h.1))
         (ended h.1, ends_by h.1, written h.1)

@@ -78,7 +78,7 @@ module _ (s : KernelState) (n : ℕ) where
     pub entered_fails : FailsBy s n (handling handler.Entered) (performed s n (ask_of handler.Entered))
     entered_fails = load_fails s n (frame_word 0) handler.Entered refl stands address_read
 
-    pub entered_never : NeverFaults s (performed s n (ask_of handler.Entered))
+    pub entered_never : NeverFaults s n (performed s n (ask_of handler.Entered))
     entered_never = load_never s n (frame_word 0) handler.Entered refl stands address_read
 
   -- ---- the error code
@@ -129,7 +129,7 @@ module _ (s : KernelState) (n : ℕ) where
       pub reading_error_fails : FailsBy s n (handling reading) (performed s n (ask_of reading))
       reading_error_fails = load_fails s n (frame_word 1) reading refl stands error_read
 
-      pub reading_error_never : NeverFaults s (performed s n (ask_of reading))
+      pub reading_error_never : NeverFaults s n (performed s n (ask_of reading))
       reading_error_never = load_never s n (frame_word 1) reading refl stands error_read
 
   -- ---- EIP of the program
@@ -161,5 +161,5 @@ module _ (s : KernelState) (n : ℕ) where
       pub reading_ip_fails : FailsBy s n (handling reading_ip) (performed s n (ask_of reading_ip))
       reading_ip_fails = load_fails s n (frame_word 10) reading_ip refl stands ip_read
 
-      pub reading_ip_never : NeverFaults s (performed s n (ask_of reading_ip))
+      pub reading_ip_never : NeverFaults s n (performed s n (ask_of reading_ip))
       reading_ip_never = load_never s n (frame_word 10) reading_ip refl stands ip_read

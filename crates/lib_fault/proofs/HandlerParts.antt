@@ -17,7 +17,7 @@ use Rattle.lib_os.specs.declared.place.HandlerStep.{HandlerStep}
 use Rattle.lib_os.specs.declared.place.HandlerStep.TheVariants as handler
 use Rattle.lib_os.specs.declared.place.Place.TheVariants as place
 use Rattle.lib_os.specs.AbstractState.{AbstractState}
-use Rattle.lib_os.specs.LibrarySteps.{Stands, Leaves, Lowers, GivesUp, TakesAtMost, TakesByPlace, copies_left, frames_at, is_pausing}
+use Rattle.lib_os.specs.LibrarySteps.{HasTurn, Stands, Leaves, Lowers, GivesUp, TakesAtMost, TakesByPlace, copies_left, frames_at, is_pausing}
 use Rattle.lib_os.specs.Places.{place_of}
 use Rattle.lib_os.specs.Rows.{rows_of}
 use Rattle.lib_os.specs.StandsInHandler.{is_write}
@@ -156,13 +156,13 @@ module _ (s : KernelState) (n : ℕ) (live : is_live (slot_at s n) ≡ true) whe
   LowersBy at g = let did = upshot_by (handling at) n (performed s n (ask_of at)) g in Lowers (Ok did.progress) n s did.state
 
   touching_lowers : (va error ip : ℕ) (g : Got Called) →
-      ((a : AbstractState) → Stands s a → g ≡ to_handler → ⊥) → LowersBy (handler.Touching va error ip) g
+      ((a : AbstractState) → Stands s a → HasTurn s n → g ≡ to_handler → ⊥) → LowersBy (handler.Touching va error ip) g
   touching_lowers va error ip (got called) never = tt
-  touching_lowers va error ip to_handler never = λ a h quiet. absurd (never a h refl)
+  touching_lowers va error ip to_handler never = λ a h turn quiet. absurd (never a h turn refl)
   touching_lowers va error ip gone never = tt
 
   -- Its accesses are allowed wherever the state stands for an abstract one.
-  never_faults : (at : HandlerStep) → keeps_registers at ≡ true → place_of (slot_at s n) ≡ place.InHandler at → NeverFaults s (performed s n (ask_of at))
+  never_faults : (at : HandlerStep) → keeps_registers at ≡ true → place_of (slot_at s n) ≡ place.InHandler at → NeverFaults s n (performed s n (ask_of at))
   unfolding performed
   never_faults handler.Entered keeps stands = entered_never s n live stands
   never_faults (handler.ReadingError va) keeps stands = reading_error_never s n va live stands
@@ -190,7 +190,7 @@ module _ (s : KernelState) (n : ℕ) (live : is_live (slot_at s n) ≡ true) whe
 
       by_got : keeps_registers at ≡ true → (g : Got Called) → (performed s n (ask_of at)).gives ≡ g → LowersBy at g
       by_got keeps (got called) is = going_on keeps called is
-      by_got keeps to_handler is = λ a h quiet. absurd (never_faults at keeps stands a h is)
+      by_got keeps to_handler is = λ a h turn quiet. absurd (never_faults at keeps stands a h turn is)
       by_got keeps gone is = tt
 
       by_kind : (t : Bool) → keeps_registers at ≡ t → LowersBy at (performed s n (ask_of at)).gives

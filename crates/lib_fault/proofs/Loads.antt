@@ -63,7 +63,7 @@ module _ (s : KernelState) (n va : ℕ) (from : HandlerStep) (asks : ask_of from
       (refl, (names, load_goes h n va from r.to v order stands r.alike.there r.alike.plain r.alike.plain_to r.alike.upcall r.alike.copy r.way))
 
   keeps : IsInOrder (load s n va).state → KeepsBy s n (handling from) (told_as (λ w. w) (load s n va))
-  keeps order a h quiet =
+  keeps order a h turn quiet =
       let r = reads h.0 a h.1 (handled_part h.1 n from stands) in
       subst (λ (z : CallStep ℕ). FollowsBy s n (handling from) a (told_as (λ w. w) z)) (sym r.is)
       (follows h.0 a h.1 (subst (λ (t : KernelState). IsInOrder t) (ap (λ (z : CallStep ℕ). z.state) r.is) order))
@@ -78,12 +78,12 @@ module _ (s : KernelState) (n va : ℕ) (from : HandlerStep) (asks : ask_of from
       (r.word, ap (λ (z : CallStep Called). z.gives) is_load ∙ ap (λ (z : CallStep ℕ). got_as (λ w. w) z.gives) r.is)
 
   pub load_fails : FailsBy s n (handling from) (performed s n (ask_of from))
-  load_fails may a h =
+  load_fails may a h turn =
       let given = gives_word a h in
       let none : (performed s n (ask_of from)).gives ≡ gone = subst (λ (x : Ask). MayFail x (performed s n (ask_of from)).gives) asks may in
       absurd (let contradiction : ◌≡◌ {A = Got Called} gone (got (Answered given.0)) = sym none ∙ given.1 in cc)
 
-  pub load_never : NeverFaults s (performed s n (ask_of from))
-  load_never a h faults =
+  pub load_never : NeverFaults s n (performed s n (ask_of from))
+  load_never a h turn faults =
       let given = gives_word a h in
       let contradiction : ◌≡◌ {A = Got Called} to_handler (got (Answered given.0)) = sym faults ∙ given.1 in cc

@@ -1,5 +1,5 @@
 -- At each hidden step of the handler less is left of what its environment may do before something is seen.
-use Rattle.std.proofs.Common.{◌≡◌, ◌∙◌, ◌<◌, ◌≤◌, ◌+◌, ◌-◌, ◌*◌, ◌==◌, ℕ, Bool, true, false, not, Ok, refl, sym, ap, arith, if◌then◌else◌}
+use Rattle.std.proofs.Common.{inl, ◌≡◌, ◌∙◌, ◌<◌, ◌≤◌, ◌+◌, ◌-◌, ◌*◌, ◌==◌, ℕ, Bool, true, false, not, Ok, refl, sym, ap, arith, if◌then◌else◌}
 use Rattle.std.specs.Prelude.{nat_lt}
 use Rattle.jos_base.specs.declared.registers.Regs.{Regs}
 use Rattle.jos_base.specs.Environments.{Slot}
@@ -129,10 +129,11 @@ module _ (s mid : KernelState) (n : ℕ) (from : HandlerStep) (stands : place_of
       Lowers (Ok (seen_as x)) n s (settled SERVICES x mid n)
   next_lowers (next.Answer word) falls copies = tt
   next_lowers (next.Answers eax edx ecx ebx) falls copies = tt
+  next_lowers (next.AnswersEnds reading writing) falls copies = tt
   next_lowers (next.GoOn to) falls copies = absurd falls
   next_lowers (next.GoBack word) falls copies = absurd falls
   next_lowers (next.Show to) falls copies = tt
   next_lowers (next.Wait to) falls copies = absurd falls
-  next_lowers (next.Handle to) falls copies = λ a h quiet. less_there to falls.1 falls.0 (copies a h quiet)
-  next_lowers next.Leave falls copies = λ a h quiet. absurd (copies a h quiet)
+  next_lowers (next.Handle to) falls copies = λ a h turn quiet. inl (less_there to falls.1 falls.0 (copies a h quiet))
+  next_lowers next.Leave falls copies = λ a h turn quiet. absurd (copies a h quiet)
   next_lowers next.Gone falls copies = tt

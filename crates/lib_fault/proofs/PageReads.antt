@@ -137,7 +137,7 @@ module _ (s : KernelState) (n : ℕ) where
       pub looking_fails : FailsBy s n (handling looking) (performed s n (ask_of looking))
       looking_fails = load_fails s n address looking refl stands entry_read
 
-      pub looking_never : NeverFaults s (performed s n (ask_of looking))
+      pub looking_never : NeverFaults s n (performed s n (ask_of looking))
       looking_never = load_never s n address looking refl stands entry_read
 
   -- ---- a word of the page
@@ -196,5 +196,5 @@ module _ (s : KernelState) (n : ℕ) where
         pub loading_fails : FailsBy s n (handling loading) (performed s n (ask_of loading))
         loading_fails = load_fails s n place_of_word loading refl stands page_word_read
 
-        pub loading_never : NeverFaults s (performed s n (ask_of loading))
+        pub loading_never : NeverFaults s n (performed s n (ask_of loading))
         loading_never = load_never s n place_of_word loading refl stands page_word_read

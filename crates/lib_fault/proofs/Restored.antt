@@ -1,6 +1,6 @@
 -- The handler has copied the page, and takes the registers back from the frame: the program stands at its instruction again, or a service
 -- where it puts its bytes, and nothing is seen of it.
-use Rattle.std.proofs.Common.{◌≡◌, ◌∙◌, ◌<◌, ℕ, true, Ok, refl, sym, ap, subst}
+use Rattle.std.proofs.Common.{inl, ◌≡◌, ◌∙◌, ◌<◌, ℕ, true, Ok, refl, sym, ap, subst}
 use Rattle.jos_base.specs.declared.called.Called.{Called}
 use Rattle.jos_base.specs.declared.called.Called.TheVariants.{Answered}
 use Rattle.jos_base.specs.Environments.{is_live}
@@ -43,11 +43,11 @@ module _ (s : KernelState) (n : ℕ) (stands : place_of (slot_at s n) ≡ place.
         subst (λ (z : CallStep Called). hidden_left z.state n < hidden_left s n) (sym step_is) (restored_lowers h n stands)
 
   keeps : IsInOrder step.state → KeepsBy s n (handling handler.Restoring) step
-  keeps order a h quiet = follows h.1 order
+  keeps order a h turn quiet = follows h.1 order
 
   -- it always gives something, so that the host can't fail
   fails : FailsBy s n (handling handler.Restoring) step
-  fails may a h =
+  fails may a h turn =
       let given : got (Answered 0) ≡ gone = ap (λ (z : CallStep Called). z.gives) (sym (step_is h.1)) ∙ may in
       absurd (let contradiction : ◌≡◌ {A = Got Called} (got (Answered 0)) gone = given in cc)
 
@@ -55,8 +55,8 @@ module _ (s : KernelState) (n : ℕ) (stands : place_of (slot_at s n) ≡ place.
   lowers = by_got step.gives
     where
       by_got : (g : Got Called) → let did = upshot_by (handling handler.Restoring) n step g in Lowers (Ok did.progress) n s did.state
-      by_got (got called) = λ a h quiet. falls h.1
-      by_got to_handler = λ a h quiet. falls h.1
+      by_got (got called) = λ a h turn quiet. inl (falls h.1)
+      by_got to_handler = λ a h turn quiet. inl (falls h.1)
       by_got gone = tt
 
 pub restoring_keeps : (s : KernelState) (n : ℕ) → is_live (slot_at s n) ≡ true → place_of (slot_at s n) ≡ place.InHandler handler.Restoring →

@@ -9,6 +9,8 @@ use Rattle.jos_base.specs.Environments.{Slot, is_live}
 use Rattle.jos_base.specs.KernelState.{KernelState, slot_at}
 use Rattle.jos_base.specs.Words.{negated}
 use Rattle.lib_os.specs.declared.numbers.TheConstants.{DESCRIPTORS}
+use Rattle.lib_os.specs.declared.place.PipeStep.{PipeStep}
+use Rattle.lib_os.specs.declared.place.PipeStep.TheVariants as pipe
 use Rattle.lib_os.specs.declared.place.Place.TheVariants as place
 use Rattle.lib_os.specs.declared.place.Step.{Step}
 use Rattle.lib_os.specs.declared.place.Step.TheVariants as step
@@ -23,6 +25,7 @@ use Rattle.lib_os.specs.UserCalls.{CallStep, answer_of, giving}
 use Rattle.lib_os.proofs.Calls.{getenvid_is}
 use Rattle.lib_os.proofs.DescriptorLooks.{descriptor_va, entry_va, page_word, table_gives, table_va, table_word}
 use Rattle.lib_os.proofs.DescriptorsStand.{drop_is, drop_lives}
+use Rattle.lib_os.proofs.EndsDropped.{pipe_drop_is, pipe_drop_lives, pipe_entry_va, pipe_va, pipe_word}
 use Rattle.lib_os.proofs.Trying.{LivesOn}
 use Rattle.lib_stage.specs.declared.ask.Ask.{Ask}
 use Rattle.lib_stage.specs.declared.ask.Ask.TheVariants as ask
@@ -33,13 +36,17 @@ use Rattle.lib_stage.proofs.Laws.{Falls, IsAt, KeepsBy, is_plain, law_of_call, l
 use Rattle.lib_fd.specs.declared.close.CloseStage.{CloseStage}
 use Rattle.lib_fd.specs.declared.close.CloseStage.TheVariants as stage
 use Rattle.lib_fd.specs.DescriptorStages.{close_at, close_next, closing, is_there, region_asked}
-use Rattle.lib_fd.proofs.Closing.{dropping_keeps, entry_follows, entry_gives, past_keeps, table_follows}
+use Rattle.lib_fd.proofs.Closing.{dropping_keeps, end_keeps, entry_follows, entry_gives, past_keeps, pipe_entry_follows, pipe_entry_gives}
+use Rattle.lib_fd.proofs.Closing.{pipe_keeps, table_follows}
 
 -- the stage at which it stands at a step
 data IsStep : CloseStage → Step → Type 0 where
   entered : IsStep stage.Entered step.Entered
   entry : (at : ℕ) → IsStep stage.Entry (step.DescriptorEntry at)
   dropping : (at : ℕ) → IsStep stage.Dropping (step.DroppingDescriptor at)
+  pipe_entry : (at : ℕ) → IsStep stage.PipeEntry (step.Piped (pipe.PipeEntry at))
+  dropping_end : (at : ℕ) → IsStep stage.DroppingEnd (step.Piped (pipe.DroppingEnd at))
+  dropping_pipe : (at : ℕ) → IsStep stage.DroppingPipe (step.Piped (pipe.DroppingPipe at))
 
 module _ (s : KernelState) (n fd : ℕ) (live : is_live (slot_at s n) ≡ true) where
   abbrev plan : CloseStage → Plan
@@ -56,10 +63,18 @@ module _ (s : KernelState) (n fd : ℕ) (live : is_live (slot_at s n) ≡ true) 
   falls _ _ (entry at) word = by_test (is_there word)
     where
       by_test : (t : Bool) → Falls (service.Close fd) (step.DescriptorEntry at)
-          (if not t then next.Answer (negated E_INVAL) else next.GoOn (step.DroppingDescriptor fd))
+          (if not t then next.Answer (negated E_INVAL) else next.GoOn (step.Piped (pipe.PipeEntry fd)))
       by_test true = omega arith
       by_test false = tt
   falls _ _ (dropping at) word = tt
+  falls _ _ (pipe_entry at) word = by_test (is_there word)
+    where
+      by_test : (t : Bool) → Falls (service.Close fd) (step.Piped (pipe.PipeEntry at))
+          (next.GoOn (if t then step.Piped (pipe.DroppingEnd fd) else step.DroppingDescriptor fd))
+      by_test true = omega arith
+      by_test false = omega arith
+  falls _ _ (dropping_end at) word = omega arith
+  falls _ _ (dropping_pipe at) word = tt
 
   here : (at : CloseStage) (from : Step) → IsStep at from → place_of (slot_at s n) ≡ place.InService (service.Close fd) from →
       is_plain (plan at).asks ≡ true → frames_of (plan at).asks ≤ frames_at (place.InService (service.Close fd) from) →
@@ -108,6 +123,71 @@ module _ (s : KernelState) (n fd : ℕ) (live : is_live (slot_at s n) ≡ true) 
       ((view : View) (k : Slot) (b : Born) → StandsAtStep view k b (service.Close fd) at → ⊥) → ServiceHolds s n nowhere
   no_step at stands none = law_of_nowhere s n (service.Close fd) at stands refl none
 
+  piped_holds : (at : PipeStep) → place_of (slot_at s n) ≡ place.InService (service.Close fd) (step.Piped at) →
+      ServiceHolds s n (or_nowhere closing (close_at fd (step.Piped at)))
+  piped_holds (pipe.PipeEntry at) stands =
+      law_of_load s n (plan stage.PipeEntry) (service.Close fd) (step.Piped (pipe.PipeEntry at))
+      (here stage.PipeEntry (step.Piped (pipe.PipeEntry at)) (pipe_entry at) stands refl (omega arith)) (pipe_entry_va fd) refl
+      (λ names a h. (
+        record { word = pipe_word s n fd; is = pipe_entry_gives s n fd at stands names a h },
+        pipe_entry_follows s n fd at stands names a h,
+      ))
+  piped_holds (pipe.DroppingEnd at) stands =
+      law_of_call s n (plan stage.DroppingEnd) (service.Close fd) (step.Piped (pipe.DroppingEnd at))
+      (here stage.DroppingEnd (step.Piped (pipe.DroppingEnd at)) (dropping_end at) stands refl (omega arith)) SYS_PAGE_UNMAP
+      (0 ∷ descriptor_va fd ∷ 0 ∷ 0 ∷ 0 ∷ []) refl refl (drop_lives s n fd live)
+      (subst (λ (z : CallStep Called). IsInOrder z.state → KeepsBy s n (plan stage.DroppingEnd) z) (sym (drop_is s n fd live))
+      (end_keeps s n fd at stands))
+  piped_holds (pipe.DroppingPipe at) stands =
+      law_of_call s n (plan stage.DroppingPipe) (service.Close fd) (step.Piped (pipe.DroppingPipe at))
+      (here stage.DroppingPipe (step.Piped (pipe.DroppingPipe at)) (dropping_pipe at) stands refl (omega arith)) SYS_PAGE_UNMAP
+      (0 ∷ pipe_va fd ∷ 0 ∷ 0 ∷ 0 ∷ []) refl refl (pipe_drop_lives s n fd live)
+      (subst (λ (z : CallStep Called). IsInOrder z.state → KeepsBy s n (plan stage.DroppingPipe) z) (sym (pipe_drop_is s n fd live))
+      (pipe_keeps s n fd at stands))
+  piped_holds (pipe.SecondEntry reading other) stands = no_step (step.Piped (pipe.SecondEntry reading other)) stands (λ view k b h. h)
+  piped_holds (pipe.TakingReading reading writing) stands = no_step (step.Piped (pipe.TakingReading reading writing)) stands (λ view k b h. h)
+  piped_holds (pipe.StoringReading reading writing) stands = no_step (step.Piped (pipe.StoringReading reading writing)) stands (λ view k b h. h)
+  piped_holds (pipe.TakingWriting reading writing) stands = no_step (step.Piped (pipe.TakingWriting reading writing)) stands (λ view k b h. h)
+  piped_holds (pipe.StoringWriting reading writing) stands = no_step (step.Piped (pipe.StoringWriting reading writing)) stands (λ view k b h. h)
+  piped_holds (pipe.StoringEndMode reading writing) stands = no_step (step.Piped (pipe.StoringEndMode reading writing)) stands (λ view k b h. h)
+  piped_holds (pipe.TakingPipe reading writing) stands = no_step (step.Piped (pipe.TakingPipe reading writing)) stands (λ view k b h. h)
+  piped_holds (pipe.MappingPipe reading writing) stands = no_step (step.Piped (pipe.MappingPipe reading writing)) stands (λ view k b h. h)
+  piped_holds (pipe.UndoingWriting reading writing error) stands = no_step (step.Piped (pipe.UndoingWriting reading writing error)) stands (λ view k b h. h)
+  piped_holds (pipe.UndoingReading reading error) stands = no_step (step.Piped (pipe.UndoingReading reading error)) stands (λ view k b h. h)
+  piped_holds pipe.SourcePipe stands = no_step (step.Piped pipe.SourcePipe) stands (λ view k b h. h)
+  piped_holds pipe.MappingEnd stands = no_step (step.Piped pipe.MappingEnd) stands (λ view k b h. h)
+  piped_holds pipe.EndMode stands = no_step (step.Piped pipe.EndMode) stands (λ view k b h. h)
+  piped_holds pipe.TakingBytes stands = no_step (step.Piped pipe.TakingBytes) stands (λ view k b h. h)
+  piped_holds (pipe.Locking done id runs) stands = no_step (step.Piped (pipe.Locking done id runs)) stands (λ view k b h. h)
+  piped_holds (pipe.LockPausing done) stands = no_step (step.Piped (pipe.LockPausing done)) stands (λ view k b h. h)
+  piped_holds (pipe.ReadFrom done id runs) stands = no_step (step.Piped (pipe.ReadFrom done id runs)) stands (λ view k b h. h)
+  piped_holds (pipe.ReadTo done id runs from) stands = no_step (step.Piped (pipe.ReadTo done id runs from)) stands (λ view k b h. h)
+  piped_holds (pipe.LoadingHeld done from) stands = no_step (step.Piped (pipe.LoadingHeld done from)) stands (λ view k b h. h)
+  piped_holds (pipe.KeepingHeld done from byte) stands = no_step (step.Piped (pipe.KeepingHeld done from byte)) stands (λ view k b h. h)
+  piped_holds (pipe.TakingHeld done from) stands = no_step (step.Piped (pipe.TakingHeld done from)) stands (λ view k b h. h)
+  piped_holds (pipe.LoadingOwn done to) stands = no_step (step.Piped (pipe.LoadingOwn done to)) stands (λ view k b h. h)
+  piped_holds (pipe.PuttingOwn done to byte) stands = no_step (step.Piped (pipe.PuttingOwn done to byte)) stands (λ view k b h. h)
+  piped_holds (pipe.Putting done to) stands = no_step (step.Piped (pipe.Putting done to)) stands (λ view k b h. h)
+  piped_holds (pipe.UnlockingMoved done) stands = no_step (step.Piped (pipe.UnlockingMoved done)) stands (λ view k b h. h)
+  piped_holds (pipe.UnlockingEnd done) stands = no_step (step.Piped (pipe.UnlockingEnd done)) stands (λ view k b h. h)
+  piped_holds (pipe.UnlockingTest done id runs) stands = no_step (step.Piped (pipe.UnlockingTest done id runs)) stands (λ view k b h. h)
+  piped_holds (pipe.TestIdentifying done) stands = no_step (step.Piped (pipe.TestIdentifying done)) stands (λ view k b h. h)
+  piped_holds (pipe.TestRuns done id) stands = no_step (step.Piped (pipe.TestRuns done id)) stands (λ view k b h. h)
+  piped_holds (pipe.TestAgain done id runs) stands = no_step (step.Piped (pipe.TestAgain done id runs)) stands (λ view k b h. h)
+  piped_holds (pipe.TestFrom done id runs) stands = no_step (step.Piped (pipe.TestFrom done id runs)) stands (λ view k b h. h)
+  piped_holds (pipe.TestTo done id runs from) stands = no_step (step.Piped (pipe.TestTo done id runs from)) stands (λ view k b h. h)
+  piped_holds (pipe.TestDescriptor done id runs) stands = no_step (step.Piped (pipe.TestDescriptor done id runs)) stands (λ view k b h. h)
+  piped_holds (pipe.TestDescriptorCount done id runs word) stands = no_step (step.Piped (pipe.TestDescriptorCount done id runs word)) stands (λ view k b h. h)
+  piped_holds (pipe.TestPipe done id runs count) stands = no_step (step.Piped (pipe.TestPipe done id runs count)) stands (λ view k b h. h)
+  piped_holds (pipe.TestPipeCount done id runs count word) stands = no_step (step.Piped (pipe.TestPipeCount done id runs count word)) stands (λ view k b h. h)
+  piped_holds (pipe.TestRunsAgain done id runs closed) stands = no_step (step.Piped (pipe.TestRunsAgain done id runs closed)) stands (λ view k b h. h)
+  piped_holds (pipe.TestPausing done) stands = no_step (step.Piped (pipe.TestPausing done)) stands (λ view k b h. h)
+  piped_holds pipe.StatLocking stands = no_step (step.Piped pipe.StatLocking) stands (λ view k b h. h)
+  piped_holds pipe.StatPausing stands = no_step (step.Piped pipe.StatPausing) stands (λ view k b h. h)
+  piped_holds pipe.StatFrom stands = no_step (step.Piped pipe.StatFrom) stands (λ view k b h. h)
+  piped_holds (pipe.StatTo from) stands = no_step (step.Piped (pipe.StatTo from)) stands (λ view k b h. h)
+  piped_holds (pipe.StatUnlocking held) stands = no_step (step.Piped (pipe.StatUnlocking held)) stands (λ view k b h. h)
+
   pub close_holds : (at : Step) → place_of (slot_at s n) ≡ place.InService (service.Close fd) at →
       ServiceHolds s n (or_nowhere closing (close_at fd at))
   close_holds step.Entered stands = entered_holds stands (nat_lt fd DESCRIPTORS) refl
@@ -124,6 +204,7 @@ module _ (s : KernelState) (n fd : ℕ) (live : is_live (slot_at s n) ≡ true) 
       (0 ∷ descriptor_va fd ∷ 0 ∷ 0 ∷ 0 ∷ []) refl refl (drop_lives s n fd live)
       (subst (λ (z : CallStep Called). IsInOrder z.state → KeepsBy s n (plan stage.Dropping) z) (sym (drop_is s n fd live))
       (dropping_keeps s n fd at stands))
+  close_holds (step.Piped at) stands = piped_holds at stands
   close_holds (step.Trying perm) stands = no_step (step.Trying perm) stands (λ view k b h. h)
   close_holds (step.Pausing perm) stands = no_step (step.Pausing perm) stands (λ view k b h. h)
   close_holds step.ReadingRegion stands = no_step step.ReadingRegion stands (λ view k b h. h)
@@ -189,4 +270,4 @@ module _ (s : KernelState) (n fd : ℕ) (live : is_live (slot_at s n) ≡ true) 
       no_step (step.PuttingBytes done count word) stands (λ view k b h. let contradiction : false ≡ true = h.has.hands in cc)
   close_holds (step.FileFaulting done count) stands =
       no_step (step.FileFaulting done count) stands (λ view k b h. let contradiction : false ≡ true = h.0.hands in cc)
-  close_holds (step.Returning answer) stands = no_step (step.Returning answer) stands (λ view k b h. let contradiction : false ≡ true = h.hands in cc)
+  close_holds (step.Returning answer) stands = no_step (step.Returning answer) stands (λ view k b h. let contradiction : false ≡ true = h.goes in cc)

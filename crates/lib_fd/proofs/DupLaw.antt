@@ -1,19 +1,78 @@
 -- The law of dup: its answers are seen, and that the new descriptor is dropped where it is open; all between is hidden.
 use Rattle.std.proofs.Common.{◌≡◌, ℕ, false, true, refl}
-use Rattle.jos_base.specs.Environments.{is_live}
+use Rattle.jos_base.specs.Environments.{Slot, is_live}
 use Rattle.jos_base.specs.KernelState.{KernelState, slot_at}
+use Rattle.lib_os.specs.declared.place.PipeStep.{PipeStep}
+use Rattle.lib_os.specs.declared.place.PipeStep.TheVariants as pipe
 use Rattle.lib_os.specs.declared.place.Place.TheVariants as place
 use Rattle.lib_os.specs.declared.place.Step.{Step}
 use Rattle.lib_os.specs.declared.place.Step.TheVariants as step
 use Rattle.lib_os.specs.declared.service.Service.TheVariants as service
+use Rattle.lib_os.specs.AbstractState.{Born}
+use Rattle.lib_os.specs.LibraryPages.{View}
 use Rattle.lib_os.specs.Places.{place_of}
-use Rattle.lib_stage.specs.ServiceSteps.{or_nowhere, ServiceHolds}
+use Rattle.lib_os.specs.StandsFor.{StandsAtStep}
+use Rattle.lib_stage.specs.ServiceSteps.{or_nowhere, ServiceHolds, nowhere}
 use Rattle.lib_stage.proofs.Laws.{law_of_nowhere}
 use Rattle.lib_fd.specs.DescriptorStages.{dup_at, duplicating}
-use Rattle.lib_fd.proofs.DupChanges.{dropping_holds, mapping_holds}
-use Rattle.lib_fd.proofs.DupReads.{entered_holds, new_entry_holds, old_entry_holds}
+use Rattle.lib_fd.proofs.DupChanges.{dropping_end_holds, dropping_holds, dropping_pipe_holds, mapping_end_holds, mapping_holds}
+use Rattle.lib_fd.proofs.DupReads.{entered_holds, new_entry_holds, new_pipe_holds, old_entry_holds, old_pipe_holds}
 
 module _ (s : KernelState) (n old new : ℕ) (live : is_live (slot_at s n) ≡ true) where
+  -- one on a pipe that it has not
+  no_pipe : (at : PipeStep) → place_of (slot_at s n) ≡ place.InService (service.Dup old new) (step.Piped at) →
+      ((view : View) (k : Slot) (b : Born) → StandsAtStep view k b (service.Dup old new) (step.Piped at) → ⊥) → ServiceHolds s n nowhere
+  no_pipe at stands none = law_of_nowhere s n (service.Dup old new) (step.Piped at) stands refl none
+
+  piped_holds : (at : PipeStep) → place_of (slot_at s n) ≡ place.InService (service.Dup old new) (step.Piped at) →
+      ServiceHolds s n (or_nowhere duplicating (dup_at old new (step.Piped at)))
+  piped_holds (pipe.PipeEntry fd) stands = new_pipe_holds s n old new live fd stands
+  piped_holds (pipe.DroppingEnd fd) stands = dropping_end_holds s n old new live fd stands
+  piped_holds (pipe.DroppingPipe fd) stands = dropping_pipe_holds s n old new live fd stands
+  piped_holds pipe.SourcePipe stands = old_pipe_holds s n old new live stands
+  piped_holds pipe.MappingEnd stands = mapping_end_holds s n old new live stands
+  piped_holds (pipe.SecondEntry reading fd) stands = no_pipe (pipe.SecondEntry reading fd) stands (λ view k b h. h)
+  piped_holds (pipe.TakingReading reading writing) stands = no_pipe (pipe.TakingReading reading writing) stands (λ view k b h. h)
+  piped_holds (pipe.StoringReading reading writing) stands = no_pipe (pipe.StoringReading reading writing) stands (λ view k b h. h)
+  piped_holds (pipe.TakingWriting reading writing) stands = no_pipe (pipe.TakingWriting reading writing) stands (λ view k b h. h)
+  piped_holds (pipe.StoringWriting reading writing) stands = no_pipe (pipe.StoringWriting reading writing) stands (λ view k b h. h)
+  piped_holds (pipe.StoringEndMode reading writing) stands = no_pipe (pipe.StoringEndMode reading writing) stands (λ view k b h. h)
+  piped_holds (pipe.TakingPipe reading writing) stands = no_pipe (pipe.TakingPipe reading writing) stands (λ view k b h. h)
+  piped_holds (pipe.MappingPipe reading writing) stands = no_pipe (pipe.MappingPipe reading writing) stands (λ view k b h. h)
+  piped_holds (pipe.UndoingWriting reading writing error) stands = no_pipe (pipe.UndoingWriting reading writing error) stands (λ view k b h. h)
+  piped_holds (pipe.UndoingReading reading error) stands = no_pipe (pipe.UndoingReading reading error) stands (λ view k b h. h)
+  piped_holds pipe.EndMode stands = no_pipe pipe.EndMode stands (λ view k b h. h)
+  piped_holds pipe.TakingBytes stands = no_pipe pipe.TakingBytes stands (λ view k b h. h)
+  piped_holds (pipe.Locking done id runs) stands = no_pipe (pipe.Locking done id runs) stands (λ view k b h. h)
+  piped_holds (pipe.LockPausing done) stands = no_pipe (pipe.LockPausing done) stands (λ view k b h. h)
+  piped_holds (pipe.ReadFrom done id runs) stands = no_pipe (pipe.ReadFrom done id runs) stands (λ view k b h. h)
+  piped_holds (pipe.ReadTo done id runs from) stands = no_pipe (pipe.ReadTo done id runs from) stands (λ view k b h. h)
+  piped_holds (pipe.LoadingHeld done from) stands = no_pipe (pipe.LoadingHeld done from) stands (λ view k b h. h)
+  piped_holds (pipe.KeepingHeld done from byte) stands = no_pipe (pipe.KeepingHeld done from byte) stands (λ view k b h. h)
+  piped_holds (pipe.TakingHeld done from) stands = no_pipe (pipe.TakingHeld done from) stands (λ view k b h. h)
+  piped_holds (pipe.LoadingOwn done to) stands = no_pipe (pipe.LoadingOwn done to) stands (λ view k b h. h)
+  piped_holds (pipe.PuttingOwn done to byte) stands = no_pipe (pipe.PuttingOwn done to byte) stands (λ view k b h. h)
+  piped_holds (pipe.Putting done to) stands = no_pipe (pipe.Putting done to) stands (λ view k b h. h)
+  piped_holds (pipe.UnlockingMoved done) stands = no_pipe (pipe.UnlockingMoved done) stands (λ view k b h. h)
+  piped_holds (pipe.UnlockingEnd done) stands = no_pipe (pipe.UnlockingEnd done) stands (λ view k b h. h)
+  piped_holds (pipe.UnlockingTest done id runs) stands = no_pipe (pipe.UnlockingTest done id runs) stands (λ view k b h. h)
+  piped_holds (pipe.TestIdentifying done) stands = no_pipe (pipe.TestIdentifying done) stands (λ view k b h. h)
+  piped_holds (pipe.TestRuns done id) stands = no_pipe (pipe.TestRuns done id) stands (λ view k b h. h)
+  piped_holds (pipe.TestAgain done id runs) stands = no_pipe (pipe.TestAgain done id runs) stands (λ view k b h. h)
+  piped_holds (pipe.TestFrom done id runs) stands = no_pipe (pipe.TestFrom done id runs) stands (λ view k b h. h)
+  piped_holds (pipe.TestTo done id runs from) stands = no_pipe (pipe.TestTo done id runs from) stands (λ view k b h. h)
+  piped_holds (pipe.TestDescriptor done id runs) stands = no_pipe (pipe.TestDescriptor done id runs) stands (λ view k b h. h)
+  piped_holds (pipe.TestDescriptorCount done id runs entry) stands = no_pipe (pipe.TestDescriptorCount done id runs entry) stands (λ view k b h. h)
+  piped_holds (pipe.TestPipe done id runs count) stands = no_pipe (pipe.TestPipe done id runs count) stands (λ view k b h. h)
+  piped_holds (pipe.TestPipeCount done id runs count entry) stands = no_pipe (pipe.TestPipeCount done id runs count entry) stands (λ view k b h. h)
+  piped_holds (pipe.TestRunsAgain done id runs closed) stands = no_pipe (pipe.TestRunsAgain done id runs closed) stands (λ view k b h. h)
+  piped_holds (pipe.TestPausing done) stands = no_pipe (pipe.TestPausing done) stands (λ view k b h. h)
+  piped_holds pipe.StatLocking stands = no_pipe pipe.StatLocking stands (λ view k b h. h)
+  piped_holds pipe.StatPausing stands = no_pipe pipe.StatPausing stands (λ view k b h. h)
+  piped_holds pipe.StatFrom stands = no_pipe pipe.StatFrom stands (λ view k b h. h)
+  piped_holds (pipe.StatTo from) stands = no_pipe (pipe.StatTo from) stands (λ view k b h. h)
+  piped_holds (pipe.StatUnlocking held) stands = no_pipe (pipe.StatUnlocking held) stands (λ view k b h. h)
+
   pub dup_holds : (at : Step) → place_of (slot_at s n) ≡ place.InService (service.Dup old new) at →
       ServiceHolds s n (or_nowhere duplicating (dup_at old new at))
   dup_holds step.Entered stands = entered_holds s n old new live stands
@@ -21,6 +80,7 @@ module _ (s : KernelState) (n old new : ℕ) (live : is_live (slot_at s n) ≡ t
   dup_holds step.TargetEntry stands = new_entry_holds s n old new live stands
   dup_holds (step.DroppingDescriptor fd) stands = dropping_holds s n old new live fd stands
   dup_holds step.MappingDescriptor stands = mapping_holds s n old new live stands
+  dup_holds (step.Piped at) stands = piped_holds at stands
   dup_holds step.ReadingRegion stands = law_of_nowhere s n (service.Dup old new) step.ReadingRegion stands refl (λ view k b h. h)
   dup_holds step.ReadingEntry stands = law_of_nowhere s n (service.Dup old new) step.ReadingEntry stands refl (λ view k b h. h)
   dup_holds (step.Trying perm) stands = law_of_nowhere s n (service.Dup old new) (step.Trying perm) stands refl (λ view k b h. h)
@@ -77,4 +137,4 @@ module _ (s : KernelState) (n old new : ℕ) (live : is_live (slot_at s n) ≡ t
   dup_holds (step.LoadingRest done count first) stands = law_of_nowhere s n (service.Dup old new) (step.LoadingRest done count first) stands refl (λ view k b h. let contradiction : false ≡ true = h.has.hands in cc)
   dup_holds (step.PuttingBytes done count word) stands = law_of_nowhere s n (service.Dup old new) (step.PuttingBytes done count word) stands refl (λ view k b h. let contradiction : false ≡ true = h.has.hands in cc)
   dup_holds (step.FileFaulting done count) stands = law_of_nowhere s n (service.Dup old new) (step.FileFaulting done count) stands refl (λ view k b h. let contradiction : false ≡ true = h.0.hands in cc)
-  dup_holds (step.Returning answer) stands = law_of_nowhere s n (service.Dup old new) (step.Returning answer) stands refl (λ view k b h. let contradiction : false ≡ true = h.hands in cc)
+  dup_holds (step.Returning answer) stands = law_of_nowhere s n (service.Dup old new) (step.Returning answer) stands refl (λ view k b h. let contradiction : false ≡ true = h.goes in cc)

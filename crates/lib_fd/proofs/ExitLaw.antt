@@ -4,29 +4,35 @@ use Rattle.std.specs.Prelude.{nat_lt}
 use Rattle.std.proofs.lemmas.Bool.Decides.{nat_tests}
 use Rattle.jos_base.specs.declared.called.Called.{Called}
 use Rattle.jos_base.specs.declared.numbers.TheConstants.{SYS_ENV_DESTROY, SYS_PAGE_UNMAP}
-use Rattle.jos_base.specs.Environments.{is_live}
+use Rattle.jos_base.specs.Environments.{Slot, is_live}
 use Rattle.jos_base.specs.KernelState.{KernelState, slot_at}
 use Rattle.lib_os.specs.declared.numbers.TheConstants.{DESCRIPTORS, SERVICE_EXIT}
+use Rattle.lib_os.specs.declared.place.PipeStep.{PipeStep}
+use Rattle.lib_os.specs.declared.place.PipeStep.TheVariants as pipe
 use Rattle.lib_os.specs.declared.place.Place.TheVariants as place
 use Rattle.lib_os.specs.declared.place.Step.{Step}
 use Rattle.lib_os.specs.declared.place.Step.TheVariants as step
 use Rattle.lib_os.specs.declared.service.Service.TheVariants as service
 use Rattle.lib_os.specs.InOrder.{IsInOrder}
 use Rattle.lib_os.specs.LibrarySteps.{frames_at}
+use Rattle.lib_os.specs.AbstractState.{Born}
+use Rattle.lib_os.specs.LibraryPages.{View}
 use Rattle.lib_os.specs.Places.{place_of}
+use Rattle.lib_os.specs.StandsFor.{StandsAtStep}
 use Rattle.lib_os.specs.UserCalls.{CallStep, answer_of}
 use Rattle.lib_os.proofs.Calls.{env_destroy_is}
 use Rattle.lib_os.proofs.DescriptorLooks.{descriptor_va, entry_va, page_gives, page_word, table_gives, table_va, table_word}
-use Rattle.lib_os.proofs.DescriptorsStand.{drop_lives}
+use Rattle.lib_os.proofs.DescriptorsStand.{drop_is, drop_lives}
+use Rattle.lib_os.proofs.EndsDropped.{pipe_drop_lives, pipe_entry_va, pipe_gives, pipe_va, pipe_word}
 use Rattle.lib_os.proofs.Serving.{served}
 use Rattle.lib_stage.specs.declared.ask.Next.TheVariants as next
 use Rattle.lib_stage.specs.Asks.{frames_of, no_args}
-use Rattle.lib_stage.specs.ServiceSteps.{Plan, or_nowhere, ServiceHolds}
+use Rattle.lib_stage.specs.ServiceSteps.{Plan, or_nowhere, ServiceHolds, nowhere}
 use Rattle.lib_stage.proofs.Laws.{Falls, IsAt, KeepsBy, is_plain, law_of_call, law_of_end, law_of_load, law_of_nowhere, plainly, shown_keeps}
 use Rattle.lib_fd.specs.declared.exit.ExitStage.{ExitStage}
 use Rattle.lib_fd.specs.declared.exit.ExitStage.TheVariants as exit
 use Rattle.lib_fd.specs.DescriptorStages.{behind, descriptor_of, exit_at, exit_next, exiting, is_there}
-use Rattle.lib_fd.proofs.Exits.{dropping_keeps, ending_keeps, entered_follows, entry_follows}
+use Rattle.lib_fd.proofs.Exits.{dropping_keeps, end_keeps, ending_keeps, entered_follows, entry_follows, pipe_entry_follows, pipe_keeps}
 
 -- the step that a stage is kept as
 abbrev step_of : ExitStage → Step
@@ -34,6 +40,9 @@ step_of exit.Entered = step.Entered
 step_of (exit.Entry fd) = step.DescriptorEntry fd
 step_of (exit.Dropping fd) = step.DroppingDescriptor fd
 step_of exit.Ending = step.Ending
+step_of (exit.PipeEntry fd) = step.Piped (pipe.PipeEntry fd)
+step_of (exit.DroppingEnd fd) = step.Piped (pipe.DroppingEnd fd)
+step_of (exit.DroppingPipe fd) = step.Piped (pipe.DroppingPipe fd)
 
 -- it looks at one descriptor behind the other
 behind_falls : (fd : ℕ) → Falls service.Exit (step.DescriptorEntry fd) (next.GoOn (behind fd))
@@ -53,11 +62,19 @@ falls exit.Entered word = by_test (is_there word)
 falls (exit.Entry fd) word = by_test (is_there word)
   where
     by_test : (c : Bool) →
-        Falls service.Exit (step.DescriptorEntry fd) (if not c then next.GoOn (behind fd) else next.GoOn (step.DroppingDescriptor fd))
+        Falls service.Exit (step.DescriptorEntry fd) (if not c then next.GoOn (behind fd) else next.GoOn (step.Piped (pipe.PipeEntry fd)))
     by_test true = omega arith
     by_test false = behind_falls fd
 falls (exit.Dropping fd) word = tt
 falls exit.Ending word = tt
+falls (exit.PipeEntry fd) word = by_test (is_there word)
+  where
+    by_test : (c : Bool) → Falls service.Exit (step.Piped (pipe.PipeEntry fd))
+        (next.GoOn (if c then step.Piped (pipe.DroppingEnd fd) else step.DroppingDescriptor fd))
+    by_test true = omega arith
+    by_test false = omega arith
+falls (exit.DroppingEnd fd) word = omega arith
+falls (exit.DroppingPipe fd) word = tt
 
 abbrev plan : ExitStage → Plan
 plan at = exiting (record { at = at })
@@ -67,6 +84,9 @@ few exit.Entered = omega arith
 few (exit.Entry fd) = omega arith
 few (exit.Dropping fd) = omega arith
 few exit.Ending = omega arith
+few (exit.PipeEntry fd) = omega arith
+few (exit.DroppingEnd fd) = omega arith
+few (exit.DroppingPipe fd) = omega arith
 
 module _ (s : KernelState) (n : ℕ) (live : is_live (slot_at s n) ≡ true) where
   here : (at : ExitStage) → place_of (slot_at s n) ≡ place.InService service.Exit (step_of at) → is_plain (plan at).asks ≡ true →
@@ -81,6 +101,75 @@ module _ (s : KernelState) (n : ℕ) (live : is_live (slot_at s n) ≡ true) whe
         falls = λ called. falls at (answer_of called);
         few = few at;
       }
+
+  -- one on a pipe that it has not
+  no_pipe : (at : PipeStep) → place_of (slot_at s n) ≡ place.InService service.Exit (step.Piped at) →
+      ((view : View) (k : Slot) (b : Born) → StandsAtStep view k b service.Exit (step.Piped at) → ⊥) → ServiceHolds s n nowhere
+  no_pipe at stands none = law_of_nowhere s n service.Exit (step.Piped at) stands refl none
+
+  piped_holds : (at : PipeStep) → place_of (slot_at s n) ≡ place.InService service.Exit (step.Piped at) →
+      ServiceHolds s n (or_nowhere exiting (exit_at (step.Piped at)))
+  piped_holds (pipe.PipeEntry fd) stands =
+      law_of_load s n (plan (exit.PipeEntry fd)) service.Exit (step.Piped (pipe.PipeEntry fd)) (here (exit.PipeEntry fd) stands refl)
+      (pipe_entry_va fd) refl
+      (λ names a h. let v = served h n service.Exit (step.Piped (pipe.PipeEntry fd)) stands in (
+        record { word = pipe_word s n fd; is = pipe_gives h n fd v.at.0.below v.at.0.table },
+        pipe_entry_follows s n fd stands names a h,
+      ))
+  piped_holds (pipe.DroppingEnd fd) stands =
+      law_of_call s n (plan (exit.DroppingEnd fd)) service.Exit (step.Piped (pipe.DroppingEnd fd)) (here (exit.DroppingEnd fd) stands refl)
+      SYS_PAGE_UNMAP (0 ∷ descriptor_va fd ∷ 0 ∷ 0 ∷ 0 ∷ []) refl refl (drop_lives s n fd live)
+      (subst (λ (z : CallStep Called). IsInOrder z.state → KeepsBy s n (plan (exit.DroppingEnd fd)) z) (sym (drop_is s n fd live))
+      (end_keeps s n fd stands))
+  piped_holds (pipe.DroppingPipe fd) stands =
+      let args = 0 ∷ pipe_va fd ∷ 0 ∷ 0 ∷ 0 ∷ [] in
+      law_of_call s n (plan (exit.DroppingPipe fd)) service.Exit (step.Piped (pipe.DroppingPipe fd)) (here (exit.DroppingPipe fd) stands refl)
+      SYS_PAGE_UNMAP args refl refl (pipe_drop_lives s n fd live)
+      (λ order. shown_keeps s n SYS_PAGE_UNMAP args (plan (exit.DroppingPipe fd)) (behind fd) (pipe_drop_lives s n fd live) (λ called. refl)
+      (pipe_keeps s n fd stands live order))
+  piped_holds (pipe.SecondEntry reading fd) stands = no_pipe (pipe.SecondEntry reading fd) stands (λ view k b h. h)
+  piped_holds (pipe.TakingReading reading writing) stands = no_pipe (pipe.TakingReading reading writing) stands (λ view k b h. h)
+  piped_holds (pipe.StoringReading reading writing) stands = no_pipe (pipe.StoringReading reading writing) stands (λ view k b h. h)
+  piped_holds (pipe.TakingWriting reading writing) stands = no_pipe (pipe.TakingWriting reading writing) stands (λ view k b h. h)
+  piped_holds (pipe.StoringWriting reading writing) stands = no_pipe (pipe.StoringWriting reading writing) stands (λ view k b h. h)
+  piped_holds (pipe.StoringEndMode reading writing) stands = no_pipe (pipe.StoringEndMode reading writing) stands (λ view k b h. h)
+  piped_holds (pipe.TakingPipe reading writing) stands = no_pipe (pipe.TakingPipe reading writing) stands (λ view k b h. h)
+  piped_holds (pipe.MappingPipe reading writing) stands = no_pipe (pipe.MappingPipe reading writing) stands (λ view k b h. h)
+  piped_holds (pipe.UndoingWriting reading writing error) stands = no_pipe (pipe.UndoingWriting reading writing error) stands (λ view k b h. h)
+  piped_holds (pipe.UndoingReading reading error) stands = no_pipe (pipe.UndoingReading reading error) stands (λ view k b h. h)
+  piped_holds pipe.SourcePipe stands = no_pipe pipe.SourcePipe stands (λ view k b h. h)
+  piped_holds pipe.MappingEnd stands = no_pipe pipe.MappingEnd stands (λ view k b h. h)
+  piped_holds pipe.EndMode stands = no_pipe pipe.EndMode stands (λ view k b h. h)
+  piped_holds pipe.TakingBytes stands = no_pipe pipe.TakingBytes stands (λ view k b h. h)
+  piped_holds (pipe.Locking done id runs) stands = no_pipe (pipe.Locking done id runs) stands (λ view k b h. h)
+  piped_holds (pipe.LockPausing done) stands = no_pipe (pipe.LockPausing done) stands (λ view k b h. h)
+  piped_holds (pipe.ReadFrom done id runs) stands = no_pipe (pipe.ReadFrom done id runs) stands (λ view k b h. h)
+  piped_holds (pipe.ReadTo done id runs from) stands = no_pipe (pipe.ReadTo done id runs from) stands (λ view k b h. h)
+  piped_holds (pipe.LoadingHeld done from) stands = no_pipe (pipe.LoadingHeld done from) stands (λ view k b h. h)
+  piped_holds (pipe.KeepingHeld done from byte) stands = no_pipe (pipe.KeepingHeld done from byte) stands (λ view k b h. h)
+  piped_holds (pipe.TakingHeld done from) stands = no_pipe (pipe.TakingHeld done from) stands (λ view k b h. h)
+  piped_holds (pipe.LoadingOwn done to) stands = no_pipe (pipe.LoadingOwn done to) stands (λ view k b h. h)
+  piped_holds (pipe.PuttingOwn done to byte) stands = no_pipe (pipe.PuttingOwn done to byte) stands (λ view k b h. h)
+  piped_holds (pipe.Putting done to) stands = no_pipe (pipe.Putting done to) stands (λ view k b h. h)
+  piped_holds (pipe.UnlockingMoved done) stands = no_pipe (pipe.UnlockingMoved done) stands (λ view k b h. h)
+  piped_holds (pipe.UnlockingEnd done) stands = no_pipe (pipe.UnlockingEnd done) stands (λ view k b h. h)
+  piped_holds (pipe.UnlockingTest done id runs) stands = no_pipe (pipe.UnlockingTest done id runs) stands (λ view k b h. h)
+  piped_holds (pipe.TestIdentifying done) stands = no_pipe (pipe.TestIdentifying done) stands (λ view k b h. h)
+  piped_holds (pipe.TestRuns done id) stands = no_pipe (pipe.TestRuns done id) stands (λ view k b h. h)
+  piped_holds (pipe.TestAgain done id runs) stands = no_pipe (pipe.TestAgain done id runs) stands (λ view k b h. h)
+  piped_holds (pipe.TestFrom done id runs) stands = no_pipe (pipe.TestFrom done id runs) stands (λ view k b h. h)
+  piped_holds (pipe.TestTo done id runs from) stands = no_pipe (pipe.TestTo done id runs from) stands (λ view k b h. h)
+  piped_holds (pipe.TestDescriptor done id runs) stands = no_pipe (pipe.TestDescriptor done id runs) stands (λ view k b h. h)
+  piped_holds (pipe.TestDescriptorCount done id runs entry) stands = no_pipe (pipe.TestDescriptorCount done id runs entry) stands (λ view k b h. h)
+  piped_holds (pipe.TestPipe done id runs count) stands = no_pipe (pipe.TestPipe done id runs count) stands (λ view k b h. h)
+  piped_holds (pipe.TestPipeCount done id runs count entry) stands = no_pipe (pipe.TestPipeCount done id runs count entry) stands (λ view k b h. h)
+  piped_holds (pipe.TestRunsAgain done id runs closed) stands = no_pipe (pipe.TestRunsAgain done id runs closed) stands (λ view k b h. h)
+  piped_holds (pipe.TestPausing done) stands = no_pipe (pipe.TestPausing done) stands (λ view k b h. h)
+  piped_holds pipe.StatLocking stands = no_pipe pipe.StatLocking stands (λ view k b h. h)
+  piped_holds pipe.StatPausing stands = no_pipe pipe.StatPausing stands (λ view k b h. h)
+  piped_holds pipe.StatFrom stands = no_pipe pipe.StatFrom stands (λ view k b h. h)
+  piped_holds (pipe.StatTo from) stands = no_pipe (pipe.StatTo from) stands (λ view k b h. h)
+  piped_holds (pipe.StatUnlocking held) stands = no_pipe (pipe.StatUnlocking held) stands (λ view k b h. h)
 
   pub exit_holds : (at : Step) → place_of (slot_at s n) ≡ place.InService service.Exit at → ServiceHolds s n (or_nowhere exiting (exit_at at))
   exit_holds step.Entered stands =
@@ -105,6 +194,7 @@ module _ (s : KernelState) (n : ℕ) (live : is_live (slot_at s n) ≡ true) whe
       law_of_end s n service.Exit step.Ending stands refl SERVICE_EXIT SYS_ENV_DESTROY no_args refl refl refl
       (subst (λ (z : CallStep Called). IsInOrder z.state → KeepsBy s n (plan exit.Ending) z) (sym (env_destroy_is s n live (0 ∷ 0 ∷ 0 ∷ 0 ∷ [])))
       (ending_keeps s n stands live))
+  exit_holds (step.Piped at) stands = piped_holds at stands
   exit_holds (step.Trying perm) stands = law_of_nowhere s n service.Exit (step.Trying perm) stands refl (λ view k b h. h)
   exit_holds (step.Pausing perm) stands = law_of_nowhere s n service.Exit (step.Pausing perm) stands refl (λ view k b h. h)
   exit_holds step.ReadingRegion stands = law_of_nowhere s n service.Exit step.ReadingRegion stands refl (λ view k b h. h)
@@ -163,4 +253,4 @@ module _ (s : KernelState) (n : ℕ) (live : is_live (slot_at s n) ≡ true) whe
   exit_holds (step.LoadingRest done count first) stands = law_of_nowhere s n service.Exit (step.LoadingRest done count first) stands refl (λ view k b h. let contradiction : false ≡ true = h.has.hands in cc)
   exit_holds (step.PuttingBytes done count word) stands = law_of_nowhere s n service.Exit (step.PuttingBytes done count word) stands refl (λ view k b h. let contradiction : false ≡ true = h.has.hands in cc)
   exit_holds (step.FileFaulting done count) stands = law_of_nowhere s n service.Exit (step.FileFaulting done count) stands refl (λ view k b h. let contradiction : false ≡ true = h.0.hands in cc)
-  exit_holds (step.Returning answer) stands = law_of_nowhere s n service.Exit (step.Returning answer) stands refl (λ view k b h. let contradiction : false ≡ true = h.hands in cc)
+  exit_holds (step.Returning answer) stands = law_of_nowhere s n service.Exit (step.Returning answer) stands refl (λ view k b h. let contradiction : false ≡ true = h.goes in cc)

@@ -1,3 +1,4 @@
+pub mod EndPages
 pub mod Closing
 pub mod CloseLaw
 pub mod Exits

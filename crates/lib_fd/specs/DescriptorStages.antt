@@ -6,6 +6,7 @@ use Rattle.jos_base.specs.declared.numbers.TheConstants.{E_INVAL, FDTABLE, PGSIZ
 use Rattle.jos_base.specs.declared.numbers.TheConstants.{SYS_ENV_DESTROY, SYS_GETENVID, SYS_PAGE_MAP, SYS_PAGE_UNMAP}
 use Rattle.jos_base.specs.Words.{negated}
 use Rattle.lib_os.specs.declared.numbers.TheConstants.{DESCRIPTORS, SERVICE_CLOSE, SERVICE_DUP, SERVICE_EXIT, UVPD}
+use Rattle.lib_os.specs.declared.place.PipeStep.TheVariants as pipe
 use Rattle.lib_os.specs.declared.place.Step.{Step}
 use Rattle.lib_os.specs.declared.place.Step.TheVariants as step
 use Rattle.lib_os.specs.LibraryPages.{region_index}
@@ -36,6 +37,10 @@ descriptor_of fd = fd % DESCRIPTORS
 abbrev pub descriptor_va : ℕ → ℕ
 descriptor_va fd = FDTABLE + PGSIZE * descriptor_of fd
 
+-- and the pipe's page, where it names an end of one
+abbrev pub pipe_va : ℕ → ℕ
+pipe_va fd = FDTABLE + PGSIZE * (DESCRIPTORS + descriptor_of fd)
+
 -- whether the region of the pages has a table
 abbrev pub region_asked : Ask
 region_asked = ask.Load (UVPD + 4 * region_index FDTABLE)
@@ -48,15 +53,31 @@ region_asked_for fd = if nat_lt fd DESCRIPTORS then region_asked else ask.System
 abbrev pub entry_asked : ℕ → Ask
 entry_asked fd = ask.Load (UVPT + 4 * descriptor_page (descriptor_of fd))
 
+-- and where its pipe's page is
+abbrev pub pipe_entry_asked : ℕ → Ask
+pipe_entry_asked fd = ask.Load (UVPT + 4 * descriptor_page (DESCRIPTORS + descriptor_of fd))
+
+-- the page at an address is unmapped
+abbrev pub drop_asked_at : ℕ → Ask
+drop_asked_at va = ask.System SYS_PAGE_UNMAP (0 ∷ va ∷ 0 ∷ 0 ∷ 0 ∷ [])
+
 abbrev pub drop_asked : ℕ → Ask
-drop_asked fd = ask.System SYS_PAGE_UNMAP (0 ∷ descriptor_va fd ∷ 0 ∷ 0 ∷ 0 ∷ [])
+drop_asked fd = drop_asked_at (descriptor_va fd)
+
+-- the page at an address is mapped at another one too
+abbrev pub map_asked_at : ℕ → ℕ → Ask
+map_asked_at old new = ask.System SYS_PAGE_MAP (0 ∷ old ∷ 0 ∷ new ∷ descriptor_perm ∷ [])
 
 abbrev pub map_asked : ℕ → ℕ → Ask
-map_asked old new = ask.System SYS_PAGE_MAP (0 ∷ descriptor_va old ∷ 0 ∷ descriptor_va new ∷ descriptor_perm ∷ [])
+map_asked old new = map_asked_at (descriptor_va old) (descriptor_va new)
 
 -- an entry's word says that a page, or a region's table, is there
 abbrev pub is_there : ℕ → Bool
 is_there word = bit_and word PTE_P == PTE_P
+
+-- A descriptor that is open is dropped: one that has a pipe's page loses its own first.
+abbrev pub dropping : ℕ → ℕ → Step
+dropping fd word = if is_there word then step.Piped (pipe.DroppingEnd fd) else step.DroppingDescriptor fd
 
 -- ---- exit
 
@@ -66,6 +87,9 @@ exit_stage step.Entered = Some exit.Entered
 exit_stage (step.DescriptorEntry fd) = Some (exit.Entry fd)
 exit_stage (step.DroppingDescriptor fd) = Some (exit.Dropping fd)
 exit_stage step.Ending = Some exit.Ending
+exit_stage (step.Piped (pipe.PipeEntry fd)) = Some (exit.PipeEntry fd)
+exit_stage (step.Piped (pipe.DroppingEnd fd)) = Some (exit.DroppingEnd fd)
+exit_stage (step.Piped (pipe.DroppingPipe fd)) = Some (exit.DroppingPipe fd)
 exit_stage _ = None
 
 abbrev pub exit_at : Step → Option Exit
@@ -74,7 +98,10 @@ exit_at step = option_map (λ at. record { at = at }) (exit_stage step)
 abbrev pub exit_asks : ExitStage → Ask
 exit_asks exit.Entered = region_asked
 exit_asks (exit.Entry fd) = entry_asked fd
+exit_asks (exit.PipeEntry fd) = pipe_entry_asked fd
 exit_asks (exit.Dropping fd) = drop_asked fd
+exit_asks (exit.DroppingEnd fd) = drop_asked fd
+exit_asks (exit.DroppingPipe fd) = drop_asked_at (pipe_va fd)
 exit_asks exit.Ending = ask.System SYS_ENV_DESTROY no_args
 
 -- behind a descriptor it looks at the next, and behind the last it ends the environment
@@ -83,8 +110,11 @@ behind fd = if nat_lt (descriptor_of fd + 1) DESCRIPTORS then step.DescriptorEnt
 
 abbrev pub exit_next : ExitStage → ℕ → Next
 exit_next exit.Entered word = if not (is_there word) then next.GoOn step.Ending else next.GoOn (step.DescriptorEntry 0)
-exit_next (exit.Entry fd) word = if not (is_there word) then next.GoOn (behind fd) else next.GoOn (step.DroppingDescriptor fd)
+exit_next (exit.Entry fd) word = if not (is_there word) then next.GoOn (behind fd) else next.GoOn (step.Piped (pipe.PipeEntry fd))
+exit_next (exit.PipeEntry fd) word = next.GoOn (dropping fd word)
 exit_next (exit.Dropping fd) word = next.Show (behind fd)
+exit_next (exit.DroppingEnd fd) word = next.GoOn (step.Piped (pipe.DroppingPipe fd))
+exit_next (exit.DroppingPipe fd) word = next.Show (behind fd)
 exit_next exit.Ending word = next.Gone
 
 abbrev pub exiting : Exit → Plan
@@ -96,6 +126,9 @@ abbrev pub close_stage : Step → Option CloseStage
 close_stage step.Entered = Some close.Entered
 close_stage (step.DescriptorEntry fd) = Some close.Entry
 close_stage (step.DroppingDescriptor fd) = Some close.Dropping
+close_stage (step.Piped (pipe.PipeEntry fd)) = Some close.PipeEntry
+close_stage (step.Piped (pipe.DroppingEnd fd)) = Some close.DroppingEnd
+close_stage (step.Piped (pipe.DroppingPipe fd)) = Some close.DroppingPipe
 close_stage _ = None
 
 abbrev pub close_at : ℕ → Step → Option Close
@@ -104,13 +137,19 @@ close_at fd step = option_map (λ at. record { fd = fd; at = at }) (close_stage 
 abbrev pub close_asks : ℕ → CloseStage → Ask
 close_asks fd close.Entered = region_asked_for fd
 close_asks fd close.Entry = entry_asked fd
+close_asks fd close.PipeEntry = pipe_entry_asked fd
 close_asks fd close.Dropping = drop_asked fd
+close_asks fd close.DroppingEnd = drop_asked fd
+close_asks fd close.DroppingPipe = drop_asked_at (pipe_va fd)
 
 abbrev pub close_next : ℕ → CloseStage → ℕ → Next
 close_next fd close.Entered word =
     if not (nat_lt fd DESCRIPTORS) || not (is_there word) then next.Answer (negated E_INVAL) else next.GoOn (step.DescriptorEntry fd)
-close_next fd close.Entry word = if not (is_there word) then next.Answer (negated E_INVAL) else next.GoOn (step.DroppingDescriptor fd)
+close_next fd close.Entry word = if not (is_there word) then next.Answer (negated E_INVAL) else next.GoOn (step.Piped (pipe.PipeEntry fd))
+close_next fd close.PipeEntry word = next.GoOn (dropping fd word)
 close_next fd close.Dropping word = next.Answer 0
+close_next fd close.DroppingEnd word = next.GoOn (step.Piped (pipe.DroppingPipe fd))
+close_next fd close.DroppingPipe word = next.Answer 0
 
 abbrev pub closing : Close → Plan
 closing it = record { number = SERVICE_CLOSE; asks = close_asks it.fd it.at; next = λ called. close_next it.fd it.at (answer_of called) }
@@ -123,6 +162,11 @@ dup_stage (step.DescriptorEntry fd) = Some dup.OldEntry
 dup_stage step.TargetEntry = Some dup.NewEntry
 dup_stage (step.DroppingDescriptor fd) = Some dup.Dropping
 dup_stage step.MappingDescriptor = Some dup.Mapping
+dup_stage (step.Piped (pipe.PipeEntry fd)) = Some dup.NewPipe
+dup_stage (step.Piped (pipe.DroppingEnd fd)) = Some dup.DroppingEnd
+dup_stage (step.Piped (pipe.DroppingPipe fd)) = Some dup.DroppingPipe
+dup_stage (step.Piped pipe.SourcePipe) = Some dup.OldPipe
+dup_stage (step.Piped pipe.MappingEnd) = Some dup.MappingEnd
 dup_stage _ = None
 
 abbrev pub dup_at : ℕ → ℕ → Step → Option Dup
@@ -132,7 +176,12 @@ abbrev pub dup_asks : ℕ → ℕ → DupStage → Ask
 dup_asks old new dup.Entered = region_asked_for old
 dup_asks old new dup.OldEntry = entry_asked old
 dup_asks old new dup.NewEntry = entry_asked new
+dup_asks old new dup.NewPipe = pipe_entry_asked new
 dup_asks old new dup.Dropping = drop_asked new
+dup_asks old new dup.DroppingEnd = drop_asked new
+dup_asks old new dup.DroppingPipe = drop_asked_at (pipe_va new)
+dup_asks old new dup.OldPipe = pipe_entry_asked old
+dup_asks old new dup.MappingEnd = map_asked_at (pipe_va old) (pipe_va new)
 dup_asks old new dup.Mapping = map_asked old new
 
 abbrev pub dup_next : ℕ → ℕ → DupStage → ℕ → Next
@@ -142,8 +191,14 @@ dup_next old new dup.OldEntry word =
     if not (is_there word) || not (nat_lt new DESCRIPTORS) then next.Answer (negated E_INVAL)
     else if old == new then next.Answer new
     else next.GoOn step.TargetEntry
-dup_next old new dup.NewEntry word = if is_there word then next.GoOn (step.DroppingDescriptor new) else next.GoOn step.MappingDescriptor
-dup_next old new dup.Dropping word = next.Show step.MappingDescriptor
+dup_next old new dup.NewEntry word =
+    if is_there word then next.GoOn (step.Piped (pipe.PipeEntry new)) else next.GoOn (step.Piped pipe.SourcePipe)
+dup_next old new dup.NewPipe word = next.GoOn (dropping new word)
+dup_next old new dup.Dropping word = next.Show (step.Piped pipe.SourcePipe)
+dup_next old new dup.DroppingEnd word = next.GoOn (step.Piped (pipe.DroppingPipe new))
+dup_next old new dup.DroppingPipe word = next.Show (step.Piped pipe.SourcePipe)
+dup_next old new dup.OldPipe word = if is_there word then next.GoOn (step.Piped pipe.MappingEnd) else next.GoOn step.MappingDescriptor
+dup_next old new dup.MappingEnd word = next.GoOn step.MappingDescriptor
 dup_next old new dup.Mapping word = if word == 0 then next.Answer new else next.Answer word
 
 abbrev pub duplicating : Dup → Plan

@@ -3,9 +3,12 @@
 ghost use Rattle.std.specs.Prelude.{◌≡◌};
 ghost use Rattle.lib_fd.specs.DescriptorStages as stages;
 
-use crate::pages::{DESCRIPTORS, ask_drop, ask_entry, ask_region_for, is_there};
+use crate::pages::{
+    DESCRIPTORS, ask_drop, ask_drop_at, ask_entry, ask_pipe_entry, ask_region_for, is_there,
+    pipe_va,
+};
 use jos_base::{Called, E_INVAL};
-use lib_os::{SERVICE_CLOSE, Step, answer_of};
+use lib_os::{PipeStep, SERVICE_CLOSE, Step, answer_of};
 use lib_stage::{Ask, Next, Planned};
 
 /// How far close is.
@@ -15,8 +18,14 @@ pub enum CloseStage {
     Entered,
     /// It is about to read the entry of the descriptor's page.
     Entry,
-    /// It is about to drop the descriptor.
+    /// The descriptor is open, and it is about to read whether it has a pipe's page.
+    PipeEntry,
+    /// It has none, and close is about to drop the descriptor.
     Dropping,
+    /// It has one, and close is about to drop the descriptor's page.
+    DroppingEnd,
+    /// It is about to drop the pipe's page.
+    DroppingPipe,
 }
 
 /// close(fd), at a stage.
@@ -35,10 +44,31 @@ impl Close {
             Step::Entered => CloseStage::Entered,
             Step::DescriptorEntry { .. } => CloseStage::Entry,
             Step::DroppingDescriptor { .. } => CloseStage::Dropping,
+            Step::Piped {
+                at: PipeStep::PipeEntry { .. },
+            } => CloseStage::PipeEntry,
+            Step::Piped {
+                at: PipeStep::DroppingEnd { .. },
+            } => CloseStage::DroppingEnd,
+            Step::Piped {
+                at: PipeStep::DroppingPipe { .. },
+            } => CloseStage::DroppingPipe,
             _ => return None,
         };
         Some(Close { fd, at })
     }
+}
+
+/// Where exit, close and dup go on to drop a descriptor, by whether it has a pipe's page.
+pub(crate) fn dropping(fd: u32, word: u32) -> Step
+    ensures { result ≡ stages.dropping fd word }
+{
+    if is_there(word) {
+        return Step::Piped {
+            at: PipeStep::DroppingEnd { fd },
+        };
+    }
+    Step::DroppingDescriptor { fd }
 }
 
 impl Planned for Close {
@@ -54,7 +84,9 @@ impl Planned for Close {
         match self.at {
             CloseStage::Entered => ask_region_for(self.fd),
             CloseStage::Entry => ask_entry(self.fd),
-            CloseStage::Dropping => ask_drop(self.fd),
+            CloseStage::PipeEntry => ask_pipe_entry(self.fd),
+            CloseStage::Dropping | CloseStage::DroppingEnd => ask_drop(self.fd),
+            CloseStage::DroppingPipe => ask_drop_at(pipe_va(self.fd)),
         }
     }
 
@@ -71,9 +103,15 @@ impl Planned for Close {
                 if !is_there(word) {
                     return Next::Answer(E_INVAL.wrapping_neg());
                 }
-                Next::GoOn(Step::DroppingDescriptor { fd: self.fd })
+                Next::GoOn(Step::Piped {
+                    at: PipeStep::PipeEntry { fd: self.fd },
+                })
             }
-            CloseStage::Dropping => Next::Answer(0),
+            CloseStage::PipeEntry => Next::GoOn(dropping(self.fd, word)),
+            CloseStage::DroppingEnd => Next::GoOn(Step::Piped {
+                at: PipeStep::DroppingPipe { fd: self.fd },
+            }),
+            CloseStage::Dropping | CloseStage::DroppingPipe => Next::Answer(0),
         }
     }
 }

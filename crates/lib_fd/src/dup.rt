@@ -3,9 +3,13 @@
 ghost use Rattle.std.specs.Prelude.{◌≡◌};
 ghost use Rattle.lib_fd.specs.DescriptorStages as stages;
 
-use crate::pages::{DESCRIPTORS, ask_drop, ask_entry, ask_map, ask_region_for, is_there};
+use crate::close::dropping;
+use crate::pages::{
+    DESCRIPTORS, ask_drop, ask_drop_at, ask_entry, ask_map, ask_map_at, ask_pipe_entry,
+    ask_region_for, is_there, pipe_va,
+};
 use jos_base::{Called, E_INVAL};
-use lib_os::{SERVICE_DUP, Step, answer_of};
+use lib_os::{PipeStep, SERVICE_DUP, Step, answer_of};
 use lib_stage::{Ask, Next, Planned};
 
 /// How far dup is.
@@ -17,8 +21,18 @@ pub enum DupStage {
     OldEntry,
     /// It is about to read the entry of the new descriptor's page.
     NewEntry,
-    /// The new descriptor is open, and it is about to drop it.
+    /// The new descriptor is open, and it is about to read whether it has a pipe's page.
+    NewPipe,
+    /// It has none, and dup is about to drop it.
     Dropping,
+    /// It has one, and dup is about to drop the new descriptor's page.
+    DroppingEnd,
+    /// It is about to drop the pipe's page that the new descriptor has.
+    DroppingPipe,
+    /// The new descriptor is free, and it is about to read whether the old one has a pipe's page.
+    OldPipe,
+    /// It has one, and dup is about to map that as the new one's.
+    MappingEnd,
     /// It is about to map the old descriptor's page as the new one's.
     Mapping,
 }
@@ -42,6 +56,21 @@ impl Dup {
             Step::TargetEntry => DupStage::NewEntry,
             Step::DroppingDescriptor { .. } => DupStage::Dropping,
             Step::MappingDescriptor => DupStage::Mapping,
+            Step::Piped {
+                at: PipeStep::PipeEntry { .. },
+            } => DupStage::NewPipe,
+            Step::Piped {
+                at: PipeStep::DroppingEnd { .. },
+            } => DupStage::DroppingEnd,
+            Step::Piped {
+                at: PipeStep::DroppingPipe { .. },
+            } => DupStage::DroppingPipe,
+            Step::Piped {
+                at: PipeStep::SourcePipe,
+            } => DupStage::OldPipe,
+            Step::Piped {
+                at: PipeStep::MappingEnd,
+            } => DupStage::MappingEnd,
             _ => return None,
         };
         Some(Dup { old, new, at })
@@ -62,7 +91,11 @@ impl Planned for Dup {
             DupStage::Entered => ask_region_for(self.old),
             DupStage::OldEntry => ask_entry(self.old),
             DupStage::NewEntry => ask_entry(self.new),
-            DupStage::Dropping => ask_drop(self.new),
+            DupStage::NewPipe => ask_pipe_entry(self.new),
+            DupStage::Dropping | DupStage::DroppingEnd => ask_drop(self.new),
+            DupStage::DroppingPipe => ask_drop_at(pipe_va(self.new)),
+            DupStage::OldPipe => ask_pipe_entry(self.old),
+            DupStage::MappingEnd => ask_map_at(pipe_va(self.old), pipe_va(self.new)),
             DupStage::Mapping => ask_map(self.old, self.new),
         }
     }
@@ -87,11 +120,30 @@ impl Planned for Dup {
             }
             DupStage::NewEntry => {
                 if is_there(word) {
-                    return Next::GoOn(Step::DroppingDescriptor { fd: self.new });
+                    return Next::GoOn(Step::Piped {
+                        at: PipeStep::PipeEntry { fd: self.new },
+                    });
+                }
+                Next::GoOn(Step::Piped {
+                    at: PipeStep::SourcePipe,
+                })
+            }
+            DupStage::NewPipe => Next::GoOn(dropping(self.new, word)),
+            DupStage::DroppingEnd => Next::GoOn(Step::Piped {
+                at: PipeStep::DroppingPipe { fd: self.new },
+            }),
+            DupStage::Dropping | DupStage::DroppingPipe => Next::Show(Step::Piped {
+                at: PipeStep::SourcePipe,
+            }),
+            DupStage::OldPipe => {
+                if is_there(word) {
+                    return Next::GoOn(Step::Piped {
+                        at: PipeStep::MappingEnd,
+                    });
                 }
                 Next::GoOn(Step::MappingDescriptor)
             }
-            DupStage::Dropping => Next::Show(Step::MappingDescriptor),
+            DupStage::MappingEnd => Next::GoOn(Step::MappingDescriptor),
             DupStage::Mapping => {
                 if word == 0 {
                     return Next::Answer(self.new);

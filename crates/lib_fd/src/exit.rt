@@ -3,9 +3,13 @@
 ghost use Rattle.std.specs.Prelude.{◌≡◌};
 ghost use Rattle.lib_fd.specs.DescriptorStages as stages;
 
-use crate::pages::{DESCRIPTORS, ask_drop, ask_entry, ask_region, descriptor_of, is_there};
+use crate::close::dropping;
+use crate::pages::{
+    DESCRIPTORS, ask_drop, ask_drop_at, ask_entry, ask_pipe_entry, ask_region, descriptor_of,
+    is_there, pipe_va,
+};
 use jos_base::{Called, SYS_ENV_DESTROY};
-use lib_os::{SERVICE_EXIT, Step, answer_of};
+use lib_os::{PipeStep, SERVICE_EXIT, Step, answer_of};
 use lib_stage::{Ask, Next, Planned};
 
 /// How far exit is.
@@ -15,8 +19,14 @@ pub enum ExitStage {
     Entered,
     /// It is about to read the entry of this descriptor's page.
     Entry { fd: u32 },
-    /// It is about to drop this descriptor.
+    /// This descriptor is open, and it is about to read whether it has a pipe's page.
+    PipeEntry { fd: u32 },
+    /// It has none, and exit is about to drop this descriptor.
     Dropping { fd: u32 },
+    /// It has one, and exit is about to drop this descriptor's page.
+    DroppingEnd { fd: u32 },
+    /// It is about to drop the pipe's page that this descriptor has.
+    DroppingPipe { fd: u32 },
     /// No descriptor is open, and it is about to end the environment.
     Ending,
 }
@@ -36,6 +46,15 @@ impl Exit {
             Step::Entered => ExitStage::Entered,
             Step::DescriptorEntry { fd } => ExitStage::Entry { fd },
             Step::DroppingDescriptor { fd } => ExitStage::Dropping { fd },
+            Step::Piped {
+                at: PipeStep::PipeEntry { fd },
+            } => ExitStage::PipeEntry { fd },
+            Step::Piped {
+                at: PipeStep::DroppingEnd { fd },
+            } => ExitStage::DroppingEnd { fd },
+            Step::Piped {
+                at: PipeStep::DroppingPipe { fd },
+            } => ExitStage::DroppingPipe { fd },
             Step::Ending => ExitStage::Ending,
             _ => return None,
         };
@@ -68,7 +87,9 @@ impl Planned for Exit {
         match self.at {
             ExitStage::Entered => ask_region(),
             ExitStage::Entry { fd } => ask_entry(fd),
-            ExitStage::Dropping { fd } => ask_drop(fd),
+            ExitStage::PipeEntry { fd } => ask_pipe_entry(fd),
+            ExitStage::Dropping { fd } | ExitStage::DroppingEnd { fd } => ask_drop(fd),
+            ExitStage::DroppingPipe { fd } => ask_drop_at(pipe_va(fd)),
             ExitStage::Ending => Ask::System {
                 number: SYS_ENV_DESTROY,
                 args: [0; 5],
@@ -89,9 +110,15 @@ impl Planned for Exit {
                 if !is_there(word) {
                     return Next::GoOn(behind(fd));
                 }
-                Next::GoOn(Step::DroppingDescriptor { fd })
+                Next::GoOn(Step::Piped {
+                    at: PipeStep::PipeEntry { fd },
+                })
             }
-            ExitStage::Dropping { fd } => Next::Show(behind(fd)),
+            ExitStage::PipeEntry { fd } => Next::GoOn(dropping(fd, word)),
+            ExitStage::DroppingEnd { fd } => Next::GoOn(Step::Piped {
+                at: PipeStep::DroppingPipe { fd },
+            }),
+            ExitStage::Dropping { fd } | ExitStage::DroppingPipe { fd } => Next::Show(behind(fd)),
             ExitStage::Ending => Next::Gone,
         }
     }

@@ -4,7 +4,8 @@
 //! closes the new descriptor first; exit drops the lowest descriptor that is open in a step each, and ends the environment when none is.
 //! Here each is a plan of what it asks of the kernel, and of what it does next by the reply (`DescriptorStages.antt`). A descriptor is open
 //! where a page stands at its address. Whether one does is read from the entries of the page tables, and before that whether the
-//! region has a table at all; a descriptor is dropped by unmapping its page, and made by mapping the page of another one.
+//! region has a table at all; a descriptor is dropped by unmapping its page, and made by mapping the page of another one. One that names an
+//! end of a pipe has the pipe's page too, which is unmapped behind its own, and mapped before its own.
 #![tactic(auto)]
 
 mod close;
@@ -15,4 +16,7 @@ mod pages;
 pub use close::{Close, CloseStage};
 pub use dup::{Dup, DupStage};
 pub use exit::{Exit, ExitStage};
-pub use pages::{ask_entry, ask_region_for, descriptor_va, is_there};
+pub use pages::{
+    DESCRIPTOR_PERM, ask_drop_at, ask_entry, ask_map_at, ask_pipe_entry, ask_region_for,
+    descriptor_va, is_there, pipe_va,
+};

@@ -14,8 +14,8 @@ use lib_stage::Ask;
 /// The descriptors of an environment.
 pub(crate) const DESCRIPTORS: u32 = lib_os::DESCRIPTORS as u32;
 
-/// The bits of a descriptor's page.
-const DESCRIPTOR_PERM: u32 = PTE_P + PTE_W + PTE_U + PTE_SHARE;
+/// The bits of the page of a descriptor, and of that of a pipe.
+pub const DESCRIPTOR_PERM: u32 = PTE_P + PTE_W + PTE_U + PTE_SHARE;
 
 /// The descriptor of a word that may hold anything.
 pub(crate) fn descriptor_of(fd: u32) -> u32
@@ -32,6 +32,15 @@ pub fn descriptor_va(fd: u32) -> u32
     ensures below { result < 0xD0020000 }
 {
     FDTABLE + PGSIZE * descriptor_of(fd)
+}
+
+/// Where a descriptor that names an end of a pipe has the pipe's page.
+pub fn pipe_va(fd: u32) -> u32
+    ensures is { result ≡ stages.pipe_va fd }
+    ensures begins { result % 4096 ≡ 0 }
+    ensures below { result < 0xD0040000 }
+{
+    FDTABLE + PGSIZE * (DESCRIPTORS + descriptor_of(fd))
 }
 
 /// The word of the region in which the pages lie.
@@ -66,13 +75,39 @@ pub fn ask_entry(fd: u32) -> Ask
     }
 }
 
+/// The word of the entry of the pipe's page that a descriptor may have.
+pub fn ask_pipe_entry(fd: u32) -> Ask
+    ensures { result ≡ stages.pipe_entry_asked fd }
+{
+    Ask::Load {
+        va: UVPT + 4 * (FDTABLE / PGSIZE + DESCRIPTORS + descriptor_of(fd)),
+    }
+}
+
+/// The page at an address is unmapped.
+pub fn ask_drop_at(va: u32) -> Ask
+    ensures { result ≡ stages.drop_asked_at va }
+{
+    Ask::System {
+        number: SYS_PAGE_UNMAP,
+        args: [0, va, 0, 0, 0],
+    }
+}
+
 /// A descriptor's page is unmapped.
 pub(crate) fn ask_drop(fd: u32) -> Ask
     ensures { result ≡ stages.drop_asked fd }
 {
+    ask_drop_at(descriptor_va(fd))
+}
+
+/// The page at an address, which is a descriptor's or a pipe's, is mapped at another one too.
+pub fn ask_map_at(old: u32, new: u32) -> Ask
+    ensures { result ≡ stages.map_asked_at old new }
+{
     Ask::System {
-        number: SYS_PAGE_UNMAP,
-        args: [0, descriptor_va(fd), 0, 0, 0],
+        number: SYS_PAGE_MAP,
+        args: [0, old, 0, new, DESCRIPTOR_PERM],
     }
 }
 
@@ -80,16 +115,7 @@ pub(crate) fn ask_drop(fd: u32) -> Ask
 pub(crate) fn ask_map(old: u32, new: u32) -> Ask
     ensures { result ≡ stages.map_asked old new }
 {
-    Ask::System {
-        number: SYS_PAGE_MAP,
-        args: [
-            0,
-            descriptor_va(old),
-            0,
-            descriptor_va(new),
-            DESCRIPTOR_PERM,
-        ],
-    }
+    ask_map_at(descriptor_va(old), descriptor_va(new))
 }
 
 /// Whether the word of an entry says that a page, or a region's table, is there.

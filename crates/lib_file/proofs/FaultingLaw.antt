@@ -1,6 +1,6 @@
 -- The law of the step in which a service makes an access that its buffer's page refuses, for read, stat and write: wherever the state stands
 -- for an abstract one the access faults, and the handler of page faults gets the fault, which nobody sees.
-use Rattle.std.proofs.Common.{◌≡◌, ◌∙◌, ◌+◌, ◌%◌, ◌^◌, ◌<◌, ◌≤◌, ℕ, true, false, Ok, refl, sym, ap, subst, arith}
+use Rattle.std.proofs.Common.{◌≡◌, ◌∙◌, ◌+◌, ◌%◌, ◌^◌, ◌<◌, ◌≤◌, ℕ, true, false, inl, Ok, Some, refl, sym, ap, subst, arith}
 use Rattle.jos_base.specs.declared.called.Called.{Called}
 use Rattle.jos_base.specs.KernelState.{KernelState, slot_at}
 use Rattle.jos_base.specs.Words.{page_number}
@@ -13,7 +13,7 @@ use Rattle.lib_os.specs.InOrder.{IsInOrder}
 use Rattle.lib_os.specs.Fence.{is_buffer}
 use Rattle.lib_os.specs.LibrarySteps.{Lowers, Stands, hidden_left, is_pausing}
 use Rattle.lib_os.specs.Places.{place_of}
-use Rattle.lib_os.specs.Rows.{Names, is_descriptor}
+use Rattle.lib_os.specs.Rows.{Names, is_of_descriptor}
 use Rattle.lib_os.specs.StandsFor.{StandsFor}
 use Rattle.lib_os.specs.StandsInHandler.{AreSmall}
 use Rattle.lib_os.specs.UserCalls.{CallStep, Got, gone, got, to_handler}
@@ -35,7 +35,7 @@ use Rattle.lib_file.proofs.Finds.{staged}
 pub record IsHandedOver (s : KernelState) (n : ℕ) (names : Names) (a : AbstractState) (call : CallStep Called) : Type 0 where
   pub after : KernelState
   pub is : call ≡ handing after
-  pub stands : IsInOrder after → StandsFor names after a
+  pub stands : IsInOrder after → s.last ≡ Some n → StandsFor names after a
   pub lower : hidden_left after n < hidden_left s n
 
 module _ (s : KernelState) (n : ℕ) (service : Service) (done word : ℕ)
@@ -50,21 +50,21 @@ module _ (s : KernelState) (n : ℕ) (service : Service) (done word : ℕ)
   there = record { stands = stands; plain = plain; goes_on = steady; few = omega (arith, few) }
 
   keeps : IsInOrder (performed s n asks).state → KeepsBy s n plan (performed s n asks)
-  keeps order a h quiet =
+  keeps order a h turn quiet =
       let it = handed h.0 a h.1 in
       subst (λ (z : CallStep Called). FollowsBy s n plan a z) (sym it.is)
-      (refl, (h.0, it.stands (subst (λ (t : KernelState). IsInOrder t) (ap (λ (z : CallStep Called). z.state) it.is) order)))
+      (refl, (h.0, it.stands (subst (λ (t : KernelState). IsInOrder t) (ap (λ (z : CallStep Called). z.state) it.is) order) turn.last))
 
   fails : FailsBy s n plan (performed s n asks)
-  fails may a h =
+  fails may a h turn =
       let it = handed h.0 a h.1 in
       absurd (let contradiction : ◌≡◌ {A = Got Called} gone to_handler = sym (fails_gone may) ∙ ap (λ (z : CallStep Called). z.gives) it.is in cc)
 
   lowers_by : (g : Got Called) → let did = upshot_by plan n (performed s n asks) g in Lowers (Ok did.progress) n s did.state
   lowers_by (got called) = tt
-  lowers_by to_handler = λ a h quiet.
+  lowers_by to_handler = λ a h turn quiet.
       let it = handed h.0 a h.1 in
-      subst (λ (z : CallStep Called). hidden_left z.state n < hidden_left s n) (sym it.is) it.lower
+      inl (subst (λ (z : CallStep Called). hidden_left z.state n < hidden_left s n) (sym it.is) it.lower)
   lowers_by gone = tt
 
   pub handed_holds : ServiceHolds s n plan
@@ -73,11 +73,11 @@ module _ (s : KernelState) (n : ℕ) (service : Service) (done word : ℕ)
       (λ called is stays. absurd (let contradiction : true ≡ false = stays in cc)) keeps fails (lowers_by (performed s n asks).gives)
 
 -- a byte that a program may touch lies on no page of a descriptor's
-inside_aside : (at len : ℕ) → is_buffer at len ≡ true → 0 < len → is_descriptor (page_number (at % 2 ^ 32)) ≡ false
+inside_aside : (at len : ℕ) → is_buffer at len ≡ true → 0 < len → is_of_descriptor (page_number (at % 2 ^ 32)) ≡ false
 inside_aside at len inside some =
     let end = buffer_below at len inside some in
     let same : at % 2 ^ 32 ≡ at = omega (arith, end, some) in
-    ap (λ (q : ℕ). is_descriptor (page_number q)) same
+    ap (λ (q : ℕ). is_of_descriptor (page_number q)) same
     ∙ programs_no_descriptor (page_number at) (inside_programs at (buffer_each at len at inside (omega arith) (omega (arith, some))))
 
 -- ---- each of the three
@@ -85,7 +85,7 @@ inside_aside at len inside some =
 module _ (s : KernelState) (n : ℕ) (small : AreSmall (slot_at s n).registers) (done word : ℕ) where
   module _ (fd va len : ℕ) (stands : place_of (slot_at s n) ≡ place.InService (service.Read fd va len) (step.Faulting done word)) (byte : ℕ) where
     -- the byte lies where a program may touch it, and so on no page of a descriptor's
-    read_aside : (a : AbstractState) → Stands s a → is_descriptor (page_number ((va + done) % 2 ^ 32)) ≡ false
+    read_aside : (a : AbstractState) → Stands s a → is_of_descriptor (page_number ((va + done) % 2 ^ 32)) ≡ false
     read_aside a h =
         let v = served h.1 n (service.Read fd va len) (step.Faulting done word) stands in
         inside_aside (va + done) _ v.at.0.inside v.at.0.some
@@ -110,7 +110,7 @@ module _ (s : KernelState) (n : ℕ) (small : AreSmall (slot_at s n).registers) 
 
   module _ (fd va : ℕ) (stands : place_of (slot_at s n) ≡ place.InService (service.Stat fd va) (step.Faulting done word)) (byte : ℕ) where
     -- the byte lies where a program may touch it, and so on no page of a descriptor's
-    stat_aside : (a : AbstractState) → Stands s a → is_descriptor (page_number ((va + done) % 2 ^ 32)) ≡ false
+    stat_aside : (a : AbstractState) → Stands s a → is_of_descriptor (page_number ((va + done) % 2 ^ 32)) ≡ false
     stat_aside a h =
         let v = served h.1 n (service.Stat fd va) (step.Faulting done word) stands in
         inside_aside (va + done) _ v.at.0.inside v.at.0.some

@@ -11,7 +11,8 @@ use Rattle.jos_base.specs.declared.numbers.TheConstants.{E_INVAL, SYS_GETENVID}
 use Rattle.jos_base.specs.Environments.{is_live}
 use Rattle.jos_base.specs.KernelState.{KernelState, slot_at}
 use Rattle.jos_base.specs.Words.{negated}
-use Rattle.lib_os.specs.declared.numbers.TheConstants.{DESCRIPTORS, DEVICE_CONSOLE, DEVICE_FILE}
+use Rattle.lib_os.specs.declared.numbers.TheConstants.{DESCRIPTORS, DEVICE_CONSOLE, DEVICE_FILE, DEVICE_PIPE}
+use Rattle.lib_os.specs.declared.place.PipeStep.TheVariants as pipe
 use Rattle.lib_os.specs.declared.place.Place.TheVariants as place
 use Rattle.lib_os.specs.declared.place.Step.{Step}
 use Rattle.lib_os.specs.declared.place.Step.TheVariants as step
@@ -56,6 +57,9 @@ Follows s n service a x = AbstractFollows (seen_as x) n (settled (number_of serv
 -- the step of a service that pauses
 abbrev pub pauses : Step → Bool
 pauses (step.Pausing perm) = true
+pauses (step.Piped (pipe.LockPausing done)) = true
+pauses (step.Piped (pipe.TestPausing done)) = true
+pauses (step.Piped pipe.StatPausing) = true
 pauses _ = false
 
 seek_steady : (fd offset : ℕ) (from : Step) → pauses from ≡ false → is_pausing (place.InService (service.Seek fd offset) from) ≡ false
@@ -68,14 +72,23 @@ set_size_steady fd size _ none = refl
 
 write_steady : (fd va len : ℕ) (from : Step) → pauses from ≡ false → is_pausing (place.InService (service.Write fd va len) from) ≡ false
 write_steady fd va len (step.Pausing id) none = absurd (let contradiction : true ≡ false = none in cc)
+write_steady fd va len (step.Piped (pipe.LockPausing done)) none = absurd (let contradiction : true ≡ false = none in cc)
+write_steady fd va len (step.Piped (pipe.TestPausing done)) none = absurd (let contradiction : true ≡ false = none in cc)
+write_steady fd va len (step.Piped pipe.StatPausing) none = absurd (let contradiction : true ≡ false = none in cc)
 write_steady fd va len _ none = refl
 
 read_steady : (fd va len : ℕ) (from : Step) → pauses from ≡ false → is_pausing (place.InService (service.Read fd va len) from) ≡ false
 read_steady fd va len (step.Pausing id) none = absurd (let contradiction : true ≡ false = none in cc)
+read_steady fd va len (step.Piped (pipe.LockPausing done)) none = absurd (let contradiction : true ≡ false = none in cc)
+read_steady fd va len (step.Piped (pipe.TestPausing done)) none = absurd (let contradiction : true ≡ false = none in cc)
+read_steady fd va len (step.Piped pipe.StatPausing) none = absurd (let contradiction : true ≡ false = none in cc)
 read_steady fd va len _ none = refl
 
 stat_steady : (fd va : ℕ) (from : Step) → pauses from ≡ false → is_pausing (place.InService (service.Stat fd va) from) ≡ false
 stat_steady fd va (step.Pausing id) none = absurd (let contradiction : true ≡ false = none in cc)
+stat_steady fd va (step.Piped (pipe.LockPausing done)) none = absurd (let contradiction : true ≡ false = none in cc)
+stat_steady fd va (step.Piped (pipe.TestPausing done)) none = absurd (let contradiction : true ≡ false = none in cc)
+stat_steady fd va (step.Piped pipe.StatPausing) none = absurd (let contradiction : true ≡ false = none in cc)
 stat_steady fd va _ none = refl
 
 -- At no other step one that is given a descriptor gives up its turn.
@@ -201,7 +214,7 @@ module _ (s : KernelState) (n : ℕ) (service : Service) (fd : ℕ) (given : des
         load_holds s n service (step.DescriptorEntry at) live (is_steady service fd given (step.DescriptorEntry at) refl) stands (entry_va fd)
         (page_word s n fd) next_of_entry (next_entry_falls service at) (λ names a h. entry_gives s n service fd given at stands h) entry_follows
 
-  -- ---- what it names: the console or a file, of which it is told what the service does then
+  -- ---- what it names: the console, a file or an end of a pipe, of which it is told what the service does then
 
   module _ (stands : place_of (slot_at s n) ≡ place.InService service step.ReadingDevice) where
     -- it does what the abstract system does of an object with this word
@@ -211,16 +224,19 @@ module _ (s : KernelState) (n : ℕ) (service : Service) (fd : ℕ) (given : des
         Follows (loaded s n (device_va fd)) n service a (next device)
 
     pub device_holds_each : (next : ℕ → Next) → ((word : ℕ) → Falls service step.ReadingDevice (next word)) →
-        FollowsObject next DEVICE_CONSOLE → FollowsObject next DEVICE_FILE → ServiceHolds s n (staged service (device_asked fd) next)
-    device_holds_each next falls of_console of_file =
+        FollowsObject next DEVICE_CONSOLE → FollowsObject next DEVICE_FILE → FollowsObject next DEVICE_PIPE →
+        ServiceHolds s n (staged service (device_asked fd) next)
+    device_holds_each next falls of_console of_file of_pipe =
         load_holds s n service step.ReadingDevice live (is_steady service fd given step.ReadingDevice refl) stands (device_va fd) (device_word s n fd)
         next falls (λ names a h. device_gives s n service fd given stands h)
         (λ names a h order. by_word names a h order (device_either s n service fd given stands h))
       where
         by_word : (names : Names) (a : AbstractState) → StandsFor names s a → IsInOrder (loaded s n (device_va fd)) →
-            (device_word s n fd ≡ DEVICE_CONSOLE) ⊎ (device_word s n fd ≡ DEVICE_FILE) →
+            (device_word s n fd ≡ DEVICE_CONSOLE) ⊎ (device_word s n fd ≡ DEVICE_FILE) ⊎ (device_word s n fd ≡ DEVICE_PIPE) →
             Follows (loaded s n (device_va fd)) n service a (next (device_word s n fd))
         by_word names a h order (inl word) =
             subst (λ (w : ℕ). Follows (loaded s n (device_va fd)) n service a (next w)) (sym word) (of_console names a h order word)
-        by_word names a h order (inr word) =
+        by_word names a h order (inr (inl word)) =
             subst (λ (w : ℕ). Follows (loaded s n (device_va fd)) n service a (next w)) (sym word) (of_file names a h order word)
+        by_word names a h order (inr (inr word)) =
+            subst (λ (w : ℕ). Follows (loaded s n (device_va fd)) n service a (next w)) (sym word) (of_pipe names a h order word)

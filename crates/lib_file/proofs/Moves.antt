@@ -6,7 +6,7 @@ use Rattle.jos_base.specs.declared.numbers.TheConstants.{PGSIZE, UTEMP}
 use Rattle.jos_base.specs.Environments.{Slot, is_live}
 use Rattle.jos_base.specs.KernelState.{KernelState, slot_at}
 use Rattle.jos_base.specs.Words.{page_number}
-use Rattle.lib_os.specs.Rows.{is_descriptor}
+use Rattle.lib_os.specs.Rows.{is_of_descriptor}
 use Rattle.lib_os.specs.UserCalls.{CallStep, Got, gone, got, load_byte, to_handler}
 use Rattle.lib_os.proofs.BytesKept.{kept_at_once, load_byte_slots}
 use Rattle.lib_stage.specs.declared.ask.Ask.TheVariants as ask
@@ -53,8 +53,8 @@ some_kept at left = by_test ((at % 4 == 0) && (left == 4))
     by_test false = omega arith
 
 -- It writes the page at UTEMP alone, which is no descriptor's.
-beside_at : (o : ℕ) → o < PGSIZE → is_descriptor (page_number (UTEMP + o)) ≡ false
-beside_at o inside = let same : page_number (UTEMP + o) ≡ page_number UTEMP = omega (arith, inside) in ap is_descriptor same
+beside_at : (o : ℕ) → o < PGSIZE → is_of_descriptor (page_number (UTEMP + o)) ≡ false
+beside_at o inside = let same : page_number (UTEMP + o) ≡ page_number UTEMP = omega (arith, inside) in ap is_of_descriptor same
 
 -- a word whose first byte lies at such a place, where words lie
 pub word_beside_at : (o : ℕ) → o < PGSIZE → o % 4 ≡ 0 → is_word_beside (UTEMP + o) ≡ true

@@ -65,7 +65,7 @@ module _ (s : KernelState) (n : ℕ) (live : is_live (slot_at s n) ≡ true)
 
   refused_keeps : (answer : ℕ) → asked ≡ giving (with_refusal s) (Answered answer) → KeepsBy s n beginning asked
   refused_keeps answer is =
-      subst (λ (z : CallStep Called). KeepsBy s n beginning z) (sym is) (λ a h quiet. absurd (never (is_error answer) quiet))
+      subst (λ (z : CallStep Called). KeepsBy s n beginning z) (sym is) (λ a h turn quiet. absurd (never (is_error answer) quiet))
     where
       never : (error : Bool) → NothingRefused s (settled SERVICE_FORK (by_error answer error) (with_refusal s) n) → ⊥
       never true quiet = refusal_is_seen s (record { stays = quiet.stays; could = quiet.could })
@@ -75,7 +75,7 @@ module _ (s : KernelState) (n : ℕ) (live : is_live (slot_at s n) ≡ true)
 
   made_keeps : (m : ℕ) (slots : List ℕ) → s.environments.free_slots ≡ m ∷ slots → (f : ℕ) (frames : List ℕ) → s.spaces.free ≡ f ∷ frames →
       IsInOrder asked.state → KeepsBy s n beginning asked
-  made_keeps m slots slots_are f frames frames_are order a h quiet =
+  made_keeps m slots slots_are f frames frames_are order a h turn quiet =
       let nobody = slot_was_free s n live m slots slots_are f frames frames_are h.1.in_order order in
       let other : m ≢ n = apart h.1 n stands m slots slots_are f frames frames_are nobody in
       let is = exofork_is s n live m slots slots_are f frames frames_are other in
@@ -120,7 +120,7 @@ module _ (s : KernelState) (n : ℕ) (live : is_live (slot_at s n) ≡ true)
       subst (λ (z : CallStep Called). IsInOrder z.state → KeepsBy s n beginning z) (sym (asked_is s n)) asked_keeps
 
   pub entered_fails : FailsBy s n beginning (performed s n beginning.asks)
-  entered_fails may a h = absurd may
+  entered_fails may a h turn = absurd may
 
   pub entered_goes : GoesOn s n beginning (performed s n beginning.asks)
   entered_goes =

@@ -44,7 +44,7 @@ module _ (s : KernelState) (n id : ℕ) (live : is_live (slot_at s n) ≡ true)
       child_runs_is s n id live (some_id h.1 n id v) v.apart (child_lives h.1 n id v) v.child_own.id_is (child_owned h.1 n id v) (0 ∷ 0 ∷ 0 ∷ [])
 
   pub child_runs_keeps : IsInOrder (performed s n (ask_of running)).state → KeepsBy s n plan (performed s n (ask_of running))
-  child_runs_keeps order a h quiet =
+  child_runs_keeps order a h turn quiet =
       let v = bearer h.1 n (step.ChildRuns id) id stands refl in
       subst (λ (z : CallStep Called). FollowsBy s n plan a z) (sym (runs_is a h)) (
         bear a n v.b (slot_at s n).registers (id % NENV),
@@ -54,7 +54,7 @@ module _ (s : KernelState) (n id : ℕ) (live : is_live (slot_at s n) ≡ true)
       )
 
   pub child_runs_fails : FailsBy s n plan (performed s n (ask_of running))
-  child_runs_fails may a h = absurd (let contradiction : false ≡ true = may in cc)
+  child_runs_fails may a h turn = absurd (let contradiction : false ≡ true = may in cc)
 
 -- ---- a child that was refused something is destroyed, which is nowhere
 
@@ -69,7 +69,7 @@ module _ (s : KernelState) (n id error : ℕ)
 
   pub undoing_keeps : IsInOrder (performed s n (ask_of undoing)).state →
       KeepsBy s n (forking (record { at = undoing })) (performed s n (ask_of undoing))
-  undoing_keeps order a h quiet = absurd (undoing_nowhere a h)
+  undoing_keeps order a h turn quiet = absurd (undoing_nowhere a h)
 
   pub undoing_fails : FailsBy s n (forking (record { at = undoing })) (performed s n (ask_of undoing))
-  undoing_fails may a h = absurd (undoing_nowhere a h)
+  undoing_fails may a h turn = absurd (undoing_nowhere a h)

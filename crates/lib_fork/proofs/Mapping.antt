@@ -69,7 +69,7 @@ module _ (s : KernelState) (n id page perm : ℕ) (live : is_live (slot_at s n) 
       by_tests false true = refl
       by_tests false false = refl
 
-  module _ (names : Names) (a : AbstractState) (h : StandsFor names s a) where
+  module _ (names : Names) (a : AbstractState) (h : StandsFor names s a) (last : s.last ≡ Some n) where
     v : IsBearer names s a n (step.MapChild id page perm) id
     v = bearer h n (step.MapChild id page perm) id stands refl
 
@@ -90,10 +90,10 @@ module _ (s : KernelState) (n id page perm : ℕ) (live : is_live (slot_at s n) 
         by_bits : (c : Bool) → is_kept h n id page perm v ≡ c → StandsAfter sp (to 0)
         by_bits true kept =
             goes_to false (kept_not_copied h n id page perm v kept)
-            (below_stands h n id page perm v (child_given h n id page perm v sp order is) order kept)
+            (below_stands h n id page perm v (child_given h n id page perm v sp order is) order last kept)
         by_bits false kept =
             goes_to true (others_copied h n id page perm v kept)
-            (remap_stands h n id page perm v (child_given h n id page perm v sp order is) order kept)
+            (remap_stands h n id page perm v (child_given h n id page perm v sp order is) order last kept)
 
     abbrev Follows : Called → CallStep Called → Type 0
     Follows called step = Stays (with_extra step.state n (words_at SERVICE_FORK (to (answer_of called)))) a step.written
@@ -126,7 +126,7 @@ module _ (s : KernelState) (n id page perm : ℕ) (live : is_live (slot_at s n) 
       let x = next_of at (answer_of called) in KeepsStanding (seen_as x) n s (settled SERVICE_FORK x asked.state n) asked.written
   keeps_by called gives order =
       subst (λ (x : Next). KeepsStanding (seen_as x) n s (settled SERVICE_FORK x asked.state n) asked.written) (sym (goes_on (answer_of called)))
-      (λ a h quiet. follows h.0 a h.1 called gives order quiet)
+      (λ a h turn quiet. follows h.0 a h.1 turn.last called gives order quiet)
 
   pub map_child_keeps : IsInOrder (performed s n (ask_of (stage.MapChild id page perm))).state →
       KeepsBy s n (forking (record { at = stage.MapChild id page perm })) (performed s n (ask_of (stage.MapChild id page perm)))
@@ -138,4 +138,4 @@ module _ (s : KernelState) (n id page perm : ℕ) (live : is_live (slot_at s n) 
 
   pub map_child_fails : FailsBy s n (forking (record { at = stage.MapChild id page perm })) (performed s n (ask_of (stage.MapChild id page perm)))
   unfolding performed
-  map_child_fails may a h = absurd (let contradiction : false ≡ true = may in cc)
+  map_child_fails may a h turn = absurd (let contradiction : false ≡ true = may in cc)

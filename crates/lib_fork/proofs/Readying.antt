@@ -39,7 +39,7 @@ module _ (s : KernelState) (n id : ℕ) (live : is_live (slot_at s n) ≡ true)
   stack_asked = system s n SYS_PAGE_ALLOC (id ∷ UXSTACK ∷ stack_perm ∷ 0 ∷ 0 ∷ [])
 
   stack_keeps : IsInOrder stack_asked.state → KeepsBy s n stack_plan stack_asked
-  stack_keeps order a h quiet =
+  stack_keeps order a h turn quiet =
       by_call (child_page_made_or_refused h.1 n id (step.ChildStack id) (bearer h.1 n (step.ChildStack id) id stands refl) UXSTACK stack_perm
       (0 ∷ 0 ∷ []) refl refl)
     where
@@ -53,7 +53,7 @@ module _ (s : KernelState) (n id : ℕ) (live : is_live (slot_at s n) ≡ true)
               h.0,
               stack_made_stands h.1 n id stands
                   (allocated_made s.spaces made.spaces (slot_at s (id % NENV)).directory (page_number UXSTACK) stack_perm made.frame
-                  h.1.in_order.frames in_order.frames refl made.is) in_order,
+                  h.1.in_order.frames in_order.frames refl made.is) in_order turn.last,
             ),
           )) order
       by_call (inr none) =
@@ -66,7 +66,7 @@ module _ (s : KernelState) (n id : ℕ) (live : is_live (slot_at s n) ≡ true)
   child_stack_keeps order = stack_keeps order
 
   pub child_stack_fails : FailsBy s n (forking (record { at = stage.ChildStack id })) (performed s n (ask_of (stage.ChildStack id)))
-  child_stack_fails may a h = absurd (let contradiction : false ≡ true = may in cc)
+  child_stack_fails may a h turn = absurd (let contradiction : false ≡ true = may in cc)
 
 -- ---- the handler
 
@@ -83,7 +83,7 @@ module _ (s : KernelState) (n id : ℕ) (live : is_live (slot_at s n) ≡ true)
   on mid = settled SERVICE_FORK (next.GoOn (step.ChildRuns id)) mid n
 
   upcall_keeps : KeepsStanding progress.Hidden n s (on asked.state) asked.written
-  upcall_keeps a h quiet =
+  upcall_keeps a h turn quiet =
       subst (λ (z : CallStep Called). Stays (on z.state) a z.written)
       (sym (child_upcall_is h.1 n id (step.ChildUpcall id) (bearer h.1 n (step.ChildUpcall id) id stands refl) PGFAULT_UPCALL (0 ∷ 0 ∷ 0 ∷ [])))
       (refl, (h.0, handler_set_stands h.1 n id stands))
@@ -98,4 +98,4 @@ module _ (s : KernelState) (n id : ℕ) (live : is_live (slot_at s n) ≡ true)
       (sym gives.1) upcall_keeps
 
   pub child_upcall_fails : FailsBy s n (forking (record { at = stage.ChildUpcall id })) (performed s n (ask_of (stage.ChildUpcall id)))
-  child_upcall_fails may a h = absurd (let contradiction : false ≡ true = may in cc)
+  child_upcall_fails may a h turn = absurd (let contradiction : false ≡ true = may in cc)

@@ -40,7 +40,7 @@ module _ (s : KernelState) (n id page : ℕ) (live : is_live (slot_at s n) ≡ t
   on mid = settled SERVICE_FORK (next.GoOn (below id page)) mid n
 
   onto_keeps : IsInOrder asked.state → KeepsStanding progress.Hidden n s (on asked.state) asked.written
-  onto_keeps order a h quiet =
+  onto_keeps order a h turn quiet =
       let call = maps_onto h.1 n id page stands in
       let d : ℕ = (slot_at s n).directory in
       subst (λ (z : CallStep Called). IsInOrder z.state → Stays (on z.state) a z.written) (sym call.step)
@@ -50,7 +50,7 @@ module _ (s : KernelState) (n id page : ℕ) (live : is_live (slot_at s n) ≡ t
           h.0,
           remapped_stands h.1 n id page stands call.old call.stands
               (inserted_given s.spaces call.spaces d page (record { frame = call.old.frame; perm = cow_perm }) d page call.entry
-              h.1.in_order.frames in_order.frames refl call.there call.frame call.is) in_order,
+              h.1.in_order.frames in_order.frames refl call.there call.frame call.is) in_order turn.last,
         ),
       )) order
 
@@ -64,7 +64,7 @@ module _ (s : KernelState) (n id page : ℕ) (live : is_live (slot_at s n) ≡ t
       (sym gives.1) (onto_keeps order)
 
   pub remap_fails : FailsBy s n (forking (record { at = stage.Remap id page })) (performed s n (ask_of (stage.Remap id page)))
-  remap_fails may a h = absurd (let contradiction : false ≡ true = may in cc)
+  remap_fails may a h turn = absurd (let contradiction : false ≡ true = may in cc)
 
   -- the table is there, so that no frame is taken
   pub remap_takes :

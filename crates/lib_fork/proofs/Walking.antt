@@ -20,7 +20,7 @@ use Rattle.lib_os.specs.AbstractState.{AbstractState}
 use Rattle.lib_os.specs.InOrder.{IsInOrder}
 use Rattle.lib_os.specs.LibrarySteps.{AbstractFollows}
 use Rattle.lib_os.specs.Places.{place_of, words_at}
-use Rattle.lib_os.specs.Rows.{Names, Rows, EntryRow, IsUsers, counted, descriptor_perm, rows_of, is_descriptor, is_programs}
+use Rattle.lib_os.specs.Rows.{Names, Rows, EntryRow, IsUsers, counted, descriptor_perm, rows_of, is_of_descriptor, is_programs}
 use Rattle.lib_os.specs.StandsFor.{StandsFor, IsBearing, borne_at, child_perm, top_page}
 use Rattle.lib_os.specs.UserCalls.{load}
 use Rattle.lib_os.proofs.Bearing.{IsBearer, bearer}
@@ -243,7 +243,7 @@ module _ (s : KernelState) (n id page : ℕ) (stands : place_of (slot_at s n) �
               let contradiction : true ≡ false = sym (ap (λ (w : ℕ). w == PTE_P) present) ∙ absent in absurd cc
 
       -- the entry of a descriptor may be read
-      none_open : is_there found ≡ false → is_descriptor page ≡ true → rows_of (loaded s n entry_address).spaces (d s n) page ≡ None
+      none_open : is_there found ≡ false → is_of_descriptor page ≡ true → rows_of (loaded s n entry_address).spaces (d s n) page ≡ None
       none_open absent descriptor = by_row (rows_of s.spaces (d s n) page) refl
         where
           by_row : (o : Option Entry) → rows_of s.spaces (d s n) page ≡ o → rows_of (loaded s n entry_address).spaces (d s n) page ≡ None

@@ -14,6 +14,7 @@ use Rattle.lib_os.specs.LibrarySteps.{service_answered}
 use Rattle.lib_os.specs.Places.{place_of, is_handlers}
 use Rattle.lib_os.specs.Rows.{Names}
 use Rattle.lib_os.specs.StandsFor.{StandsFor, borne_in}
+use Rattle.lib_os.proofs.PipesStand.{is_calm}
 use Rattle.lib_os.proofs.Serving.{holds_page, printed_nothing}
 use Rattle.lib_os.proofs.Slots.{slot_put}
 use Rattle.lib_os.proofs.StatesStand.{status_stands}
@@ -37,7 +38,7 @@ module _ (s : KernelState) (n : ℕ) (step : Step)
         back_with a n i.b (record regs { eax = (slot_at s n).id }),
         i.goes ∙ getid_step a n i.b regs ∙ ap (λ (word : ℕ). Some (back_with a n i.b (record regs { eax = word }))) (sym id_is),
         printed_nothing a,
-        λ in_order quiet. (names, answer_stands h n i.b i.is i.unborne i.holds i.at.silent i.at.awake i.outside (slot_at s n).id),
+        λ in_order last quiet. (names, answer_stands h n i.b i.is i.unborne i.holds i.calm i.at.silent i.at.awake i.outside (slot_at s n).id),
       )
 
 -- ---- yield
@@ -58,10 +59,11 @@ module _ (s : KernelState) (n : ℕ) (step : Step)
         i.goes ∙ yield_step a n i.b (slot_at s n).registers
             ∙ ap (λ (k : Slot). Some (back_with a n i.b (record k.registers { eax = 0 }))) (sym put),
         printed_nothing a,
-        λ in_order quiet. (
+        λ in_order last quiet. (
           names,
           answer_stands (status_stands h n i.b i.is i.at.awake) n i.b i.is
               (ap (λ (k : Slot). borne_in (place_of k)) put ∙ i.unborne) (ap (λ (k : Slot). holds_page (place_of k)) put ∙ i.holds)
+              (ap (λ (k : Slot). is_calm (place_of k)) put ∙ i.calm)
               (ap (λ (k : Slot). k.rendezvous.receiving) put ∙ i.at.silent) i.at.awake
               (ap (λ (k : Slot). is_handlers k.registers.esp) put ∙ i.outside) 0,
         ),

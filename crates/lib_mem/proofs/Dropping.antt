@@ -54,11 +54,11 @@ module _ (s : KernelState) (n va : ℕ) (step : Step) (rest : List ℕ) (live : 
         back_with a n (without_page i.b va) (record (slot_at s n).registers { eax = 0 }),
         i.goes ∙ drop_step a n i.b (slot_at s n).registers va inside,
         printed_nothing a,
-        λ in_order quiet. (
+        λ in_order last quiet. (
           names,
           changed_stands a n (without_page i.b va)
               (removed_stands h n i.b i.is va (page_inside_programs va inside) (unmapped_removed s.spaces (slot_at s n).directory (page_number va) h.in_order.frames)
-              (ap (λ (p : Place). minds_page p) at) in_order)
-              i.unborne i.holds i.at.silent i.at.awake i.outside 0,
+              (ap (λ (p : Place). minds_page p) at) in_order last)
+              i.unborne i.holds i.calm i.at.silent i.at.awake i.outside 0,
         ),
       )

@@ -99,10 +99,10 @@ module _ (s : KernelState) (n va flags perm : ℕ) (step : Step) (rest : List �
     pub some_is : asked ≡ giving (with_spaces s t) (Answered 0)
     some_is = page_alloc_some s n live va perm rest (page_inside_address va inside) permitted f t is
 
-    page_stands : {names : Names} {a : AbstractState} → StandsFor names s a → IsInOrder (with_spaces s t) →
+    page_stands : {names : Names} {a : AbstractState} → StandsFor names s a → IsInOrder (with_spaces s t) → s.last ≡ Some n →
         (i : IsHere names s a n (service.PageNew va flags)) →
         Stands (service_answered (with_spaces s t) n 0) (page_made a n i.b (slot_at s n).registers va flags)
-    page_stands {names = names} {a = a} h in_order i = by_flag (has_bit flags 2) entry_bits.2
+    page_stands {names = names} {a = a} h in_order last i = by_flag (has_bit flags 2) entry_bits.2
       where
         made : Made s.spaces t (slot_at s n).directory (page_number va) perm
         made = allocated_made s.spaces t (slot_at s n).directory (page_number va) perm f h.in_order.frames in_order.frames permitted is
@@ -122,19 +122,19 @@ module _ (s : KernelState) (n va flags perm : ℕ) (step : Step) (rest : List �
             then answered (with_name a) n (with_page i.b va (named a.next_name (has_bit flags 1))) (slot_at s n).registers 0
             else answered a n (with_page i.b va (own zero_page (has_bit flags 1))) (slot_at s n).registers 0)
         by_flag true share =
-            let after = made_shared_stands h n i.b i.is va perm (page_inside_programs va inside) made user unminded in_order share in (
+            let after = made_shared_stands h n i.b i.is va perm (page_inside_programs va inside) made user unminded in_order last share in (
               after.0,
               changed_stands (with_name a) n (with_page i.b va (named a.next_name (has_bit flags 1)))
                   (subst (λ (w : Bool). StandsFor after.0 (with_spaces s t) (with_born (with_name a) n (with_page i.b va (named a.next_name w))))
                   entry_bits.1 after.1)
-                  i.unborne i.holds i.at.silent i.at.awake i.outside 0,
+                  i.unborne i.holds i.calm i.at.silent i.at.awake i.outside 0,
             )
         by_flag false share = (
           names,
           changed_stands a n (with_page i.b va (own zero_page (has_bit flags 1)))
               (subst (λ (w : Bool). StandsFor names (with_spaces s t) (with_born a n (with_page i.b va (own zero_page w))))
-              entry_bits.1 (made_own_stands h n i.b i.is va perm (page_inside_programs va inside) made user unminded in_order share entry_bits.3))
-              i.unborne i.holds i.at.silent i.at.awake i.outside 0,
+              entry_bits.1 (made_own_stands h n i.b i.is va perm (page_inside_programs va inside) made user unminded in_order last share entry_bits.3))
+              i.unborne i.holds i.calm i.at.silent i.at.awake i.outside 0,
         )
 
     pub some_leads : (names : Names) (a : AbstractState) → StandsFor names s a → Leads s n [] (with_spaces s t) (service_answered (with_spaces s t) n 0) a
@@ -143,7 +143,7 @@ module _ (s : KernelState) (n va flags perm : ℕ) (step : Step) (rest : List �
           page_made a n i.b (slot_at s n).registers va flags,
           i.goes ∙ page_new_step a n i.b (slot_at s n).registers va flags few inside,
           nothing_printed a n i.b (slot_at s n).registers va flags ∙ printed_nothing a,
-          λ in_order quiet. page_stands h in_order i,
+          λ in_order last quiet. page_stands h in_order last i,
         )
 
   -- where none was
@@ -157,5 +157,5 @@ module _ (s : KernelState) (n va flags perm : ℕ) (step : Step) (rest : List �
           page_made a n i.b (slot_at s n).registers va flags,
           i.goes ∙ page_new_step a n i.b (slot_at s n).registers va flags few inside,
           nothing_printed a n i.b (slot_at s n).registers va flags ∙ printed_nothing a,
-          λ in_order quiet. absurd (refusal_is_seen s (record { stays = quiet.stays; could = quiet.could })),
+          λ in_order last quiet. absurd (refusal_is_seen s (record { stays = quiet.stays; could = quiet.could })),
         )

@@ -95,10 +95,10 @@ module _ (s : KernelState) (n : ℕ) (step : Step) (live : is_live (slot_at s n)
   got_no_handler called is = cc
 
   by_call : (m : MemoryService) (plan : Plan) → IsAt s n plan (service_in m) step → (z : CallStep Called) → performed s n plan.asks ≡ z → GoesOn s n plan z →
-      NeverFaults s z → (IsInOrder z.state → KeepsBy s n plan z) → FailsBy s n plan z → ServiceHolds s n plan
+      NeverFaults s n z → (IsInOrder z.state → KeepsBy s n plan z) → FailsBy s n plan z → ServiceHolds s n plan
   by_call m plan at z is goes never keeps fails =
       law_of s n plan (service_in m) step at (subst (λ (x : CallStep Called). GoesOn s n plan x) (sym is) goes)
-      (subst (λ (x : CallStep Called). NeverFaults s x) (sym is) never)
+      (subst (λ (x : CallStep Called). NeverFaults s n x) (sym is) never)
       (subst (λ (x : CallStep Called). IsInOrder x.state → KeepsBy s n plan x) (sym is) keeps)
       (subst (λ (x : CallStep Called). FailsBy s n plan x) (sym is) fails)
 
@@ -121,9 +121,9 @@ module _ (s : KernelState) (n : ℕ) (step : Step) (live : is_live (slot_at s n)
   told_holds m asks there plain few state word written is lives kept leads =
       by_call m (passing m asks) (passes_at m asks there plain few) (telling state word written) is
       (record { live = λ called given stays. lives; registers = λ called given stays. kept })
-      (λ a h is. got_no_handler (Answered word) is)
-      (λ order a h quiet. let l = leads h.0 a h.1 in (l.0, l.1, l.2, l.3 order quiet))
-      (λ may a h. let l = leads h.0 a h.1 in (l.0, l.1, l.2))
+      (λ a h turn is. got_no_handler (Answered word) is)
+      (λ order a h turn quiet. let l = leads h.0 a h.1 in (l.0, l.1, l.2, l.3 order turn.last quiet))
+      (λ may a h turn. let l = leads h.0 a h.1 in (l.0, l.1, l.2))
 
   -- one that ends the environment
   ended : (called : Called) → got Ended ≡ got called → is_gone (passed_on called) ≡ false → ⊥
@@ -137,9 +137,9 @@ module _ (s : KernelState) (n : ℕ) (step : Step) (live : is_live (slot_at s n)
   over_holds m asks there plain few state written is leads =
       by_call m (passing m asks) (passes_at m asks there plain few) (ending state written) is
       (record { live = λ called given stays. absurd (ended called given stays); registers = λ called given stays. absurd (ended called given stays) })
-      (λ a h is. got_no_handler Ended is)
-      (λ order a h quiet. let l = leads h.0 a h.1 in (l.0, l.1, l.2, l.3 order quiet))
-      (λ may a h. let l = leads h.0 a h.1 in (l.0, l.1, l.2))
+      (λ a h turn is. got_no_handler Ended is)
+      (λ order a h turn quiet. let l = leads h.0 a h.1 in (l.0, l.1, l.2, l.3 order turn.last quiet))
+      (λ may a h turn. let l = leads h.0 a h.1 in (l.0, l.1, l.2))
 
   -- ---- each
 
@@ -151,9 +151,9 @@ module _ (s : KernelState) (n : ℕ) (step : Step) (live : is_live (slot_at s n)
       (record { stands = there; live = live; numbered = numbered m; plain = plainly refl; goes_on = no_pause m; falls = λ called. tt; few = omega arith })
       (telling s (slot_at s n).id []) (getenvid_is s n live none)
       (record { live = λ called given stays. live; registers = λ called given stays. refl })
-      (λ a h is. got_no_handler (Answered (slot_at s n).id) is)
-      (λ order a h quiet. let l = leads h.0 a h.1 in (l.0, l.1, l.2, l.3 order quiet))
-      (λ may a h. let l = leads h.0 a h.1 in (l.0, l.1, l.2))
+      (λ a h turn is. got_no_handler (Answered (slot_at s n).id) is)
+      (λ order a h turn quiet. let l = leads h.0 a h.1 in (l.0, l.1, l.2, l.3 order turn.last quiet))
+      (λ may a h turn. let l = leads h.0 a h.1 in (l.0, l.1, l.2))
 
   yield_holds : IsThere memory.Yield → ServiceHolds s n (passing memory.Yield (ask.System SYS_YIELD none))
   unfolding performed
@@ -168,8 +168,8 @@ module _ (s : KernelState) (n : ℕ) (step : Step) (live : is_live (slot_at s n)
       (record (slot_at ran n) { registers = record (slot_at ran n).registers { eax = 0 }; extra = no_extra }) in
       subst (λ (z : CallStep Called). PlanHolds s n (passing memory.Yield (ask.System SYS_YIELD none)) z) (sym is) (record {
         lives = λ called given stays. ap (λ (k : Slot). is_live k) put;
-        keeps = λ order a h quiet. let l = yield_leads s n step there h.0 a h.1 in (l.0, l.1, l.2, l.3 order quiet);
-        fails = λ may a h. absurd (let contradiction : false ≡ true = may in cc);
+        keeps = λ order a h turn quiet. let l = yield_leads s n step there h.0 a h.1 in (l.0, l.1, l.2, l.3 order turn.last quiet);
+        fails = λ may a h turn. absurd (let contradiction : false ≡ true = may in cc);
         leaves = record {
           rest = record { last = rest.last; turns = rest.turns; frames = rest.frames; refused = rest.refused; told = rest.told };
           turn = λ a stands_for running silent runs. ap is_yield there;

@@ -21,10 +21,12 @@ use Rattle.lib_os.specs.LibraryPages.{View}
 use Rattle.lib_os.specs.Places.{place_of, is_handlers}
 use Rattle.lib_os.specs.Rows.{Names}
 use Rattle.lib_os.specs.StandsInHandler.{hands_back}
-use Rattle.lib_os.specs.StandsFor.{StandsFor, StandsForBorn, StandsAtStep, IsIn, view_of, borne_in}
+use Rattle.lib_os.specs.InService.{IsIn}
+use Rattle.lib_os.specs.StandsFor.{StandsFor, StandsForBorn, StandsAtStep, view_of, borne_in, goes_back}
 use Rattle.lib_os.specs.UserCalls.{got, CallStep}
 use Rattle.jos_base.proofs.Maps.{upd-at, upd-twice}
 use Rattle.lib_os.proofs.Answering.{back_stands}
+use Rattle.lib_os.proofs.PipesStand.{is_calm, is_calm_step}
 use Rattle.lib_os.proofs.Serving.{holds_page, served, step_in}
 use Rattle.lib_mem.specs.declared.services.MemoryService.{MemoryService}
 use Rattle.lib_mem.specs.declared.services.MemoryService.TheVariants as memory
@@ -49,6 +51,15 @@ hands_nothing (memory.PageNew va flags) hands = let contradiction : false ≡ tr
 hands_nothing (memory.PageDrop va) hands = let contradiction : false ≡ true = hands in cc
 hands_nothing memory.Unknown hands = let contradiction : false ≡ true = hands in cc
 
+-- nor does one of them take away a page before it goes back
+returns_nothing : (m : MemoryService) → goes_back (service_in m) ≡ true → ⊥
+returns_nothing (memory.Cputs va len) returns = let contradiction : false ≡ true = returns in cc
+returns_nothing memory.GetId returns = let contradiction : false ≡ true = returns in cc
+returns_nothing memory.Yield returns = let contradiction : false ≡ true = returns in cc
+returns_nothing (memory.PageNew va flags) returns = let contradiction : false ≡ true = returns in cc
+returns_nothing (memory.PageDrop va) returns = let contradiction : false ≡ true = returns in cc
+returns_nothing memory.Unknown returns = let contradiction : false ≡ true = returns in cc
+
 -- each of these services is one step
 own_in : (v : View) (k : Slot) (b : Born) (m : MemoryService) (t : Step) → StandsAtStep v k b (service_in m) t → IsIn k b (service_in m) entered
 own_in v k b (memory.Cputs va len) step.Entered h = h
@@ -64,7 +75,7 @@ own_in v k b m (step.LoadingBytes done count) h = absurd (hands_nothing m h.has.
 own_in v k b m (step.LoadingRest done count first) h = absurd (hands_nothing m h.has.hands)
 own_in v k b m (step.PuttingBytes done count word) h = absurd (hands_nothing m h.has.hands)
 own_in v k b m (step.FileFaulting done count) h = absurd (hands_nothing m h.0.hands)
-own_in v k b m (step.Returning answer) h = absurd (hands_nothing m h.hands)
+own_in v k b m (step.Returning answer) h = absurd (returns_nothing m h.goes)
 own_in v k b (memory.Cputs va len) _ h = absurd h
 own_in v k b memory.GetId _ h = absurd h
 own_in v k b memory.Yield _ h = absurd h
@@ -90,6 +101,22 @@ holds_none (memory.PageNew va flags) t = refl
 holds_none (memory.PageDrop va) t = refl
 holds_none memory.Unknown t = refl
 
+-- and does nothing to pipes
+calm_in : (v : View) (k : Slot) (b : Born) (m : MemoryService) (t : Step) → StandsAtStep v k b (service_in m) t → is_calm_step t ≡ true
+calm_in v k b (memory.Cputs va len) (step.Piped at) h = absurd h
+calm_in v k b (memory.Cputs va len) step.MappingDescriptor h = absurd h
+calm_in v k b memory.GetId (step.Piped at) h = absurd h
+calm_in v k b memory.GetId step.MappingDescriptor h = absurd h
+calm_in v k b memory.Yield (step.Piped at) h = absurd h
+calm_in v k b memory.Yield step.MappingDescriptor h = absurd h
+calm_in v k b (memory.PageNew va flags) (step.Piped at) h = absurd h
+calm_in v k b (memory.PageNew va flags) step.MappingDescriptor h = absurd h
+calm_in v k b (memory.PageDrop va) (step.Piped at) h = absurd h
+calm_in v k b (memory.PageDrop va) step.MappingDescriptor h = absurd h
+calm_in v k b memory.Unknown (step.Piped at) h = absurd h
+calm_in v k b memory.Unknown step.MappingDescriptor h = absurd h
+calm_in v k b m _ h = refl
+
 -- an environment that is in one of them
 pub record IsHere (names : Names) (s : KernelState) (a : AbstractState) (n : ℕ) (service : Service) : Type 0 where
   pub b : Born
@@ -98,6 +125,7 @@ pub record IsHere (names : Names) (s : KernelState) (a : AbstractState) (n : ℕ
   pub outside : is_handlers (slot_at s n).registers.esp ≡ false
   pub unborne : borne_in (place_of (slot_at s n)) ≡ None
   pub holds : holds_page (place_of (slot_at s n)) ≡ false
+  pub calm : is_calm (place_of (slot_at s n)) ≡ true
   pub at : IsIn (slot_at s n) b service entered
   pub goes : abs_step a n ≡ library_step a n b (slot_at s n).registers service entered
 
@@ -113,6 +141,7 @@ here {s = s} {a = a} h n m step at =
       outside = begun.outside;
       unborne = ap borne_in begun.place ∙ bears_none m step;
       holds = ap holds_page begun.place ∙ holds_none m step;
+      calm = ap is_calm begun.place ∙ calm_in (view_of s.spaces (slot_at s n).directory) (slot_at s n) begun.b m step begun.at;
       at = is_in;
       goes = step_in a n begun.b (slot_at s n) (service_in m) entered begun.is is_in;
     }
@@ -121,24 +150,26 @@ here {s = s} {a = a} h n m step at =
 
 -- whoever is in a service of this slot goes back to its program with an answer
 pub answer_stands : {names : Names} {s : KernelState} {a : AbstractState} → StandsFor names s a → (n : ℕ) (b : Born) → a.slots n ≡ born b →
-    borne_in (place_of (slot_at s n)) ≡ None → holds_page (place_of (slot_at s n)) ≡ false → (slot_at s n).rendezvous.receiving ≡ false →
+    borne_in (place_of (slot_at s n)) ≡ None → holds_page (place_of (slot_at s n)) ≡ false → is_calm (place_of (slot_at s n)) ≡ true →
+    (slot_at s n).rendezvous.receiving ≡ false →
     b.blocked ≡ false → is_handlers (slot_at s n).registers.esp ≡ false → (word : ℕ) →
     StandsFor names (service_answered s n word) (back_with a n b (record (slot_at s n).registers { eax = word }))
-answer_stands {s = s} h n b at unborne holds silent awake outside word =
-    back_stands h n b at (record (slot_at s n).registers { eax = word }) unborne holds silent awake outside refl refl
+answer_stands {s = s} h n b at unborne holds calm silent awake outside word =
+    back_stands h n b at (record (slot_at s n).registers { eax = word }) unborne holds calm silent awake outside refl refl
 
 born_twice : (a : AbstractState) (n : ℕ) (b c : Born) → with_born (with_born a n b) n c ≡ with_born a n c
 born_twice a n b c = λ i. record a { slots = upd-twice a.slots n (born b) (born c) i }
 
 -- the same where its own part has changed before
 pub changed_stands : {names : Names} {s : KernelState} (a : AbstractState) (n : ℕ) (b : Born) → StandsFor names s (with_born a n b) →
-    borne_in (place_of (slot_at s n)) ≡ None → holds_page (place_of (slot_at s n)) ≡ false → (slot_at s n).rendezvous.receiving ≡ false →
+    borne_in (place_of (slot_at s n)) ≡ None → holds_page (place_of (slot_at s n)) ≡ false → is_calm (place_of (slot_at s n)) ≡ true →
+    (slot_at s n).rendezvous.receiving ≡ false →
     b.blocked ≡ false → is_handlers (slot_at s n).registers.esp ≡ false → (word : ℕ) →
     StandsFor names (service_answered s n word) (back_with a n b (record (slot_at s n).registers { eax = word }))
-changed_stands {names = names} {s = s} a n b h unborne holds silent awake outside word =
+changed_stands {names = names} {s = s} a n b h unborne holds calm silent awake outside word =
     let back = record b { program = guest (record (slot_at s n).registers { eax = word }); phase = at_guest; blocked = false } in
     subst (λ (x : AbstractState). StandsFor names (service_answered s n word) x) (born_twice a n b back)
-    (answer_stands h n b (upd-at a.slots n (born b)) unborne holds silent awake outside word)
+    (answer_stands h n b (upd-at a.slots n (born b)) unborne holds calm silent awake outside word)
 
 -- ---- the call
 
@@ -147,7 +178,7 @@ changed_stands {names = names} {s = s} a n b h unborne holds silent awake outsid
 abbrev pub Leads : KernelState → ℕ → List ℕ → KernelState → KernelState → AbstractState → Type 0
 Leads s n written state last a =
     (b : AbstractState) × (abs_step a n ≡ Some b) × (b.console ≡ a.console ++ written)
-    × (IsInOrder state → NothingRefused s last → Stands last b)
+    × (IsInOrder state → s.last ≡ Some n → NothingRefused s last → Stands last b)
 
 -- a call that answers in a state, and one that ends the environment
 abbrev pub telling : KernelState → ℕ → List ℕ → CallStep Called

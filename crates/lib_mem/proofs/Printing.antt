@@ -70,10 +70,10 @@ module _ (s : KernelState) (n va len : ℕ) (step : Step) (rest : List ℕ) (liv
           printed a n i.b regs (Ok bytes),
           i.goes ∙ goes h i ∙ ap (λ (r : Result (List ℕ) PageFault). Some (printed a n i.b regs r)) is,
           refl,
-          λ in_order quiet. (
+          λ in_order last quiet. (
             names,
             answer_stands (printed_stands (quiet_stands h (all_touched_quiet s.spaces (slot_at s n).directory va len) in_order) bytes)
-                n i.b i.is i.unborne i.holds i.at.silent i.at.awake i.outside 0,
+                n i.b i.is i.unborne i.holds i.calm i.at.silent i.at.awake i.outside 0,
           ),
         )
 
@@ -91,9 +91,9 @@ module _ (s : KernelState) (n va len : ℕ) (step : Step) (rest : List ℕ) (liv
           printed a n i.b regs (Err fault),
           i.goes ∙ goes h i ∙ ap (λ (r : Result (List ℕ) PageFault). Some (printed a n i.b regs r)) is,
           ap (λ (l : List ℕ). a.console ++ l) same,
-          λ in_order quiet. (
+          λ in_order last quiet. (
             names,
-            printed_stands (ended_stands h n i.b i.is i.unborne
+            printed_stands (ended_stands h n i.b i.is i.unborne i.calm last
                 (destroyed_gone s.spaces (slot_at s n).directory h.in_order.frames
                 (directory_is (s.spaces.uses (slot_at s n).directory) (h.in_order.spaces.in_use n live))) in_order)
                 (line_text i.b.id (UserMemCheck fault.va)),

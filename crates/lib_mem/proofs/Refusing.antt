@@ -68,5 +68,5 @@ module _ (s : KernelState) (n : ℕ) (m : MemoryService) (step : Step)
         refused a n i.b (slot_at s n).registers E_INVAL,
         i.goes ∙ refused_step a n i.b (slot_at s n).registers m is,
         printed_nothing a,
-        λ in_order quiet. (names, answer_stands h n i.b i.is i.unborne i.holds i.at.silent i.at.awake i.outside (negated E_INVAL)),
+        λ in_order last quiet. (names, answer_stands h n i.b i.is i.unborne i.holds i.calm i.at.silent i.at.awake i.outside (negated E_INVAL)),
       )

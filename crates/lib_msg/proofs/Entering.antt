@@ -18,11 +18,13 @@ use Rattle.lib_os.specs.LibraryCall.{library_step}
 use Rattle.lib_os.specs.LibrarySteps.{KeepsStanding}
 use Rattle.lib_os.specs.Places.{place_of, words_at}
 use Rattle.lib_os.specs.Rows.{Names}
-use Rattle.lib_os.specs.StandsFor.{StandsFor, IsIn, IsAboutToWait, destination_of, borne_in}
+use Rattle.lib_os.specs.InService.{IsIn}
+use Rattle.lib_os.specs.StandsFor.{StandsFor, IsAboutToWait, destination_of, borne_in}
 use Rattle.lib_os.specs.UserCalls.{system}
 use Rattle.lib_os.proofs.Answering.{back_stands}
 use Rattle.lib_os.proofs.GoingOn.{in_with_words, words_stand}
 use Rattle.lib_os.proofs.Numbered.{named_at}
+use Rattle.lib_os.proofs.PipesStand.{is_calm}
 use Rattle.lib_os.proofs.Receiving.{recv_stands}
 use Rattle.lib_os.proofs.Serving.{holds_page, printed_nothing, served, step_in}
 use Rattle.lib_stage.specs.declared.ask.Next.TheVariants as next
@@ -91,7 +93,7 @@ module _ (s : KernelState) (n va from : ℕ)
     where
       by_test : (t : Bool) → may_receive va from own ≡ t →
           let x = if not t then next.Answer (negated E_INVAL) else next.GoOn (step.Receiving own) in KeepsStanding (seen_as x) n s (settled SERVICE_RECEIVE x s n) []
-      by_test false off a h quiet =
+      by_test false off a h turn quiet =
           let v = served h.1 n (service.Receive va from) step.Entered stands in
           let here : IsIn (slot_at s n) v.b (service.Receive va from) entered = v.at in
           let regs = (slot_at s n).registers in (
@@ -99,9 +101,9 @@ module _ (s : KernelState) (n va from : ℕ)
             step_in a n v.b (slot_at s n) (service.Receive va from) entered v.is here
                 ∙ refused_step a n v.b regs va from own v.own.id (server_is h.1) off,
             printed_nothing a,
-            (h.0, back_stands h.1 n v.b v.is (record regs { eax = negated E_INVAL }) (ap borne_in v.place) (ap holds_page v.place) here.silent here.awake v.outside refl refl),
+            (h.0, back_stands h.1 n v.b v.is (record regs { eax = negated E_INVAL }) (ap borne_in v.place) (ap holds_page v.place) (ap is_calm v.place) here.silent here.awake v.outside refl refl),
           )
-      by_test true on a h quiet =
+      by_test true on a h turn quiet =
           let v = served h.1 n (service.Receive va from) step.Entered stands in
           let here : IsIn (slot_at s n) v.b (service.Receive va from) entered = v.at in
           let all = parts (is_page_or_none va) (from == own) (from == FIRST_ENV_ID) on in
@@ -110,7 +112,7 @@ module _ (s : KernelState) (n va from : ℕ)
             refl,
             (
               h.0,
-              words_stand h.1 n SERVICE_RECEIVE v.b v.is v.own v.outside (ap borne_in v.place) (service.Receive va from) (step.Receiving own) (ap holds_page v.place) refl
+              words_stand h.1 n SERVICE_RECEIVE v.b v.is v.own v.outside (ap borne_in v.place) (ap is_calm v.place) (service.Receive va from) (step.Receiving own) (ap holds_page v.place) refl refl
                   (named_at (slot_at s n) (service.Receive va from) step.Entered stands)
                   (record {
                     is_in = in_with_words (words_at SERVICE_RECEIVE (step.Receiving own)) here;
@@ -129,7 +131,7 @@ module _ (s : KernelState) (n va from id : ℕ)
   mid = (system s n SYS_IPC_RECV (destination_of va ∷ from ∷ 0 ∷ 0 ∷ 0 ∷ [])).state
 
   pub waiting_keeps : KeepsStanding progress.Visible n s (with_extra mid n (words_at SERVICE_RECEIVE (step.ReadingValue id))) []
-  waiting_keeps a h quiet =
+  waiting_keeps a h turn quiet =
       let v = served h.1 n (service.Receive va from) (step.Receiving id) stands in
       let at : IsAboutToWait (slot_at s n) v.b va from id = v.at in (
         with_born a n (waiting v.b va from),
@@ -140,7 +142,7 @@ module _ (s : KernelState) (n va from id : ℕ)
           h.0,
           subst (λ (b : AbstractState). StandsFor h.0 (with_extra mid n (words_at SERVICE_RECEIVE (step.ReadingValue id))) b)
               (receive_waits a n v.b (slot_at s n).registers va from at.page (at.other.0) (λ e. at.other.1 (e ∙ server_is h.1)))
-              (recv_stands h.1 n v.b v.is v.outside (ap borne_in v.place) (ap holds_page v.place) va from id (0 ∷ 0 ∷ 0 ∷ []) at
+              (recv_stands h.1 n v.b v.is v.outside (ap borne_in v.place) (ap holds_page v.place) (ap is_calm v.place) va from id (0 ∷ 0 ∷ 0 ∷ []) at
               (named_at (slot_at s n) (service.Receive va from) (step.Receiving id) stands) mid refl),
         ),
       )

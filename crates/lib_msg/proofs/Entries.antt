@@ -26,6 +26,7 @@ use Rattle.lib_os.proofs.GoingOn.{in_with_words, words_stand}
 use Rattle.lib_os.proofs.Loading.{loaded}
 use Rattle.lib_os.proofs.Looking.{refused_missing, refused_kept, may_send_it}
 use Rattle.lib_os.proofs.Numbered.{named_at}
+use Rattle.lib_os.proofs.PipesStand.{is_calm}
 use Rattle.lib_os.proofs.Serving.{IsServed, holds_page, printed_nothing, served}
 use Rattle.lib_os.proofs.SlotsStand.{born_at}
 use Rattle.lib_os.proofs.StatesStand.{quiet_stands}
@@ -82,7 +83,7 @@ module _ (s : KernelState) (n id value va : ℕ)
         abstract_system.refused a n v.b (slot_at s n).registers E_INVAL,
         is,
         printed_nothing a,
-        (names, back_stands there n v.b v.is (record (slot_at s n).registers { eax = negated E_INVAL }) (ap borne_in v.place) (ap holds_page v.place) at.is_in.silent at.is_in.awake v.outside refl refl),
+        (names, back_stands there n v.b v.is (record (slot_at s n).registers { eax = negated E_INVAL }) (ap borne_in v.place) (ap holds_page v.place) (ap is_calm v.place) at.is_in.silent at.is_in.awake v.outside refl refl),
       )
 
       by_tests : (t u : Bool) → (bit_and word PTE_P == PTE_P) ≡ t → (is_shared bits || not (may_write bits)) ≡ u →
@@ -94,7 +95,7 @@ module _ (s : KernelState) (n id value va : ℕ)
         refl,
         (
           names,
-          words_stand there n SERVICE_SEND v.b v.is (born_at there n v.b v.is) v.outside (ap borne_in v.place) (service.Send id value va) (step.Trying bits) (ap holds_page v.place) refl
+          words_stand there n SERVICE_SEND v.b v.is (born_at there n v.b v.is) v.outside (ap borne_in v.place) (ap is_calm v.place) (service.Send id value va) (step.Trying bits) (ap holds_page v.place) refl refl
               (named_at (slot_at s n) (service.Send id value va) step.ReadingEntry stands)
               (record {
                 is_in = in_with_words (words_at SERVICE_SEND (step.Trying bits)) at.is_in;

@@ -28,7 +28,8 @@ use Rattle.lib_os.specs.LibraryCall.{library_step}
 use Rattle.lib_os.specs.LibrarySteps.{AbstractFollows, KeepsStanding, service_answered}
 use Rattle.lib_os.specs.Places.{place_of, words_at}
 use Rattle.lib_os.specs.Rows.{Names, EntryRow, rows_of, lasting, page_seen}
-use Rattle.lib_os.specs.StandsFor.{StandsFor, IsIn, IsLooking, MaySend, MaySendBy, StandsAtStep, view_of, borne_in}
+use Rattle.lib_os.specs.InService.{IsIn}
+use Rattle.lib_os.specs.StandsFor.{StandsFor, IsLooking, MaySend, MaySendBy, StandsAtStep, view_of, borne_in}
 use Rattle.lib_os.specs.UserCalls.{load}
 use Rattle.lib_os.proofs.Answering.{back_stands}
 use Rattle.lib_os.proofs.EntriesStand.{seen_none}
@@ -37,6 +38,7 @@ use Rattle.lib_os.proofs.Fences.{page_inside_below}
 use Rattle.lib_os.proofs.GoingOn.{in_with_words, words_stand}
 use Rattle.lib_os.proofs.Loading.{loaded}
 use Rattle.lib_os.proofs.Numbered.{named_at}
+use Rattle.lib_os.proofs.PipesStand.{is_calm, is_calm_step}
 use Rattle.lib_os.proofs.Serving.{IsServed, holds_page, printed_nothing, served, step_in}
 use Rattle.lib_os.proofs.SlotsStand.{born_at}
 use Rattle.lib_os.proofs.StatesStand.{quiet_stands}
@@ -101,27 +103,27 @@ module _ (s : KernelState) (n id value va : ℕ)
   refused_so : ((names : Names) (a : AbstractState) → StandsFor names s a → (b : Born) → own ≡ b.id →
       library_step a n b (slot_at s n).registers (service.Send id value va) entered ≡ Some (abstract_system.refused a n b (slot_at s n).registers E_INVAL)) →
       KeepsStanding progress.Finished n s (service_answered s n (negated E_INVAL)) []
-  refused_so why a h quiet =
+  refused_so why a h turn quiet =
       let v = served h.1 n (service.Send id value va) step.Entered stands in
       let here : IsIn (slot_at s n) v.b (service.Send id value va) entered = v.at in
       let regs = (slot_at s n).registers in (
         abstract_system.refused a n v.b regs E_INVAL,
         step_in a n v.b (slot_at s n) (service.Send id value va) entered v.is here ∙ why h.0 a h.1 v.b v.own.id,
         printed_nothing a,
-        (h.0, back_stands h.1 n v.b v.is (record regs { eax = negated E_INVAL }) (ap borne_in v.place) (ap holds_page v.place) here.silent here.awake v.outside refl refl),
+        (h.0, back_stands h.1 n v.b v.is (record regs { eax = negated E_INVAL }) (ap borne_in v.place) (ap holds_page v.place) (ap is_calm v.place) here.silent here.awake v.outside refl refl),
       )
 
   -- it goes on, where what is to stand there does
-  goes_so : (to : Step) → ((names : Names) (a : AbstractState) → StandsFor names s a → (b : Born) → own ≡ b.id →
+  goes_so : (to : Step) → is_calm_step to ≡ true → ((names : Names) (a : AbstractState) → StandsFor names s a → (b : Born) → own ≡ b.id →
       IsIn (slot_at s n) b (service.Send id value va) entered →
       StandsAtStep (view_of s.spaces (slot_at s n).directory) (record (slot_at s n) { extra = words_at SERVICE_SEND to }) b (service.Send id value va) to) →
       KeepsStanding progress.Hidden n s (with_extra s n (words_at SERVICE_SEND to)) []
-  goes_so to there a h quiet =
+  goes_so to calm there a h turn quiet =
       let v = served h.1 n (service.Send id value va) step.Entered stands in (
         refl,
         (
           h.0,
-          words_stand h.1 n SERVICE_SEND v.b v.is v.own v.outside (ap borne_in v.place) (service.Send id value va) to (ap holds_page v.place) refl
+          words_stand h.1 n SERVICE_SEND v.b v.is v.own v.outside (ap borne_in v.place) (ap is_calm v.place) (service.Send id value va) to (ap holds_page v.place) refl calm
               (named_at (slot_at s n) (service.Send id value va) step.Entered stands) (there h.0 a h.1 v.b v.own.id v.at),
         ),
       )
@@ -142,7 +144,7 @@ module _ (s : KernelState) (n id value va : ℕ)
           refused_so (λ names a h b e. nobody_step a n b (slot_at s n).registers id value va own e (server_is h) off)
       by_tests true true v on none inside =
           let all = named_parts id own on in
-          goes_so (step.Trying 0) (λ names a h b e here. record {
+          goes_so (step.Trying 0) refl (λ names a h b e here. record {
             is_in = in_with_words (words_at SERVICE_SEND (step.Trying 0)) here;
             some = all.0;
             other = (λ x. all.1 (x ∙ sym e), all.2);
@@ -154,7 +156,7 @@ module _ (s : KernelState) (n id value va : ℕ)
           (outside b va (grind (arith, nat_tests)) off))
       by_tests true false true on some inside =
           let all = named_parts id own on in
-          goes_so step.ReadingRegion (λ names a h b e here. record {
+          goes_so step.ReadingRegion refl (λ names a h b e here. record {
             is_in = in_with_words (words_at SERVICE_SEND step.ReadingRegion) here;
             some = all.0;
             other = (λ x. all.1 (x ∙ sym e), all.2);
@@ -220,7 +222,7 @@ module _ (s : KernelState) (n id value va : ℕ)
                 ∙ no_page_step a n v.b regs id value va at.some (at.other.0) (λ x. at.other.1 (x ∙ server_is h))
                 (missing v.b va at.somewhere at.inside no_page),
             printed_nothing a,
-            (names, back_stands there n v.b v.is (record regs { eax = negated E_INVAL }) (ap borne_in v.place) (ap holds_page v.place) at.is_in.silent at.is_in.awake v.outside refl refl),
+            (names, back_stands there n v.b v.is (record regs { eax = negated E_INVAL }) (ap borne_in v.place) (ap holds_page v.place) (ap is_calm v.place) at.is_in.silent at.is_in.awake v.outside refl refl),
           )
       by_test true present =
           let known : is_some ((loaded s n address).spaces.regions (slot_at s n).directory (va / PGSIZE / NPTENTRIES)) ≡ true =
@@ -229,7 +231,7 @@ module _ (s : KernelState) (n id value va : ℕ)
             refl,
             (
               names,
-              words_stand there n SERVICE_SEND v.b v.is (born_at there n v.b v.is) v.outside (ap borne_in v.place) (service.Send id value va) step.ReadingEntry (ap holds_page v.place) refl
+              words_stand there n SERVICE_SEND v.b v.is (born_at there n v.b v.is) v.outside (ap borne_in v.place) (ap is_calm v.place) (service.Send id value va) step.ReadingEntry (ap holds_page v.place) refl refl
                   (named_at (slot_at s n) (service.Send id value va) step.ReadingRegion stands) (
                     record {
                       is_in = in_with_words (words_at SERVICE_SEND step.ReadingEntry) at.is_in;

@@ -26,6 +26,7 @@ use Rattle.lib_os.proofs.Answering.{back_stands}
 use Rattle.lib_os.proofs.GoingOn.{words_stand}
 use Rattle.lib_os.proofs.Loading.{loaded}
 use Rattle.lib_os.proofs.Numbered.{named_at}
+use Rattle.lib_os.proofs.PipesStand.{is_calm}
 use Rattle.lib_os.proofs.Serving.{holds_page, printed_nothing, served, service_step}
 use Rattle.lib_os.proofs.SlotsStand.{born_at, born_live}
 use Rattle.lib_os.proofs.StatesStand.{quiet_stands}
@@ -116,7 +117,7 @@ module _ (s : KernelState) (n va from id : ℕ) where
           refl,
           (
             names,
-            words_stand there n SERVICE_RECEIVE v.b v.is (born_at there n v.b v.is) v.outside (ap borne_in v.place) (service.Receive va from) to (ap holds_page v.place) refl
+            words_stand there n SERVICE_RECEIVE v.b v.is (born_at there n v.b v.is) v.outside (ap borne_in v.place) (ap is_calm v.place) (service.Receive va from) to (ap holds_page v.place) refl refl
                 (named_at k (service.Receive va from) (step.ReadingValue id) stands)
                 (at.0, refl, with_words_received (words_at SERVICE_RECEIVE to) (came v.b v.own.runs at)),
           ),
@@ -142,7 +143,7 @@ module _ (s : KernelState) (n va from id : ℕ) where
           refl,
           (
             names,
-            words_stand there n SERVICE_RECEIVE v.b v.is (born_at there n v.b v.is) v.outside (ap borne_in v.place) (service.Receive va from) to (ap holds_page v.place) refl
+            words_stand there n SERVICE_RECEIVE v.b v.is (born_at there n v.b v.is) v.outside (ap borne_in v.place) (ap is_calm v.place) (service.Receive va from) to (ap holds_page v.place) refl refl
                 (named_at k (service.Receive va from) (step.ReadingSender id value) stands)
                 (at.0, at.1, refl, with_words_received (words_at SERVICE_RECEIVE to) (at.2)),
           ),
@@ -188,6 +189,6 @@ module _ (s : KernelState) (n va from id : ℕ) where
           (
             names,
             subst (λ (t : KernelState). StandsFor names t (received_answer a n v.b it.regs it.message)) (sym state_is)
-                (back_stands (still_stands address h order) n v.b v.is told (ap borne_in v.place) (ap holds_page v.place) it.silent it.awake v.outside stack flags),
+                (back_stands (still_stands address h order) n v.b v.is told (ap borne_in v.place) (ap holds_page v.place) (ap is_calm v.place) it.silent it.awake v.outside stack flags),
           ),
         )

@@ -209,6 +209,7 @@ module _ (s : KernelState) (n id value va : ℕ) (live : is_live (slot_at s n) �
     send_holds (step.OpenAwaiting own kept) stands = law_of_nowhere s n (service.Send id value va) (step.OpenAwaiting own kept) stands refl (λ view k b h. h)
     send_holds (step.OpenClearing own kept) stands = law_of_nowhere s n (service.Send id value va) (step.OpenClearing own kept) stands refl (λ view k b h. h)
     send_holds (step.ReadingOpened own kept) stands = law_of_nowhere s n (service.Send id value va) (step.ReadingOpened own kept) stands refl (λ view k b h. h)
+    send_holds (step.Piped at) stands = law_of_nowhere s n (service.Send id value va) (step.Piped at) stands refl (λ view k b h. h)
     send_holds (step.CountingReply own) stands = law_of_nowhere s n (service.Send id value va) (step.CountingReply own) stands refl (λ view k b h. let contradiction : false ≡ true = h.hands in cc)
     send_holds (step.FileRegion done count) stands = law_of_nowhere s n (service.Send id value va) (step.FileRegion done count) stands refl (λ view k b h. let contradiction : false ≡ true = h.hands in cc)
     send_holds (step.FileEntry done count) stands = law_of_nowhere s n (service.Send id value va) (step.FileEntry done count) stands refl (λ view k b h. let contradiction : false ≡ true = h.0.hands in cc)
@@ -216,4 +217,4 @@ module _ (s : KernelState) (n id value va : ℕ) (live : is_live (slot_at s n) �
     send_holds (step.LoadingRest done count first) stands = law_of_nowhere s n (service.Send id value va) (step.LoadingRest done count first) stands refl (λ view k b h. let contradiction : false ≡ true = h.has.hands in cc)
     send_holds (step.PuttingBytes done count word) stands = law_of_nowhere s n (service.Send id value va) (step.PuttingBytes done count word) stands refl (λ view k b h. let contradiction : false ≡ true = h.has.hands in cc)
     send_holds (step.FileFaulting done count) stands = law_of_nowhere s n (service.Send id value va) (step.FileFaulting done count) stands refl (λ view k b h. let contradiction : false ≡ true = h.0.hands in cc)
-    send_holds (step.Returning answer) stands = law_of_nowhere s n (service.Send id value va) (step.Returning answer) stands refl (λ view k b h. let contradiction : false ≡ true = h.hands in cc)
+    send_holds (step.Returning answer) stands = law_of_nowhere s n (service.Send id value va) (step.Returning answer) stands refl (λ view k b h. let contradiction : false ≡ true = h.goes in cc)

@@ -18,14 +18,16 @@ use Rattle.lib_os.specs.LibrarySteps.{AbstractFollows, KeepsStanding, NothingRef
 use Rattle.lib_os.specs.Places.{place_of, words_at, is_handlers}
 use Rattle.lib_os.specs.Services.{service_of}
 use Rattle.lib_os.specs.Rows.{rows_of}
-use Rattle.lib_os.specs.StandsFor.{StandsFor, IsIn, IsTrying, destination_of, borne_in}
+use Rattle.lib_os.specs.InService.{IsIn}
+use Rattle.lib_os.specs.StandsFor.{StandsFor, IsTrying, destination_of, borne_in}
 use Rattle.lib_os.specs.UserCalls.{CallStep, system}
 use Rattle.lib_os.proofs.Calls.{refusal_is_seen}
 use Rattle.lib_os.proofs.GoingOn.{in_with_words, words_stand}
 use Rattle.jos_base.proofs.Maps.{upd-at}
 use Rattle.lib_os.proofs.Numbered.{named_at}
+use Rattle.lib_os.proofs.PipesStand.{is_calm}
 use Rattle.lib_os.proofs.Serving.{holds_page, printed_nothing, served}
-use Rattle.lib_os.proofs.SlotsStand.{born_at}
+use Rattle.lib_os.proofs.SlotsStand.{born_at, is_piped}
 use Rattle.lib_os.proofs.StatesStand.{status_stands}
 use Rattle.lib_os.proofs.Tried.{HasTried, goes_on, not_yet, no_table, tried}
 use Rattle.lib_os.proofs.Trying.{IsAnswered, try_send_answered}
@@ -39,7 +41,7 @@ use Rattle.lib_msg.specs.SendStages.{next_of}
 module _ (s : KernelState) (n id value va perm : ℕ)
     (stands : place_of (slot_at s n) ≡ place.InService (service.Send id value va) (step.Pausing perm)) where
   pub pausing_keeps : KeepsStanding progress.Hidden n s (with_extra (with_status s n Runnable) n (words_at SERVICE_SEND (step.Trying perm))) []
-  pausing_keeps a h quiet =
+  pausing_keeps a h turn quiet =
       let v = served h.1 n (service.Send id value va) (step.Pausing perm) stands in
       let at : IsTrying (rows_of s.spaces (slot_at s n).directory) (slot_at s n) v.b id value va perm = v.at in
       let ran = status_stands h.1 n v.b v.is at.is_in.awake in
@@ -54,8 +56,9 @@ module _ (s : KernelState) (n id value va perm : ℕ)
           h.0,
           words_stand ran n SERVICE_SEND v.b v.is (born_at ran n v.b v.is)
               (ap (λ (x : Slot). is_handlers x.registers.esp) slot_is ∙ v.outside)
-              (ap (λ (x : Slot). borne_in (place_of x)) slot_is ∙ ap borne_in v.place) (service.Send id value va) (step.Trying perm)
-              (ap (λ (x : Slot). holds_page (place_of x)) slot_is ∙ ap holds_page v.place) refl
+              (ap (λ (x : Slot). borne_in (place_of x)) slot_is ∙ ap borne_in v.place)
+              (ap (λ (x : Slot). is_calm (place_of x)) slot_is ∙ ap is_calm v.place) (service.Send id value va) (step.Trying perm)
+              (ap (λ (x : Slot). holds_page (place_of x)) slot_is ∙ ap holds_page v.place) refl refl
               (subst (λ (x : Slot). service_of (record x.registers { eax = SERVICE_SEND }) ≡ service.Send id value va) (sym slot_is)
               (named_at (slot_at s n) (service.Send id value va) (step.Pausing perm) stands))
               (subst (λ (x : Slot). IsTrying (rows_of s.spaces x.directory) (record x { extra = w }) v.b id value va perm) (sym slot_is)
@@ -79,12 +82,13 @@ module _ (s : KernelState) (n id value va perm : ℕ)
 
   pub trying_keeps : IsInOrder mid →
       let x = next_of id va (stage.Trying perm) sent.answer in KeepsStanding (seen_as x) n s (settled SERVICE_SEND x mid n) []
-  trying_keeps order a h quiet = by_test (sent.answer == negated E_IPC_NOT_RECV) refl quiet
+  trying_keeps order a h turn quiet = by_test (sent.answer == negated E_IPC_NOT_RECV) refl quiet
     where
       outcome : HasTried h.0 s mid a n sent.answer
       outcome =
           let v = served h.1 n (service.Send id value va) (step.Trying perm) stands in
-          tried h.1 n v.b v.is id value va perm (0 ∷ []) v.at small v.outside (ap borne_in v.place) (ap holds_page v.place) mid sent.answer sent.gives refl order
+          tried h.1 n v.b v.is id value va perm (0 ∷ []) v.at small v.outside (ap borne_in v.place) (ap holds_page v.place)
+          (ap is_calm v.place) (ap is_piped v.place) turn.last mid sent.answer sent.gives refl order
 
       waits : sent.answer ≡ negated E_IPC_NOT_RECV → HasTried h.0 s mid a n sent.answer →
           AbstractFollows progress.Waited n (with_extra mid n (words_at SERVICE_SEND (step.Pausing perm))) a []
@@ -99,7 +103,7 @@ module _ (s : KernelState) (n id value va perm : ℕ)
               (
                 h.0,
                 subst (λ (t : KernelState). StandsFor h.0 (with_extra t n words) a) (sym mid_is)
-                    (words_stand h.1 n SERVICE_SEND v.b v.is v.own v.outside (ap borne_in v.place) (service.Send id value va) (step.Pausing perm) (ap holds_page v.place) refl
+                    (words_stand h.1 n SERVICE_SEND v.b v.is v.own v.outside (ap borne_in v.place) (ap is_calm v.place) (service.Send id value va) (step.Pausing perm) (ap holds_page v.place) refl refl
                     (named_at (slot_at s n) (service.Send id value va) (step.Trying perm) stands)
                     (record { is_in = in_with_words words at.is_in; some = at.some; other = at.other; page = at.page })),
               ),

@@ -49,6 +49,7 @@ module _ (s : KernelState) (n fd : ℕ) (live : is_live (slot_at s n) ≡ true) 
     seek_holds (step.Awaiting id) stands = awaiting_holds s n seek refl live id stands
     seek_holds (step.Clearing id) stands = clearing_holds s n seek refl live awake id stands
     seek_holds (step.ReadingReply id) stands = reading_holds s n seek refl live id stands
+    seek_holds (step.Piped at) stands = no_seek (step.Piped at) stands refl (λ view k b h. h)
     seek_holds (step.Trying perm) stands = no_seek (step.Trying perm) stands refl (λ view k b h. h)
     seek_holds step.ReadingRegion stands = no_seek step.ReadingRegion stands refl (λ view k b h. h)
     seek_holds step.ReadingEntry stands = no_seek step.ReadingEntry stands refl (λ view k b h. h)
@@ -99,7 +100,7 @@ module _ (s : KernelState) (n fd : ℕ) (live : is_live (slot_at s n) ≡ true) 
     seek_holds (step.FileFaulting done count) stands =
         no_seek (step.FileFaulting done count) stands refl (λ view k b h. let contradiction : false ≡ true = h.0.hands in cc)
     seek_holds (step.Returning answer) stands =
-        no_seek (step.Returning answer) stands refl (λ view k b h. let contradiction : false ≡ true = h.hands in cc)
+        no_seek (step.Returning answer) stands refl (λ view k b h. let contradiction : false ≡ true = h.goes in cc)
     seek_holds (step.Delivering done word) stands = no_seek (step.Delivering done word) stands refl (λ view k b h. h)
     seek_holds (step.Faulting done word) stands = no_seek (step.Faulting done word) stands refl (λ view k b h. h)
     seek_holds step.TakingRequest stands = no_seek step.TakingRequest stands refl (λ view k b h. h)
@@ -131,6 +132,7 @@ module _ (s : KernelState) (n fd : ℕ) (live : is_live (slot_at s n) ≡ true) 
     set_size_holds (step.Awaiting id) stands = awaiting_holds s n set_size refl live id stands
     set_size_holds (step.Clearing id) stands = clearing_holds s n set_size refl live awake id stands
     set_size_holds (step.ReadingReply id) stands = reading_holds s n set_size refl live id stands
+    set_size_holds (step.Piped at) stands = no_set_size (step.Piped at) stands refl (λ view k b h. h)
     set_size_holds (step.Trying perm) stands = no_set_size (step.Trying perm) stands refl (λ view k b h. h)
     set_size_holds step.ReadingRegion stands = no_set_size step.ReadingRegion stands refl (λ view k b h. h)
     set_size_holds step.ReadingEntry stands = no_set_size step.ReadingEntry stands refl (λ view k b h. h)
@@ -181,7 +183,7 @@ module _ (s : KernelState) (n fd : ℕ) (live : is_live (slot_at s n) ≡ true) 
     set_size_holds (step.FileFaulting done count) stands =
         no_set_size (step.FileFaulting done count) stands refl (λ view k b h. let contradiction : false ≡ true = h.0.hands in cc)
     set_size_holds (step.Returning answer) stands =
-        no_set_size (step.Returning answer) stands refl (λ view k b h. let contradiction : false ≡ true = h.hands in cc)
+        no_set_size (step.Returning answer) stands refl (λ view k b h. let contradiction : false ≡ true = h.goes in cc)
     set_size_holds (step.Delivering done word) stands = no_set_size (step.Delivering done word) stands refl (λ view k b h. h)
     set_size_holds (step.Faulting done word) stands = no_set_size (step.Faulting done word) stands refl (λ view k b h. h)
     set_size_holds step.TakingRequest stands = no_set_size step.TakingRequest stands refl (λ view k b h. h)

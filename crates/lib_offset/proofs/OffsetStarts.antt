@@ -36,6 +36,7 @@ use Rattle.lib_os.proofs.Loading.{loaded}
 use Rattle.lib_os.proofs.Numbered.{named_at}
 use Rattle.lib_os.proofs.PageTaken.{take_holds, take_lives, working_perm}
 use Rattle.lib_os.proofs.PathTaken.{path_untaken_keeps}
+use Rattle.lib_os.proofs.PipeBegun.{seek_unsupported, set_size_unsupported}
 use Rattle.lib_os.proofs.RequestPages.{asks_with_page}
 use Rattle.lib_stage.specs.declared.ask.Ask.TheVariants as ask
 use Rattle.lib_stage.specs.declared.ask.Next.{Next}
@@ -79,6 +80,7 @@ module _ (s : KernelState) (n fd : ℕ) (live : is_live (slot_at s n) ≡ true) 
         (if nat_lt OFFSET_MAX offset then next.Answer (negated E_INVAL) else next.GoOn step.TakingPage) (near_falls (nat_lt OFFSET_MAX offset)))
         (λ names a h order word. seek_refuses_console s n fd h order offset stands word)
         (λ names a h order word. of_file names a h order word (nat_lt OFFSET_MAX offset) refl)
+        (λ names a h order word. seek_unsupported s n fd h word order offset stands)
 
   module _ (size : ℕ) where
     abbrev set_size : Service
@@ -91,6 +93,7 @@ module _ (s : KernelState) (n fd : ℕ) (live : is_live (slot_at s n) ≡ true) 
         (λ word. device_falls set_size (not (word == DEVICE_FILE)) (next.GoOn step.ReadingMode) (omega arith))
         (λ names a h order word. set_size_refuses_console s n fd h order size stands word)
         (λ names a h order word. (refl, (names, set_size_goes_on s n fd h order size stands word)))
+        (λ names a h order word. set_size_unsupported s n fd h word order size stands)
 
     -- ---- the mode
 

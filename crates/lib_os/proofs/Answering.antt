@@ -1,5 +1,6 @@
 -- After a service's answer the environment is back at its program, in both systems.
-use Rattle.std.proofs.Common.{None, ◌≡◌, ◌∙◌, ℕ, false, refl, ap}
+use Rattle.lib_os.proofs.PipesStand.{calm_places, calm_unmade, is_calm}
+use Rattle.std.proofs.Common.{None, ◌≡◌, ◌∙◌, ℕ, true, false, refl, ap}
 use Rattle.jos_base.specs.declared.registers.Regs.{Regs}
 use Rattle.jos_base.specs.Environments.{no_extra}
 use Rattle.jos_base.specs.KernelState.{KernelState, slot_at}
@@ -18,14 +19,17 @@ use Rattle.lib_os.proofs.StatesStand.{slot_changed}
 
 pub back_stands : {names : Names} {s : KernelState} {a : AbstractState} → StandsFor names s a → (n : ℕ) (b : Born) →
     a.slots n ≡ born b → (regs : Regs) → borne_in (place_of (slot_at s n)) ≡ None →
-    holds_page (place_of (slot_at s n)) ≡ false → (slot_at s n).rendezvous.receiving ≡ false → b.blocked ≡ false →
+    holds_page (place_of (slot_at s n)) ≡ false → is_calm (place_of (slot_at s n)) ≡ true → (slot_at s n).rendezvous.receiving ≡ false →
+    b.blocked ≡ false →
     is_handlers (slot_at s n).registers.esp ≡ false → regs.esp ≡ (slot_at s n).registers.esp →
     regs.eflags ≡ (slot_at s n).registers.eflags → StandsFor names (gone_back s n regs) (back_with a n b regs)
-back_stands {s = s} h n b at regs unborne holds silent awake outside stack flags =
+back_stands {s = s} h n b at regs unborne holds calm silent awake outside stack flags =
     let there : place_of (record (slot_at s n) { registers = regs; extra = no_extra }) ≡ place.Guest =
     words_of_none regs no_extra (ap is_handlers stack ∙ outside) refl in
     slot_changed h n b at (record (slot_at s n) { registers = regs; extra = no_extra })
     (record b { program = guest regs; phase = at_guest; blocked = false }) refl
-    (record { id = refl; env_type = refl; calm = λ runs. runs })
-    (unborne_plain (place_of (slot_at s n)) (handler_runs (slot_at s n).registers (slot_at s n).extra ∙ outside) unborne) (ap is_plain there)
-    (back_at_guest regs (born_at h n b at) holds silent awake outside stack flags)
+    (record { id = refl; env_type = refl; turns = refl; calm = λ runs. runs })
+    (unborne_plain (place_of (slot_at s n)) (handler_runs (slot_at s n).registers (slot_at s n).extra ∙ outside) unborne
+    (calm_unmade (place_of (slot_at s n)) calm)) (ap is_plain there)
+    (back_at_guest regs (born_at h n b at) holds calm silent awake outside stack flags)
+    (calm_places calm (ap is_calm there)) (λ fd. refl)

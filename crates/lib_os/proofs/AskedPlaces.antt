@@ -6,6 +6,8 @@ use Rattle.jos_base.specs.declared.numbers.TheConstants.{FIRST_ENV_ID}
 use Rattle.jos_base.specs.declared.registers.Regs.{Regs}
 use Rattle.jos_base.specs.Environments.{Slot}
 use Rattle.lib_os.specs.declared.place.HandlerStep.{HandlerStep}
+use Rattle.lib_os.specs.declared.place.PipeStep.{PipeStep}
+use Rattle.lib_os.specs.declared.place.PipeStep.TheVariants as pipe
 use Rattle.lib_os.specs.declared.place.Place.{Place}
 use Rattle.lib_os.specs.declared.place.Place.TheVariants as place
 use Rattle.lib_os.specs.declared.place.Step.{Step}
@@ -14,9 +16,11 @@ use Rattle.lib_os.specs.declared.service.Service.{Service}
 use Rattle.lib_os.specs.declared.service.Service.TheVariants as service
 use Rattle.lib_os.specs.AbstractState.{Born, Phase, Stage, asked, awaiting, entered, guest, in_service}
 use Rattle.lib_os.specs.LibraryPages.{View}
+use Rattle.lib_os.specs.InService.{IsIn}
+use Rattle.lib_os.specs.StandsAtPipe.{HasMoved, StandsAtPipe, StandsMoving, StandsOnPipe, stage_put, stage_taken}
 use Rattle.lib_os.specs.StandsFor.{AwaitsOrHasBytes, IsCounting, awaits_bytes, has_bytes}
-use Rattle.lib_os.specs.StandsInHandler.{HasBytes, answer_behind, buffer_of, handing, hands_back, in_handing, stage_behind}
-use Rattle.lib_os.specs.StandsFor.{AwaitsOrHas, HasAsked, HasReceived, IsAwaiting, IsBearing, IsIn, IsTaking, StandsAt, StandsAtDevice}
+use Rattle.lib_os.specs.StandsInHandler.{HandsAt, HasBytes, behind, by_reply, handing, hands_back, in_handing}
+use Rattle.lib_os.specs.StandsFor.{AwaitsOrHas, HasAsked, HasReceived, IsAwaiting, IsBearing, IsTaking, StandsAt, StandsAtDevice}
 use Rattle.lib_os.specs.StandsFor.{StandsAtStep, StandsBefore, WaitsOrHas, awaits, descriptor_given, has, has_reply, waits}
 use Rattle.lib_os.specs.StandsInHandler.{CopiesOrEnds, IsStoppedAt, StandsBeneath, StandsDelivering, at_program, copies, ends, in_delivery}
 use Rattle.lib_os.specs.StandsFor.{AsksOfFile, IsGatheringPath, IsTakingPath, AwaitsFileOrHas, IsAwaitingFile, awaits_file, has_opened}
@@ -158,13 +162,14 @@ at_device : (v : View) {k : Slot} {c : Born} (s : Service) (o : Option ℕ) → 
 at_device v s None h = absurd h
 at_device v s (Some fd) h = in_silence s h.is_in
 
--- it has bytes of a file
-handing_none : (s : Service) (va : ℕ) (bytes : List ℕ) (answer done : ℕ) → is_request (in_service s (stage_behind va bytes answer done)) ≡ false
-handing_none s va bytes answer zero = refl
-handing_none s va bytes answer (suc n) = refl
+-- it has bytes of a file, or of a pipe
+handed_none : {k : Slot} {c : Born} (s : Service) (bytes : List ℕ) (answer done : ℕ) (q : Phase) → c.phase ≡ q → HandsAt s bytes answer done q →
+    NoRequest k c
+handed_none s bytes answer _ _ same by_reply = phase_is _ same refl
+handed_none s bytes answer _ _ same (behind done) = phase_is _ same refl
 
 hands_bytes : {v : View} {k : Slot} {c : Born} (s : Service) (done count : ℕ) → HasBytes v k c s done count → NoRequest k c
-hands_bytes s done count h = phase_is _ h.phase (handing_none s (buffer_of s) h.bytes (answer_behind s count) done)
+hands_bytes {c = c} s done count h = handed_none s h.bytes _ done c.phase refl h.hands_at
 
 counts_bytes : (v : View) (k : Slot) (c : Born) (s : Service) (id : ℕ) → IsCounting v k c s id →
     NoRequest k c ⊎ IsRequesting (place.InService s (step.CountingReply id)) v k c
@@ -178,9 +183,116 @@ counts_bytes v k c s id h = by_service s h.hands h.so
     by_service (service.Stat fd va) hands (has_bytes so) = inl (phase_is _ so.phase refl)
     by_service _ hands so = absurd (let contradiction : false ≡ true = hands in cc)
 
+-- it moves bytes from or to a pipe
+taken_none : (s : Service) (bytes : List ℕ) → is_request (in_service s (stage_taken bytes)) ≡ false
+taken_none s [] = refl
+taken_none s (byte ∷ rest) = refl
+
+put_none : (s : Service) (bytes : List ℕ) (done : ℕ) → is_request (in_service s (stage_put bytes done)) ≡ false
+put_none s bytes zero = refl
+put_none s bytes (suc n) = refl
+
+moved_none : (v : View) (k : Slot) (c : Born) (s : Service) (done : ℕ) → HasMoved v k c s done → NoRequest k c
+moved_none v k c (service.Read fd va len) done h = phase_is _ h.is_in.phase (taken_none (service.Read fd va len) h.taken)
+moved_none v k c (service.Write fd va len) done h = phase_is _ h.is_in.phase (put_none (service.Write fd va len) h.bytes done)
+moved_none v k c _ done h = absurd h
+
+held_none : (v : View) (k : Slot) (c : Born) (s : Service) (done from : ℕ) → StandsMoving v k c s (pipe.LoadingHeld done from) → NoRequest k c
+held_none v k c (service.Read fd va len) done from h = moved_none v k c (service.Read fd va len) done h.0.0
+held_none v k c _ done from h = absurd h
+
+kept_none : (v : View) (k : Slot) (c : Born) (s : Service) (done from byte : ℕ) → StandsMoving v k c s (pipe.KeepingHeld done from byte) →
+    NoRequest k c
+kept_none v k c (service.Read fd va len) done from byte h = moved_none v k c (service.Read fd va len) done h.0.0
+kept_none v k c _ done from byte h = absurd h
+
+gone_none : (v : View) (k : Slot) (c : Born) (s : Service) (done from : ℕ) → StandsMoving v k c s (pipe.TakingHeld done from) → NoRequest k c
+gone_none v k c (service.Read fd va len) done from h = moved_none v k c (service.Read fd va len) done h.0.0
+gone_none v k c _ done from h = absurd h
+
+ended_none : (v : View) (k : Slot) (c : Born) (s : Service) (done : ℕ) → StandsMoving v k c s (pipe.UnlockingEnd done) → NoRequest k c
+ended_none v k c (service.Read fd va len) done h = hands_bytes (service.Read fd va len) 0 done h.0
+ended_none v k c _ done h = absurd h
+
+loaded_none : (v : View) (k : Slot) (c : Born) (s : Service) (done to : ℕ) → StandsMoving v k c s (pipe.LoadingOwn done to) → NoRequest k c
+loaded_none v k c (service.Write fd va len) done to h = moved_none v k c (service.Write fd va len) done h.0.0
+loaded_none v k c _ done to h = absurd h
+
+putting_none : (v : View) (k : Slot) (c : Born) (s : Service) (done to byte : ℕ) → StandsMoving v k c s (pipe.PuttingOwn done to byte) →
+    NoRequest k c
+putting_none v k c (service.Write fd va len) done to byte h = moved_none v k c (service.Write fd va len) done h.0.0
+putting_none v k c _ done to byte h = absurd h
+
+behind_none : (v : View) (k : Slot) (c : Born) (s : Service) (done to : ℕ) → StandsMoving v k c s (pipe.Putting done to) → NoRequest k c
+behind_none v k c (service.Write fd va len) done to h = moved_none v k c (service.Write fd va len) done h.0.0
+behind_none v k c _ done to h = absurd h
+
+moving_none : (v : View) (k : Slot) (c : Born) (s : Service) (at : PipeStep) → StandsMoving v k c s at → NoRequest k c
+moving_none v k c s (pipe.Locking done id runs) h = moved_none v k c s done h.0.0
+moving_none v k c s (pipe.LockPausing done) h = moved_none v k c s done h.0
+moving_none v k c s (pipe.ReadFrom done id runs) h = moved_none v k c s done h.0.0
+moving_none v k c s (pipe.ReadTo done id runs from) h = moved_none v k c s done h.0.0
+moving_none v k c s (pipe.UnlockingMoved done) h = moved_none v k c s done h.0
+moving_none v k c s (pipe.UnlockingTest done id runs) h = moved_none v k c s done h.0.0
+moving_none v k c s (pipe.TestIdentifying done) h = moved_none v k c s done h.0
+moving_none v k c s (pipe.TestRuns done id) h = moved_none v k c s done h.0.0
+moving_none v k c s (pipe.TestAgain done id runs) h = moved_none v k c s done h.0.0
+moving_none v k c s (pipe.TestFrom done id runs) h = moved_none v k c s done h.0.0
+moving_none v k c s (pipe.TestTo done id runs from) h = moved_none v k c s done h.0.0
+moving_none v k c s (pipe.TestDescriptor done id runs) h = moved_none v k c s done h.0.0
+moving_none v k c s (pipe.TestDescriptorCount done id runs word) h = moved_none v k c s done h.0.0
+moving_none v k c s (pipe.TestPipe done id runs count) h = moved_none v k c s done h.0.0
+moving_none v k c s (pipe.TestPipeCount done id runs count word) h = moved_none v k c s done h.0.0
+moving_none v k c s (pipe.TestRunsAgain done id runs closed) h = moved_none v k c s done h.0.0
+moving_none v k c s (pipe.TestPausing done) h = moved_none v k c s done h.0
+moving_none v k c s (pipe.LoadingHeld done from) h = held_none v k c s done from h
+moving_none v k c s (pipe.KeepingHeld done from byte) h = kept_none v k c s done from byte h
+moving_none v k c s (pipe.TakingHeld done from) h = gone_none v k c s done from h
+moving_none v k c s (pipe.UnlockingEnd done) h = ended_none v k c s done h
+moving_none v k c s (pipe.LoadingOwn done to) h = loaded_none v k c s done to h
+moving_none v k c s (pipe.PuttingOwn done to byte) h = putting_none v k c s done to byte h
+moving_none v k c s (pipe.Putting done to) h = behind_none v k c s done to h
+moving_none v k c s _ h = absurd h
+
+on_pipe_none : (v : View) (k : Slot) (c : Born) (s : Service) (at : PipeStep) → StandsOnPipe v k c s at → NoRequest k c
+on_pipe_none v k c s pipe.EndMode h = in_silence s h.1.is_in
+on_pipe_none v k c s pipe.TakingBytes h = in_silence s h.0.is_in
+on_pipe_none v k c s at h = moving_none v k c s at h
+
+-- it makes one, tells of one, or drops an end
+piped_none : (v : View) (k : Slot) (c : Born) (s : Service) (at : PipeStep) → StandsAtPipe v k c s at → NoRequest k c
+piped_none v k c service.Pipe (pipe.SecondEntry first fd) h = in_silence _ h.is_in
+piped_none v k c service.Pipe (pipe.TakingReading first second) h = in_silence _ h.is_in
+piped_none v k c service.Pipe (pipe.StoringReading first second) h = in_silence _ h.is_in
+piped_none v k c service.Pipe (pipe.TakingWriting first second) h = in_silence _ h.is_in
+piped_none v k c service.Pipe (pipe.StoringWriting first second) h = in_silence _ h.is_in
+piped_none v k c service.Pipe (pipe.StoringEndMode first second) h = in_silence _ h.is_in
+piped_none v k c service.Pipe (pipe.TakingPipe first second) h = in_silence _ h.is_in
+piped_none v k c service.Pipe (pipe.MappingPipe first second) h = in_silence _ h.is_in
+piped_none v k c (service.Read fd va len) at h = on_pipe_none v k c (service.Read fd va len) at h
+piped_none v k c (service.Write fd va len) at h = on_pipe_none v k c (service.Write fd va len) at h
+piped_none v k c (service.Stat fd va) pipe.StatLocking h = in_silence _ h.1.is_in
+piped_none v k c (service.Stat fd va) pipe.StatPausing h = in_silence _ h.1.is_in
+piped_none v k c (service.Stat fd va) pipe.StatFrom h = in_silence _ h.1.is_in
+piped_none v k c (service.Stat fd va) (pipe.StatTo from) h = in_silence _ h.0.1.is_in
+piped_none v k c (service.Stat fd va) (pipe.StatUnlocking held) h = delivers (service.Stat fd va) 0 (suc held) h.0
+piped_none v k c (service.Close fd) (pipe.PipeEntry at) h = in_silence _ h.0
+piped_none v k c (service.Close fd) (pipe.DroppingEnd at) h = in_silence _ h.0
+piped_none v k c (service.Close fd) (pipe.DroppingPipe at) h = in_silence _ h.0
+piped_none v k c service.Exit (pipe.PipeEntry fd) h = in_silence _ h.0.is_in
+piped_none v k c service.Exit (pipe.DroppingEnd fd) h = in_silence _ h.0.is_in
+piped_none v k c service.Exit (pipe.DroppingPipe fd) h = in_silence _ h.0.is_in
+piped_none v k c (service.Dup old new) (pipe.PipeEntry at) h = in_silence _ h.0.is_in
+piped_none v k c (service.Dup old new) (pipe.DroppingEnd at) h = in_silence _ h.0.is_in
+piped_none v k c (service.Dup old new) (pipe.DroppingPipe at) h = in_silence _ h.0.is_in
+piped_none v k c (service.Dup old new) pipe.SourcePipe h = in_silence _ h.0.is_in
+piped_none v k c (service.Dup old new) pipe.MappingEnd h = in_silence _ h.0.is_in
+piped_none v k c _ _ h = absurd h
+
 at_step : (v : View) (k : Slot) (c : Born) (s : Service) (stands : Step) → StandsAtStep v k c s stands →
     NoRequest k c ⊎ IsRequesting (place.InService s stands) v k c
 at_step v k c s step.Entered h = inl (in_silence s h)
+at_step v k c s (step.Piped at) h = inl (piped_none v k c s at h)
 at_step v k c s step.ReadingDevice h = inl (at_device v s (descriptor_given s) h)
 at_step v k c s (step.BufferRegion done word) h = inl (before_byte _ v s done word h)
 at_step v k c s (step.BufferEntry done word) h = inl (before_byte _ v s done word h)
@@ -334,6 +446,7 @@ at_step v k c service.Fork (step.Remap id page) h = inl (bearing_none id h.0)
 at_step v k c service.Fork (step.ChildStack id) h = inl (bearing_none id h)
 at_step v k c service.Fork (step.ChildUpcall id) h = inl (bearing_none id h)
 at_step v k c service.Fork (step.ChildRuns id) h = inl (bearing_none id h)
+at_step v k c service.Pipe (step.FreeEntry fd) h = inl (in_silence _ h.0)
 at_step v k c service.Exit (step.DescriptorEntry fd) h = inl (in_silence _ h.0)
 at_step v k c service.Exit (step.DroppingDescriptor fd) h = inl (in_silence _ h.0)
 at_step v k c service.Exit step.Ending h = inl (in_silence _ h.0)

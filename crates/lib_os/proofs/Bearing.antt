@@ -1,31 +1,83 @@
 -- While fork bears a child: what is known of the two, and that the kernel's state goes on standing for the same abstract one where
 -- their slots and their spaces change, and nothing is seen of anybody else.
-use Rattle.std.proofs.Common.{◌≡◌, ◌≢◌, ◌∙◌, ◌==◌, ◌%◌, ◌||◌, ℕ, Bool, true, false, Some, None, is_some, refl, sym, ap, subst, arith}
+use Rattle.std.proofs.Common.{◌≡◌, ◌≢◌, ◌∙◌, ◌<◌, ◌==◌, ◌%◌, ◌||◌, ℕ, Bool, true, false, List, Some, None, is_some, if◌then◌else◌}
+use Rattle.std.proofs.Common.{refl, sym, ap, subst, arith}
+use Rattle.std.specs.Option.{option_map}
 use Rattle.std.proofs.lemmas.Bool.Decides.{nat_tests}
-use Rattle.std.proofs.lemmas.Option.{same_Some}
+use Rattle.std.proofs.lemmas.Option.{none-some, same_Some}
 use Rattle.jos_base.specs.declared.numbers.TheConstants.{FIRST_ENV_ID, NENV}
 use Rattle.jos_base.specs.Environments.{Slot, is_live as is_live_slot}
 use Rattle.jos_base.specs.KernelState.{KernelState, slot_at, with_slot_at, with_spaces}
+use Rattle.jos_base.specs.Reach.{Entry}
 use Rattle.jos_base.specs.SpacesState.{SpacesState}
-use Rattle.jos_base.specs.Words.{upd}
+use Rattle.jos_base.specs.Words.{page_number, upd}
+use Rattle.lib_os.specs.declared.numbers.TheConstants.{DESCRIPTORS, PFTEMP}
+use Rattle.lib_os.specs.declared.place.Place.{Place}
 use Rattle.lib_os.specs.declared.place.Place.TheVariants as place
 use Rattle.lib_os.specs.declared.place.Step.{Step}
+use Rattle.lib_os.specs.declared.place.Step.TheVariants as step
 use Rattle.lib_os.specs.declared.service.Service.TheVariants as service
 use Rattle.lib_os.specs.AbstractState.{AbstractState, AbstractSlot, Born, unborn, born, serving, is_live}
 use Rattle.lib_os.specs.AbstractMemory.{has_page_in}
 use Rattle.lib_os.specs.InOrder.{IsInOrder}
+use Rattle.lib_os.specs.DescriptorPages.{lock_of}
 use Rattle.lib_os.specs.LibraryPages.{is_library_region}
+use Rattle.lib_os.specs.PipeEnds.{EndsStandAt, LocksStand, locked_at}
 use Rattle.lib_os.specs.Places.{place_of, is_handlers}
-use Rattle.lib_os.specs.Rows.{EntryRow, Names, rows_of, logical, page_seen, is_descriptor, is_programs}
+use Rattle.lib_os.specs.Rows.{EntryRow, Names, rows_of, logical, page_seen, is_of_descriptor, is_programs}
+use Rattle.lib_os.specs.Rows.{as_cow, counted, cow_perm, is_pipe_page, is_shared, pipe_page}
 use Rattle.lib_os.specs.StandsFor.{StandsFor, StandsForSlot, StandsForBorn, StandsForUnborn, StandsAtStep, view_of, IsBorne, ChildPages}
 use Rattle.lib_os.specs.StandsFor.{borne_at, borne_in, is_passed, child_upcall, things_in}
 use Rattle.lib_os.proofs.Children.{same_child, borne_moved}
 use Rattle.lib_os.proofs.EntriesStand.{RowsStand, rows_turned}
-use Rattle.lib_os.proofs.Logical.{logical_alike}
-use Rattle.lib_os.proofs.Serving.{served}
-use Rattle.lib_os.proofs.SlotsStand.{SeenAlike, slot_stands, live_stands, born_live}
-use Rattle.lib_os.proofs.StatesStand.{Settles, tabled_set, born_not_first, server_alike, server_same}
+use Rattle.lib_os.proofs.Logical.{counted_elsewhere, counted_remapped, is_remapped, logical_alike, logical_live, logical_some}
+use Rattle.lib_os.proofs.PipesStand.{IsPipeFrame, calm_locked, calm_places, ends_moved, ends_stay, is_calm, is_calm_step, locks_kept}
+use Rattle.lib_os.proofs.Serving.{served, words_of_none}
+use Rattle.lib_os.proofs.SlotsStand.{CountsKept, SeenAlike, but_pipes, slot_stands, live_stands, born_live}
+use Rattle.lib_os.proofs.StatesStand.{Settles, tabled_set, born_not_first, clients_live, ends_at, server_alike, server_same, turns_settle}
 use Rattle.jos_base.proofs.Maps.{upd-at, upd-other}
+
+-- ---- slots
+
+-- what holds of two slots, and of all others
+pub of_slots : (n m : ℕ) (Q : ℕ → Type 0) → Q n → Q m → ((j : ℕ) → j ≢ n → j ≢ m → Q j) → (j : ℕ) → Q j
+of_slots n m Q first second others j = by_first (j == n) refl
+  where
+    by_second : j ≢ n → (c : Bool) → (j == m) ≡ c → Q j
+    by_second ne true test = let here : m ≡ j = grind (arith, nat_tests) in subst Q here second
+    by_second ne false test = others j ne (grind (arith, nat_tests))
+
+    by_first : (c : Bool) → (j == n) ≡ c → Q j
+    by_first true test = let here : n ≡ j = grind (arith, nat_tests) in subst Q here first
+    by_first false test = by_second (grind (arith, nat_tests)) (j == m) refl
+
+-- ---- pipes, at the steps of fork that bear a child
+
+-- there nothing is done to pipes
+pub borne_calm : (at : Step) (id : ℕ) → borne_at at ≡ Some id → is_calm_step at ≡ true
+borne_calm (step.Piped at) id bears = absurd (none-some id bears)
+borne_calm step.MappingDescriptor id bears = absurd (none-some id bears)
+borne_calm _ id bears = refl
+
+-- a shared page counts as it stands
+shared_counts : (at : Step) (row : EntryRow) (p : ℕ) (x : Entry) → p ≢ page_number PFTEMP → row p ≡ Some x → is_shared x.perm ≡ true →
+    counted (place.InService service.Fork at) row p ≡ Some x
+shared_counts at row p x ne is shared_page = by_test (is_remapped (place.InService service.Fork at) p) refl
+  where
+    by_test : (c : Bool) → is_remapped (place.InService service.Fork at) p ≡ c → counted (place.InService service.Fork at) row p ≡ Some x
+    by_test true remapped =
+        counted_remapped (place.InService service.Fork at) row p remapped refl
+        ∙ ap (option_map as_cow) is
+        ∙ ap (λ (c : Bool). Some (if c then x else record x { perm = cow_perm })) shared_page
+    by_test false off = counted_elsewhere (place.InService service.Fork at) row p ne off ∙ is
+
+or_true : (c : Bool) → c || true ≡ true
+or_true true = refl
+or_true false = refl
+
+pipe_is : (fd : ℕ) → fd < DESCRIPTORS →
+    (is_pipe_page (pipe_page fd) ≡ true) × (is_of_descriptor (pipe_page fd) ≡ true) × (pipe_page fd ≢ page_number PFTEMP)
+pipe_is fd below = (grind (arith, nat_tests), grind (arith, nat_tests), (λ same. omega (arith, same)))
 
 -- ---- the child
 
@@ -34,8 +86,8 @@ pub record IsChild (names : Names) (s : SpacesState) (parent : Slot) (b : Born) 
   pub registers : k.registers ≡ record parent.registers { eax = 0 }
   pub upcall : k.upcall ≡ child_upcall at
   pub passed : (p : ℕ) → is_programs p ≡ true → is_passed at p ≡ true → page_seen names s k.directory p ≡ b.memory p
-  pub handed : (p : ℕ) → is_descriptor p ≡ true → is_passed at p ≡ true → rows_of s k.directory p ≡ rows_of s parent.directory p
-  pub rest : (p : ℕ) → is_programs p || is_descriptor p ≡ true → is_passed at p ≡ false → rows_of s k.directory p ≡ None
+  pub handed : (p : ℕ) → is_of_descriptor p ≡ true → is_passed at p ≡ true → rows_of s k.directory p ≡ rows_of s parent.directory p
+  pub rest : (p : ℕ) → is_programs p || is_of_descriptor p ≡ true → is_passed at p ≡ false → rows_of s k.directory p ≡ None
   pub library : ChildPages at (rows_of s k.directory)
   pub tables : (r : ℕ) → is_some (s.regions k.directory r) ≡ true → has_page_in b.memory r || is_library_region r ≡ true
 
@@ -179,7 +231,10 @@ module _ {names : Names} {s : KernelState} {a : AbstractState} {sp : SpacesState
       (stands : place_of k ≡ place.InService service.Fork next) (bears : borne_at next ≡ Some id)
       (mine : StandsForBorn names sp k v.b) (child_own : StandsForUnborn child id v.b.id) (its_child : IsChild names sp k v.b next child)
       (rows : RowsStand names sp.pages a.shared (things_in s a) a.next_name (logical sp slots_after))
-      (in_order : IsInOrder (with_slot_at (with_slot_at (with_spaces s sp) m child) n k)) where
+      (in_order : IsInOrder (with_slot_at (with_slot_at (with_spaces s sp) m child) n k))
+      (counts : (j : ℕ) → j ≢ n → CountsKept s.spaces sp (slot_at s j))
+      (own_pipes : (p : ℕ) → is_pipe_page p ≡ true → rows_of sp k.directory p ≡ rows_of s.spaces (slot_at s n).directory p)
+      (bytes : (d p : ℕ) (x : Entry) → rows_of s.spaces d p ≡ Some x → sp.pages x.frame ≡ s.spaces.pages x.frame) where
     slots_stand : (j : ℕ) → StandsForSlot names sp (slots_after j) (a.slots j)
     slots_stand j = by_parent (j == n) refl
       where
@@ -192,7 +247,7 @@ module _ {names : Names} {s : KernelState} {a : AbstractState} {sp : SpacesState
         by_child ne false test =
             let apart : j ≢ m = grind (arith, nat_tests) in
             subst (λ (x : Slot). StandsForSlot names sp x (a.slots j)) (sym (others_after j ne apart))
-            (slot_stands names names s.spaces sp (slot_at s j) (a.slots j) (h.slots j) (others_seen j ne apart))
+            (slot_stands names names s.spaces sp (slot_at s j) (a.slots j) (h.slots j) (others_seen j ne apart) (counts j ne))
 
         by_parent : (c : Bool) → (j == n) ≡ c → StandsForSlot names sp (slots_after j) (a.slots j)
         by_parent true test =
@@ -266,6 +321,125 @@ module _ {names : Names} {s : KernelState} {a : AbstractState} {sp : SpacesState
             let not_child : q ≢ m = λ same. let contradiction : born c ≡ unborn id v.b.id = sym is ∙ ap a.slots same ∙ v.child_is in absurd cc in
             h.children.have q own_id c is (ap (λ (x : Slot). borne_in (place_of x)) (sym (others_after q ne not_child)) ∙ bears_it)
 
+    -- ---- ends of pipes, and locks
+
+    calm : is_calm (place_of (slot_at s n)) ≡ true
+    calm = ap is_calm v.place ∙ borne_calm at id v.borne
+
+    calm_after : is_calm (place_of k) ≡ true
+    calm_after = ap is_calm stands ∙ borne_calm next id bears
+
+    ends : (j : ℕ) → EndsStandAt names a.objects (place_of (slots_after j)) (rows_of sp (slots_after j).directory) (a.slots j)
+    ends =
+        of_slots n m (λ j. EndsStandAt names a.objects (place_of (slots_after j)) (rows_of sp (slots_after j).directory) (a.slots j))
+        (subst (λ (x : Slot). EndsStandAt names a.objects (place_of x) (rows_of sp x.directory) (a.slots n)) (sym parent_after)
+        (subst (λ (y : AbstractSlot). EndsStandAt names a.objects (place_of k) (rows_of sp k.directory) y) (sym v.is)
+        (ends_moved (calm_places calm calm_after) (λ fd. refl) (λ fd name is. refl) (λ fd below. own_pipes (pipe_page fd) (pipe_is fd below).0)
+        (λ fd x below is. refl) (ends_at h n v.b v.is))))
+        (subst (λ (y : AbstractSlot). EndsStandAt names a.objects (place_of (slots_after m)) (rows_of sp (slots_after m).directory) y) (sym v.child_is) tt)
+        (λ j ne apart. subst (λ (x : Slot). EndsStandAt names a.objects (place_of x) (rows_of sp x.directory) (a.slots j)) (sym (others_after j ne apart))
+        (ends_stay names names s.spaces sp a.objects (slot_at s j) (a.slots j) (h.slots j) (λ live. but_pipes (others_seen j ne apart live)) (h.ends j)))
+
+    -- neither of the two holds a lock
+    holds_none : locked_at (place_of (slot_at s n)) ≡ None
+    holds_none = calm_locked (place_of (slot_at s n)) calm
+
+    holds_none_after : locked_at (place_of (slots_after n)) ≡ None
+    holds_none_after = ap (λ (x : Slot). locked_at (place_of x)) parent_after ∙ calm_locked (place_of k) calm_after
+
+    child_none : locked_at (place_of (slot_at s m)) ≡ None
+    child_none = ap locked_at (words_of_none (slot_at s m).registers (slot_at s m).extra v.child_own.stack v.child_own.words)
+
+    child_none_after : locked_at (place_of (slots_after m)) ≡ None
+    child_none_after =
+        ap (λ (x : Slot). locked_at (place_of x)) child_after
+        ∙ ap locked_at (words_of_none child.registers child.extra child_own.stack child_own.words)
+
+    -- who holds one is another
+    holder_apart : (slots : ℕ → Slot) (q j fd : ℕ) → locked_at (place_of (slots q)) ≡ None → locked_at (place_of (slots j)) ≡ Some fd → j ≢ q
+    holder_apart slots q j fd none locked here =
+        none-some fd (sym none ∙ ap (λ (i : ℕ). locked_at (place_of (slots i))) (sym here) ∙ locked)
+
+    -- a page of a pipe that the parent has was one before
+    own_frame : (fd : ℕ) (x : Entry) → fd < DESCRIPTORS → rows_of sp k.directory (pipe_page fd) ≡ Some x → is_shared x.perm ≡ true →
+        IsPipeFrame (logical s.spaces s.environments.slots) x.frame
+    own_frame fd x below is shared_page =
+        let page = pipe_is fd below in record {
+          slot = n;
+          fd = fd;
+          below = below;
+          entry = x;
+          stands = logical_live s.spaces s.environments.slots n (clients_live h n v.b v.is) (pipe_page fd)
+              ∙ ap (λ (q : Place). counted q (rows_of s.spaces (slot_at s n).directory) (pipe_page fd)) v.place
+              ∙ shared_counts at (rows_of s.spaces (slot_at s n).directory) (pipe_page fd) x page.2 (sym (own_pipes (pipe_page fd) page.0) ∙ is) shared_page;
+          shared = shared_page;
+          same = refl;
+        }
+
+    -- and the child has none but the parent's
+    child_pipes : (fd : ℕ) (x : Entry) → fd < DESCRIPTORS → rows_of sp child.directory (pipe_page fd) ≡ Some x →
+        rows_of sp k.directory (pipe_page fd) ≡ Some x
+    child_pipes fd x below is = by_test (is_passed next (pipe_page fd)) refl
+      where
+        handed : is_programs (pipe_page fd) || is_of_descriptor (pipe_page fd) ≡ true
+        handed = ap (λ (c : Bool). is_programs (pipe_page fd) || c) (pipe_is fd below).1 ∙ or_true (is_programs (pipe_page fd))
+
+        by_test : (c : Bool) → is_passed next (pipe_page fd) ≡ c → rows_of sp k.directory (pipe_page fd) ≡ Some x
+        by_test true on = sym (its_child.handed (pipe_page fd) (pipe_is fd below).1 on) ∙ is
+        by_test false off = absurd (none-some x (sym (its_child.rest (pipe_page fd) handed off) ∙ is))
+
+    abbrev PipeWas : ℕ → Type 0
+    PipeWas j = (fd : ℕ) (x : Entry) → fd < DESCRIPTORS → logical sp slots_after j (pipe_page fd) ≡ Some x → is_shared x.perm ≡ true →
+        IsPipeFrame (logical s.spaces s.environments.slots) x.frame
+
+    pipe_was : (j : ℕ) → PipeWas j
+    pipe_was =
+        of_slots n m (λ j. PipeWas j)
+        (λ fd x below is shared_page.
+        let found = (logical_some sp slots_after n (pipe_page fd) x is).1 in
+        subst (λ (f : ℕ). IsPipeFrame (logical s.spaces s.environments.slots) f) found.frame
+        (own_frame fd found.entry below (ap (λ (y : Slot). rows_of sp y.directory (pipe_page fd)) (sym parent_after) ∙ found.stands)
+        (found.sharing shared_page)))
+        (λ fd x below is shared_page.
+        let found = (logical_some sp slots_after m (pipe_page fd) x is).1 in
+        subst (λ (f : ℕ). IsPipeFrame (logical s.spaces s.environments.slots) f) found.frame
+        (own_frame fd found.entry below
+        (child_pipes fd found.entry below (ap (λ (y : Slot). rows_of sp y.directory (pipe_page fd)) (sym child_after) ∙ found.stands))
+        (found.sharing shared_page)))
+        (λ j ne apart fd x below is shared_page. record {
+          slot = j;
+          fd = fd;
+          below = below;
+          entry = x;
+          stands = sym (others_count_too j ne apart (pipe_page fd)) ∙ is;
+          shared = shared_page;
+          same = refl;
+        })
+
+    locks : LocksStand sp.pages slots_after (logical sp slots_after)
+    locks = locks_kept (record {
+      back = λ j fd x below locked is.
+          let ne = holder_apart slots_after n j fd holds_none_after locked in
+          let apart = holder_apart slots_after m j fd child_none_after locked in (
+            ap (λ (y : Slot). locked_at (place_of y)) (sym (others_after j ne apart)) ∙ locked,
+            sym (others_count_too j ne apart (pipe_page fd)) ∙ is,
+          );
+      forth = λ j fd x below locked is.
+          let ne = holder_apart s.environments.slots n j fd holds_none locked in
+          let apart = holder_apart s.environments.slots m j fd child_none locked in (
+            ap (λ (y : Slot). locked_at (place_of y)) (others_after j ne apart) ∙ locked,
+            others_count_too j ne apart (pipe_page fd) ∙ is,
+          );
+      were = pipe_was;
+      bytes = λ j fd x below is shared_page.
+          let found = (logical_some s.spaces s.environments.slots j (pipe_page fd) x is).1 in
+          ap (λ (page : List ℕ). lock_of page)
+          (subst (λ (f : ℕ). sp.pages f ≡ s.spaces.pages f) found.frame
+          (bytes (slot_at s j).directory (pipe_page fd) found.entry found.stands));
+    }) h.locks
+
+    -- ---- the whole
+
     abbrev state_after : KernelState
     state_after = with_slot_at (with_slot_at (with_spaces s sp) m child) n k
 
@@ -284,6 +458,11 @@ module _ {names : Names} {s : KernelState} {a : AbstractState} {sp : SpacesState
           users = rows.users;
           whole = rows.whole;
           beside = turned.beside;
+          ends = ends;
+          locks = locks;
+          old = h.old;
+          runs = turns_settle (upd s.environments.slots m child) n k (turns_settle s.environments.slots m child h.runs child_settles)
+              (subst (λ (x : Slot). Settles x k) (sym parent_is) settles);
           free_slots = h.free_slots;
           first = h.first;
           server = server_same server_after (server_alike server_seen h.server);

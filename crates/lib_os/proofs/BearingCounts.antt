@@ -1,7 +1,6 @@
 -- How entries count while fork bears a child: those of the parent as they count at its step, and those of the child and of all others as
 -- they stand.
-use Rattle.std.proofs.Common.{◌≡◌, ◌≢◌, ◌∙◌, ◌==◌, ◌%◌, ℕ, Bool, true, false, not, refl, sym, ap, subst, arith}
-use Rattle.std.proofs.lemmas.Bool.Decides.{nat_tests}
+use Rattle.std.proofs.Common.{◌≡◌, ◌≢◌, ◌∙◌, ◌%◌, ℕ, Bool, true, not, refl, sym, ap, subst}
 use Rattle.jos_base.specs.declared.environment.Status.{Status}
 use Rattle.jos_base.specs.declared.numbers.TheConstants.{NENV}
 use Rattle.jos_base.specs.Environments.{Slot, is_free, is_live as is_live_slot}
@@ -14,7 +13,7 @@ use Rattle.lib_os.specs.declared.place.Step.{Step}
 use Rattle.lib_os.specs.declared.service.Service.TheVariants as service
 use Rattle.lib_os.specs.AbstractState.{AbstractState, Born}
 use Rattle.lib_os.specs.Places.{place_of}
-use Rattle.lib_os.specs.Rows.{EntryRow, Names, counted, is_clients, is_descriptor, logical, logical_by, rows_of}
+use Rattle.lib_os.specs.Rows.{EntryRow, Names, counted, is_clients, is_of_descriptor, logical, logical_by, rows_of}
 use Rattle.lib_os.specs.StandsFor.{ChildPages, StandsFor}
 use Rattle.lib_os.proofs.Bearing.{IsBearer, IsChild, parent_not_first, child_not_first}
 use Rattle.lib_os.proofs.GoesDown.{moved, moved_place}
@@ -22,18 +21,6 @@ use Rattle.lib_os.proofs.Logical.{clients_so, counted_plain, logical_alike}
 use Rattle.lib_os.proofs.Serving.{words_of_none}
 use Rattle.lib_os.proofs.SlotsStand.{SeenAlike, born_live, seen_alike}
 use Rattle.jos_base.proofs.Maps.{upd-at, upd-other}
-
--- what holds of two slots, and of all others
-pub of_slots : (n m : ℕ) (Q : ℕ → Type 0) → Q n → Q m → ((j : ℕ) → j ≢ n → j ≢ m → Q j) → (j : ℕ) → Q j
-of_slots n m Q first second others j = by_first (j == n) refl
-  where
-    by_second : j ≢ n → (c : Bool) → (j == m) ≡ c → Q j
-    by_second ne true test = let here : m ≡ j = grind (arith, nat_tests) in subst Q here second
-    by_second ne false test = others j ne (grind (arith, nat_tests))
-
-    by_first : (c : Bool) → (j == n) ≡ c → Q j
-    by_first true test = let here : n ≡ j = grind (arith, nat_tests) in subst Q here first
-    by_first false test = by_second (grind (arith, nat_tests)) (j == m) refl
 
 -- the entries of a live slot but the first, by the place where it stands
 pub live_counts : (sp : SpacesState) (slots : ℕ → Slot) (j : ℕ) (k : Slot) (at : Place) → slots j ≡ k → 0 ≢ j → is_live_slot k ≡ true →
@@ -104,7 +91,7 @@ module _ {names : Names} {s : KernelState} {a : AbstractState} (h : StandsFor na
 
 -- in spaces of which nothing that is seen differs to it, and in which its parent has the same entries of descriptors
 pub child_seen : {names : Names} {s t : SpacesState} {parent : Slot} {b : Born} {at : Step} {k : Slot} → SeenAlike names names s t k.directory →
-    ((p : ℕ) → is_descriptor p ≡ true → rows_of t parent.directory p ≡ rows_of s parent.directory p) →
+    ((p : ℕ) → is_of_descriptor p ≡ true → rows_of t parent.directory p ≡ rows_of s parent.directory p) →
     IsChild names s parent b at k → IsChild names t parent b at k
 child_seen {at = at} seen kept h = record {
   registers = h.registers;

@@ -2,7 +2,7 @@
 -- pages that may be written then; and what is so of a service that its fault is about to end.
 use Rattle.std.proofs.Common.{◌≡◌, ◌<◌, ◌+◌, ◌*◌, ◌∙◌, ℕ, Bool, true, false, refl, sym, ap, List, [], ◌∷◌, length, arith, None}
 use Rattle.std.proofs.lemmas.List.{length-drop}
-use Rattle.std.specs.Prelude.{◌-◌, Some, drop, slice_index, suc, zero}
+use Rattle.std.specs.Prelude.{◌-◌, Some, drop, slice_index}
 use Rattle.jos_base.specs.declared.numbers.TheConstants.{UTEMP}
 use Rattle.jos_base.specs.Reach.{Entry}
 use Rattle.jos_base.specs.Words.{page_number}
@@ -14,20 +14,20 @@ use Rattle.lib_os.specs.declared.place.Step.{Step}
 use Rattle.lib_os.specs.declared.place.Step.TheVariants as step
 use Rattle.lib_os.specs.declared.service.Service.{Service}
 use Rattle.lib_os.specs.declared.service.Service.TheVariants as service
-use Rattle.lib_os.specs.AbstractState.{Born, delivering, guest, in_service}
+use Rattle.lib_os.specs.AbstractState.{Born, Phase, delivering, guest, in_service}
 use Rattle.lib_os.specs.Fence.{is_inside}
-use Rattle.lib_os.specs.FileServices.{terminal_stat}
 use Rattle.lib_os.specs.LibraryPages.{View, HasTaken, has_copy}
 use Rattle.lib_os.specs.LibrarySteps.{left_at, copy_steps}
 use Rattle.lib_os.specs.Places.{is_handlers, place_of}
 use Rattle.lib_os.specs.Rows.{EntryRow, is_programs, is_shared}
 use Rattle.lib_os.specs.StandsFor.{StandsAt, StandsBefore, borne_in, upcall_at, writes_buffer}
 use Rattle.lib_os.specs.StandsInHandler.{IsDelivering, StandsBeneath, StandsDelivering, StandsPutting, at_program, in_delivery, is_refused_by, next_page}
-use Rattle.lib_os.specs.StandsInHandler.{IsStoppedAt, buffer_of, reading, telling, wanted_from, writing, HasBytes, answer_behind}
-use Rattle.lib_os.specs.StandsInHandler.{handing, hands_back, in_handing, stage_behind, following}
+use Rattle.lib_os.specs.StandsInHandler.{IsStoppedAt, buffer_of, reading, telling, wanted_from, writing, HasBytes, HandsAt, answer_behind}
+use Rattle.lib_os.specs.StandsInHandler.{behind, by_reply, handing, hands_back, in_handing, stat_told, following}
 use Rattle.lib_os.proofs.Fences.{buffer_each}
 use Rattle.lib_os.proofs.Paths.{follows_inside, taking_follows}
 use Rattle.lib_os.proofs.Logical.{inside_programs, is_plain}
+use Rattle.lib_os.proofs.PipesStand.{is_calm}
 use Rattle.lib_os.proofs.Serving.{words_of_none}
 
 -- ---- the page of the next byte
@@ -76,9 +76,10 @@ bytes_moved v w same k b s done count h = record {
   hands = h.hands;
   regs = h.regs;
   program = h.program;
+  eax = h.eax;
   registers = h.registers;
   bytes = h.bytes;
-  phase = h.phase;
+  hands_at = h.hands_at;
   many = h.many;
   fewer = h.fewer;
   most = h.most;
@@ -119,6 +120,7 @@ pub record StandsAgain (v : View) (k : Slot) (b : Born) : Type 0 where
   pub stands : place_of k ≡ at
   pub is_there : StandsAt at v k b
   pub plain : is_plain at ≡ true
+  pub calm : is_calm at ≡ true
   pub unborne : borne_in at ≡ None
   pub upcall : upcall_at at ≡ PGFAULT_UPCALL
   pub no_copy : has_copy at ≡ false
@@ -130,6 +132,7 @@ stands_again v k b outside (at_program h) = record {
   stands = words_of_none k.registers k.extra outside h.words;
   is_there = h;
   plain = refl;
+  calm = refl;
   unborne = refl;
   upcall = refl;
   no_copy = refl;
@@ -140,6 +143,7 @@ stands_again v k b outside (in_delivery (service.Read fd va len) done word at h)
   stands = at;
   is_there = h;
   plain = refl;
+  calm = refl;
   unborne = refl;
   upcall = refl;
   no_copy = refl;
@@ -150,6 +154,7 @@ stands_again v k b outside (in_delivery (service.Stat fd va) done word at h) = r
   stands = at;
   is_there = h;
   plain = refl;
+  calm = refl;
   unborne = refl;
   upcall = refl;
   no_copy = refl;
@@ -161,6 +166,7 @@ stands_again v k b outside (in_handing s done count word at h) = record {
   stands = at;
   is_there = h;
   plain = handing_plain s h.has.hands (step.PuttingBytes done count word);
+  calm = refl;
   unborne = handing_unborne s h.has.hands (step.PuttingBytes done count word);
   upcall = refl;
   no_copy = refl;
@@ -194,7 +200,7 @@ stops_before so v k b (service.Stat fd va) done word (h, known) = record {
   silent = h.silent;
   awake = h.awake;
   inside = delivers_inside k b _ (va + done) _ _ h;
-  stopped = λ ip. telling fd va (drop done terminal_stat) 0 refl h.phase h.some;
+  stopped = λ ip. telling fd va (drop done (stat_told word)) 0 refl h.phase h.some;
 }
 stops_before so v k b (service.Write fd va len) done word (h, known) = record {
   eax = k.registers.eax;
@@ -234,26 +240,26 @@ stops_handing v k b s done count h = record {
   silent = h.silent;
   awake = h.awake;
   inside = bytes_inside v k b s done count h;
-  stopped = λ ip. by_done done h.fewer h.phase ip;
+  stopped = λ ip. by_done done b.phase refl h.fewer h.hands_at ip;
 }
   where
-    by_done : (done : ℕ) → done < count → b.phase ≡ in_service s (stage_behind (buffer_of s) h.bytes (answer_behind s count) done) → (ip : ℕ) →
+    by_done : (done : ℕ) (q : Phase) → b.phase ≡ q → done < count → HandsAt s h.bytes (answer_behind s count) done q → (ip : ℕ) →
         IsStoppedAt true v b (buffer_of s + done) ip
-    by_done zero some phase ip =
+    by_done _ _ phase some by_reply ip =
         let many = h.many in
         handing s h.bytes (answer_behind s count) refl h.hands phase (omega (arith, some, many)) (omega arith)
-    by_done (suc n) some phase ip = by_service s h.hands phase
+    by_done _ _ phase some (behind done) ip = by_service s h.hands phase
       where
-        left : 0 < length (drop (suc n) h.bytes)
+        left : 0 < length (drop done h.bytes)
         left =
             let many = h.many in
-            let rest : length (drop (suc n) h.bytes) ≡ length h.bytes - suc n = length-drop (suc n) h.bytes in omega (arith, some, many, rest)
+            let rest : length (drop done h.bytes) ≡ length h.bytes - done = length-drop done h.bytes in omega (arith, some, many, rest)
 
         by_service : (t : Service) → hands_back t ≡ true →
-            b.phase ≡ in_service t (delivering (buffer_of t + suc n) (drop (suc n) h.bytes) (answer_behind t count)) →
-            IsStoppedAt true v b (buffer_of t + suc n) ip
-        by_service (service.Read fd va len) hands phase = reading fd va len (drop (suc n) h.bytes) count refl phase left
-        by_service (service.Stat fd va) hands phase = telling fd va (drop (suc n) h.bytes) 0 refl phase left
+            b.phase ≡ in_service t (delivering (buffer_of t + done) (drop done h.bytes) (answer_behind t count)) →
+            IsStoppedAt true v b (buffer_of t + done) ip
+        by_service (service.Read fd va len) hands phase = reading fd va len (drop done h.bytes) count refl phase left
+        by_service (service.Stat fd va) hands phase = telling fd va (drop done h.bytes) 0 refl phase left
         by_service _ hands phase = absurd (let contradiction : false ≡ true = hands in cc)
 
 -- it bears no child there, so that entries count as they stand

@@ -16,7 +16,7 @@ use Rattle.jos_base.specs.Reach.{Entry}
 use Rattle.jos_base.specs.SpacesState.{SpacesState}
 use Rattle.jos_base.specs.TrapFrames.{user_flags}
 use Rattle.jos_base.specs.Words.{page_number, upd}
-use Rattle.jos_base.proofs.Maps.{upd-at, upd-other, upd-both}
+use Rattle.jos_base.proofs.Maps.{upd-alike, upd-at, upd-other, upd-both}
 use Rattle.lib_os.specs.declared.numbers.TheConstants.{DESCRIPTORS, PFTEMP}
 use Rattle.lib_os.specs.declared.place.Place.{Place}
 use Rattle.lib_os.specs.declared.place.Place.TheVariants as place
@@ -35,17 +35,20 @@ use Rattle.lib_os.specs.LibraryPages.{LibraryPages}
 use Rattle.lib_os.specs.LibrarySteps.{service_answered}
 use Rattle.lib_os.specs.Places.{place_of, is_handlers}
 use Rattle.lib_os.specs.Rows.{Names, EntryRow, rows_of, page_by, page_seen, seen_where, shown_at, is_programs, counted, lasting, logical}
-use Rattle.lib_os.specs.Rows.{descriptor_page, descriptor_seen, is_descriptor, name_of}
-use Rattle.lib_os.specs.StandsFor.{StandsFor, StandsForSlot, StandsForBorn, StandsForUnborn, StandsAt, IsBorne, IsIn, view_of, upcall_at}
+use Rattle.lib_os.specs.PipeEnds.{EndsStand, EndsStandAt, LocksStand, locked_at}
+use Rattle.lib_os.specs.Rows.{descriptor_page, descriptor_seen, is_of_descriptor, name_of, pipe_page}
+use Rattle.lib_os.specs.InService.{IsIn}
+use Rattle.lib_os.specs.StandsFor.{StandsFor, StandsForSlot, StandsForBorn, StandsForUnborn, StandsAt, IsBorne, view_of, upcall_at}
 use Rattle.lib_os.specs.StandsFor.{borne_at, borne_in, things_in}
 use Rattle.lib_os.proofs.Bearing.{IsBearer}
 use Rattle.lib_os.proofs.Children.{same_child, borne_moved}
 use Rattle.lib_os.proofs.EntriesStand.{RowsStand, rows_stand, rows_same, rows_turned}
 use Rattle.lib_os.proofs.Logical.{programs_beside}
+use Rattle.lib_os.proofs.PipesStand.{calm_locked, calm_places, descriptors_turned, ends_moved, is_calm, locks_same}
 use Rattle.lib_os.proofs.Serving.{back_at_guest, holds_page, step_in, words_of_none}
 use Rattle.lib_os.proofs.Slots.{slot_kept}
 use Rattle.lib_os.proofs.SlotsStand.{SeenAlike, born_live, ids_stand, live_stands}
-use Rattle.lib_os.proofs.StatesStand.{born_not_first, server_same, set_counts, slot_in_order, stopped_settles, tabled_set}
+use Rattle.lib_os.proofs.StatesStand.{Settles, born_not_first, ends_at, old_set, old_stays, server_same, set_counts, slot_in_order, stopped_settles, tabled_set, turns_settle}
 
 -- ---- the pages of a region
 
@@ -98,19 +101,19 @@ working_outside = by_test (is_programs (page_number UTEMP)) refl
     by_test false is = refl
 
 -- they are no descriptor's either
-copy_no_descriptor : is_descriptor (page_number PFTEMP) ≡ false
+copy_no_descriptor : is_of_descriptor (page_number PFTEMP) ≡ false
 copy_no_descriptor = refl
 
-working_no_descriptor : is_descriptor (page_number UTEMP) ≡ false
+working_no_descriptor : is_of_descriptor (page_number UTEMP) ≡ false
 working_no_descriptor = refl
 
 -- the page of each descriptor is one
-descriptor_is : (fd : ℕ) → nat_lt fd DESCRIPTORS ≡ true → is_descriptor (descriptor_page fd) ≡ true
+descriptor_is : (fd : ℕ) → nat_lt fd DESCRIPTORS ≡ true → is_of_descriptor (descriptor_page fd) ≡ true
 descriptor_is fd below = grind (arith, nat_tests)
 
 -- where two spaces have the same entry at its page, they have the same descriptor
 descriptor_same : (names : Names) (s : SpacesState) (d c fd : ℕ) →
-    (is_descriptor (descriptor_page fd) ≡ true → rows_of s c (descriptor_page fd) ≡ rows_of s d (descriptor_page fd)) →
+    (is_of_descriptor (descriptor_page fd) ≡ true → rows_of s c (descriptor_page fd) ≡ rows_of s d (descriptor_page fd)) →
     descriptor_seen names s c fd ≡ descriptor_seen names s d fd
 descriptor_same names s d c fd same = by_test (nat_lt fd DESCRIPTORS) refl
   where
@@ -131,6 +134,7 @@ same_space names sp d = record {
   bytes = λ p x is own_page. refl;
   named_so = λ p x is shared_page. refl;
   devices = λ p x descriptor is shared_page. refl;
+  pipes = λ p x pipes is shared_page. refl;
   regions = λ r. refl;
 }
 
@@ -199,10 +203,14 @@ module _ {names : Names} {s : KernelState} {a : AbstractState} (h : StandsFor na
       by_test false outside =
           v.own.memory p ∙ unseen names s.spaces k.directory p outside ∙ sym (unseen names s.spaces (slot_at s m).directory p outside)
 
+  -- nothing is done to pipes there
+  calm : is_calm (place_of k) ≡ true
+  calm = ap is_calm v.place
+
   -- its descriptors name the same objects
   descriptors_are : (fd : ℕ) → v.b.descriptors fd ≡ descriptor_seen names s.spaces (slot_at s m).directory fd
   descriptors_are fd =
-      v.own.descriptors fd
+      descriptors_turned names s.spaces k.directory (place_of k) place.Guest v.b.descriptors calm refl v.own.descriptors fd refl
       ∙ sym (descriptor_same names s.spaces k.directory (slot_at s m).directory fd
       (λ descriptor. v.child.handed (descriptor_page fd) descriptor refl))
 
@@ -232,7 +240,8 @@ module _ {names : Names} {s : KernelState} {a : AbstractState} (h : StandsFor na
     env_type = v.child_own.env_type;
     runs = tt;
     upcall = v.child.upcall ∙ sym (ap upcall_at child_at);
-    descriptors = descriptors_are;
+    descriptors = descriptors_turned names s.spaces (slot_at s m).directory place.Guest (place_of child) v.b.descriptors refl (ap is_calm child_at)
+        (λ fd still. descriptors_are fd);
     memory = memory_is;
     library = subst (λ (at : Place). LibraryPages at (slot_at s m).extra (rows_of s.spaces (slot_at s m).directory)) (sym child_at) library_is;
     regions_have = has_table;
@@ -250,7 +259,7 @@ module _ {names : Names} {s : KernelState} {a : AbstractState} (h : StandsFor na
 
   parent_stands : StandsForBorn names s.spaces parent back
   parent_stands =
-      back_at_guest (record k.registers { eax = id }) v.own (ap holds_page v.place) in_fork.silent in_fork.awake v.outside refl refl
+      back_at_guest (record k.registers { eax = id }) v.own (ap holds_page v.place) calm in_fork.silent in_fork.awake v.outside refl refl
 
   slots_stand : (j : ℕ) → StandsForSlot names s.spaces (slots_after j) (abstract_after j)
   slots_stand =
@@ -361,6 +370,51 @@ module _ {names : Names} {s : KernelState} {a : AbstractState} (h : StandsFor na
   rows : RowsStand names s.spaces.pages a.shared (things_in s a) a.next_name (logical s.spaces slots_after)
   rows = rows_same (logical s.spaces s.environments.slots) (logical s.spaces slots_after) all_count (rows_stand h)
 
+  -- ---- ends of pipes, and locks
+
+  pipe_handed : (fd : ℕ) → fd < DESCRIPTORS → is_of_descriptor (pipe_page fd) ≡ true
+  pipe_handed fd below = grind (arith, nat_tests)
+
+  -- beside its descriptors the child has the pages of the same pipes
+  child_ends : EndsStand names a.objects (place_of child) (rows_of s.spaces child.directory) newborn
+  child_ends =
+      ends_moved (calm_places calm (ap is_calm child_at)) (λ fd. refl) (λ fd name is. refl)
+      (λ fd below. v.child.handed (pipe_page fd) (pipe_handed fd below) refl) (λ fd x below is. refl) (ends_at h n v.b v.is)
+
+  parent_ends : EndsStand names a.objects (place_of parent) (rows_of s.spaces parent.directory) back
+  parent_ends =
+      ends_moved (calm_places calm (ap is_calm parent_at)) (λ fd. refl) (λ fd name is. refl) (λ fd below. refl) (λ fd x below is. refl)
+      (ends_at h n v.b v.is)
+
+  ends : (j : ℕ) → EndsStandAt names a.objects (place_of (slots_after j)) (rows_of s.spaces (slots_after j).directory) (abstract_after j)
+  ends =
+      upd-both (λ j (x : Slot) (y : AbstractSlot). EndsStandAt names a.objects (place_of x) (rows_of s.spaces x.directory) y)
+      (upd s.environments.slots m child) (upd a.slots m (born newborn)) n parent (born back) parent_ends
+      (λ j ne. upd-both (λ j (x : Slot) (y : AbstractSlot). EndsStandAt names a.objects (place_of x) (rows_of s.spaces x.directory) y)
+      s.environments.slots a.slots m child (born newborn) child_ends (λ q apart. h.ends q) j)
+
+  same_locked : (j : ℕ) → locked_at (place_of (slots_after j)) ≡ locked_at (place_of (slot_at s j))
+  same_locked j =
+      upd-alike (λ (x : Slot). locked_at (place_of x)) (upd s.environments.slots m child) n parent
+      (ap locked_at parent_at ∙ sym (ap (λ (x : Slot). locked_at (place_of x)) parent_was ∙ calm_locked (place_of k) calm)) j
+      ∙ upd-alike (λ (x : Slot). locked_at (place_of x)) s.environments.slots m child refl j
+
+  locks : LocksStand s.spaces.pages slots_after (logical s.spaces slots_after)
+  locks = locks_same same_locked (λ j p is. all_count j p) (λ j p x is stands shared_page. refl) h.locks
+
+  -- ---- the whole
+
+  child_settles : Settles (slot_at s m) child
+  child_settles = stopped_settles (slot_at s m) child refl refl refl refl
+
+  parent_settles : Settles (slot_at running n) parent
+  parent_settles = record {
+    id = ap (λ (x : Slot). x.id) (sym parent_was);
+    env_type = ap (λ (x : Slot). x.env_type) (sym parent_was);
+    turns = ap (λ (x : Slot). x.runs) (sym parent_was);
+    calm = λ runs. subst (λ (x : Slot). is_running x.status ≡ true) (sym parent_was) runs;
+  }
+
   not_first : 0 ≢ m
   not_first first = let contradiction : serving FIRST_ENV_ID ≡ unborn id v.b.id = sym h.first ∙ ap a.slots first ∙ v.child_is in absurd cc
 
@@ -379,18 +433,18 @@ module _ {names : Names} {s : KernelState} {a : AbstractState} (h : StandsFor na
     users = rows.users;
     whole = rows.whole;
     beside = turned.beside;
+    ends = ends;
+    locks = locks;
+    runs = turns_settle (upd s.environments.slots m child) n parent (turns_settle s.environments.slots m child h.runs child_settles) parent_settles;
+    old = old_set (old_stays h.old n v.b v.is m newborn (λ fd. refl)) n back (λ fd name names_it. h.old n fd name v.b v.is names_it);
     free_slots = h.free_slots;
     first = abstract_same 0 (born_not_first h n v.b v.is) not_first ∙ h.first;
     server = server_same first_same h.server;
     input = h.input;
     last = h.last;
     turns = h.turns;
-    tabled = tabled_set (tabled_set h.tabled m child child_lives (stopped_settles (slot_at s m) child refl refl refl)) n parent
-        (ap (λ (x : Slot). is_live_slot x) parent_was ∙ born_live v.own) (record {
-          id = ap (λ (x : Slot). x.id) (sym parent_was);
-          env_type = ap (λ (x : Slot). x.env_type) (sym parent_was);
-          calm = λ runs. subst (λ (x : Slot). is_running x.status ≡ true) (sym parent_was) runs;
-        });
+    tabled = tabled_set (tabled_set h.tabled m child child_lives child_settles) n parent
+        (ap (λ (x : Slot). is_live_slot x) parent_was ∙ born_live v.own) parent_settles;
     in_order = slot_in_order running n parent live_so space_so (slot_in_order s m child (sym child_lives) refl h.in_order);
   }
 

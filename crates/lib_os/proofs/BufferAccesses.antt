@@ -38,6 +38,7 @@ use Rattle.lib_os.proofs.EntriesCount.{born_counts}
 use Rattle.lib_os.proofs.Logical.{inside_programs, unborne_plain}
 use Rattle.lib_os.proofs.Serving.{holds_page, library_moved, plain_copy, plain_upcall, plain_working}
 use Rattle.lib_os.proofs.SlotsStand.{born_at}
+use Rattle.lib_os.proofs.PipesStand.{calm_places, calm_unmade, descriptors_turned, is_calm, is_calm_step}
 use Rattle.lib_os.proofs.StatesStand.{born_not_first, slot_changed}
 use Rattle.lib_os.proofs.UsesKept.{stored_kept, touched_kept}
 use Rattle.lib_os.proofs.WordsTell.{handler_runs, is_in_handler, place_at}
@@ -162,12 +163,13 @@ module _ {names : Names} {s : KernelState} {a : AbstractState} (h : StandsFor na
 -- A service has gone on: its words tell another of its steps, and it is at another stage.
 pub stage_stands : {names : Names} {s : KernelState} {a : AbstractState} → StandsFor names s a → (n number : ℕ) (b : Born) →
     a.slots n ≡ born b → is_handlers (slot_at s n).registers.esp ≡ false → borne_in (place_of (slot_at s n)) ≡ None →
-    (service : Service) (to : Step) (stage : Stage) → holds_page (place_of (slot_at s n)) ≡ holds_page (place.InService service to) →
-    borne_in (place.InService service to) ≡ None → service_of (record (slot_at s n).registers { eax = number }) ≡ service →
+    is_calm (place_of (slot_at s n)) ≡ true → (service : Service) (to : Step) (stage : Stage) →
+    holds_page (place_of (slot_at s n)) ≡ holds_page (place.InService service to) →
+    borne_in (place.InService service to) ≡ None → is_calm_step to ≡ true → service_of (record (slot_at s n).registers { eax = number }) ≡ service →
     StandsAtStep (view_of s.spaces (slot_at s n).directory) (record (slot_at s n) { extra = words_at number to })
     (record b { phase = in_service service stage }) service to →
     StandsFor names (with_extra s n (words_at number to)) (at_stage a n b service stage)
-stage_stands {s = s} h n number b is outside unborne service to stage held unborne_after names_it so =
+stage_stands {names = names} {s = s} h n number b is outside unborne calm service to stage held unborne_after calm_after names_it so =
     let own = born_at h n b is in
     let k : Slot = record (slot_at s n) { extra = words_at number to } in
     let after : Born = record b { phase = in_service service stage } in
@@ -175,15 +177,17 @@ stage_stands {s = s} h n number b is outside unborne service to stage held unbor
     place_at (slot_at s n).registers number to outside ∙ ap (λ (x : Service). place.InService x to) names_it in
     let plain : is_in_handler (place_of (slot_at s n)) ≡ false = handler_runs (slot_at s n).registers (slot_at s n).extra ∙ outside in
     let plain_after : is_in_handler (place_of k) ≡ false = ap is_in_handler there in
-    slot_changed h n b is k after refl (record { id = refl; env_type = refl; calm = λ runs. runs })
-    (unborne_plain (place_of (slot_at s n)) plain unborne) (unborne_plain (place_of k) plain_after (ap borne_in there ∙ unborne_after)) (record {
+    let calm_there : is_calm (place_of k) ≡ true = ap is_calm there ∙ calm_after in
+    slot_changed h n b is k after refl (record { id = refl; env_type = refl; turns = refl; calm = λ runs. runs })
+    (unborne_plain (place_of (slot_at s n)) plain unborne (calm_unmade (place_of (slot_at s n)) calm))
+    (unborne_plain (place_of k) plain_after (ap borne_in there ∙ unborne_after) (calm_unmade (place_of k) calm_there)) (record {
       id = own.id;
       id_small = own.id_small;
       parent = own.parent;
       env_type = own.env_type;
       runs = own.runs;
       upcall = own.upcall ∙ plain_upcall (place_of (slot_at s n)) plain ∙ sym (plain_upcall (place_of k) plain_after);
-      descriptors = own.descriptors;
+      descriptors = descriptors_turned names s.spaces k.directory (place_of (slot_at s n)) (place_of k) b.descriptors calm calm_there own.descriptors;
       memory = own.memory;
       library = library_moved (place_of (slot_at s n)) (place_of k) (slot_at s n).extra k.extra (rows_of s.spaces k.directory)
           (plain_copy (place_of (slot_at s n)) plain ∙ sym (plain_copy (place_of k) plain_after))
@@ -194,7 +198,7 @@ stage_stands {s = s} h n number b is outside unborne service to stage held unbor
       stack = own.stack;
       flags = own.flags;
       at = subst (λ (p : Place). StandsAt p (view_of s.spaces k.directory) k after) (sym there) so;
-    })
+    }) (calm_places calm calm_there) (λ fd. refl)
 
 -- ---- how much is moved at once
 

@@ -2,7 +2,7 @@
 -- entry. The words that it reads tell whether the page refuses the byte, and that is so in the abstract system too.
 use Rattle.std.proofs.Common.{◌≡◌, ◌∙◌, ◌+◌, ◌*◌, ◌%◌, ◌^◌, ◌==◌, ◌&&◌, ◌||◌, not, ℕ, Bool, true, false, Option, Some, None}
 use Rattle.std.proofs.Common.{List, [], ◌∷◌, refl, sym, ap, subst, arith, if◌then◌else◌}
-use Rattle.std.specs.Prelude.{bit_and, is_some}
+use Rattle.std.specs.Prelude.{bit_and, drop, is_some}
 use Rattle.std.specs.Option.{option_map}
 use Rattle.std.proofs.lemmas.Nat.{and_assoc}
 use Rattle.jos_base.specs.declared.memory.Access.{Access}
@@ -30,7 +30,7 @@ use Rattle.lib_os.specs.LibraryPages.{View, region_index}
 use Rattle.lib_os.specs.Places.{place_of, words_at}
 use Rattle.lib_os.specs.Rows.{EntryRow, IsUsers, Names, is_cow, is_shared, page_by, rows_of, seen_where}
 use Rattle.lib_os.specs.StandsFor.{IsTaking, IsTakingPath, StandsAtStep, StandsBefore, StandsFor, borne_in, refuses_next, view_of, writes_buffer}
-use Rattle.lib_os.specs.StandsInHandler.{IsDelivering, buffer_of, is_refused_by, next_page, wanted_from}
+use Rattle.lib_os.specs.StandsInHandler.{IsDelivering, buffer_of, is_refused_by, next_page, stat_told, wanted_from}
 use Rattle.lib_os.specs.UserCalls.{load}
 use Rattle.lib_os.proofs.BytesRead.{users_inside}
 use Rattle.lib_os.proofs.DescriptorLooks.{read_goes_on}
@@ -40,6 +40,7 @@ use Rattle.lib_os.proofs.Loading.{loaded}
 use Rattle.lib_os.proofs.Logical.{inside_programs}
 use Rattle.lib_os.proofs.Numbered.{number_of}
 use Rattle.lib_os.proofs.Paths.{follows_inside, gathers_path, taking_follows}
+use Rattle.lib_os.proofs.PipesStand.{is_calm_step}
 use Rattle.lib_os.proofs.Serving.{IsServed, holds_page, served}
 use Rattle.lib_os.proofs.SlotsStand.{born_at}
 use Rattle.lib_os.proofs.WindowWords.{read_at, load_directory_word, load_table_word}
@@ -196,10 +197,12 @@ next_inside so v k b _ done word h = absurd h
 pub next_small : (va : ℕ) → is_inside va ≡ true → va % 2 ^ 32 ≡ va
 next_small va inside = let below = inside_below va inside in omega (arith, below)
 
--- The word that a step keeps: read's is the byte that it has, write's where its bytes begin in its page, and the others' says nothing.
+-- The word that a step keeps: read's is the byte that it has, write's where its bytes begin in its page, stat's what it tells of, and the others'
+-- says nothing.
 abbrev pub KeepsWord : Service → ℕ → ℕ → Type 0
 KeepsWord (service.Read fd va len) word to = to ≡ word
 KeepsWord (service.Write fd va len) word to = to ≡ word
+KeepsWord (service.Stat fd va) word to = to ≡ word
 KeepsWord _ word to = Unit {0}
 
 -- as it moves bytes it goes on to its access
@@ -208,6 +211,12 @@ moving_step (service.Write fd va len) done word = step.GatheringBytes done word
 moving_step (service.Remove path) done word = step.Gathering done
 moving_step (service.OpenFile path mode) done word = step.Gathering done
 moving_step _ done word = step.Delivering done word
+
+moving_calm : (service : Service) (done word : ℕ) → is_calm_step (moving_step service done word) ≡ true
+moving_calm (service.Write fd va len) done word = refl
+moving_calm (service.Remove path) done word = refl
+moving_calm (service.OpenFile path mode) done word = refl
+moving_calm _ done word = refl
 
 module _ (v : View) (k : Slot) (b : Born) (words : List ℕ) where
   delivering_with : (s : Service) (at : ℕ) (bytes : List ℕ) (answer : ℕ) → IsDelivering k b s at bytes answer →
@@ -257,7 +266,11 @@ module _ (v : View) (k : Slot) (b : Born) (words : List ℕ) where
         (delivering_with (service.Read fd va len) (va + done) (word ∷ []) 1 h.0),
     known,
   )
-  before_with so so_after (service.Stat fd va) done word to same known h = (delivering_with (service.Stat fd va) _ _ _ h.0, known)
+  before_with so so_after (service.Stat fd va) done word to same known h = (
+    subst (λ (kept : ℕ). IsDelivering (record k { extra = words }) b (service.Stat fd va) (va + done) (drop done (stat_told kept)) 0) (sym same)
+        (delivering_with (service.Stat fd va) (va + done) (drop done (stat_told word)) 0 h.0),
+    known,
+  )
   before_with so so_after (service.Write fd va len) done word to same known h = (taking_with fd va len word to done same h.0, known)
   before_with so so_after (service.Remove path) done word to same known h = (taking_path_with (service.Remove path) done h.0, known)
   before_with so so_after (service.OpenFile path mode) done word to same known h = (taking_path_with (service.OpenFile path mode) done h.0, known)
@@ -271,7 +284,11 @@ module _ (v : View) (k : Slot) (b : Born) (words : List ℕ) where
         (delivering_with (service.Read fd va len) (va + done) (word ∷ []) 1 h.0),
     free,
   )
-  moving_with so (service.Stat fd va) done word to same free h = (delivering_with (service.Stat fd va) _ _ _ h.0, free)
+  moving_with so (service.Stat fd va) done word to same free h = (
+    subst (λ (kept : ℕ). IsDelivering (record k { extra = words }) b (service.Stat fd va) (va + done) (drop done (stat_told kept)) 0) (sym same)
+        (delivering_with (service.Stat fd va) (va + done) (drop done (stat_told word)) 0 h.0),
+    free,
+  )
   moving_with so (service.Write fd va len) done word to same free h = (taking_with fd va len word to done same h.0, free)
   moving_with so (service.Remove path) done word to same free h =
       gathers_path v (record k { extra = words }) b (service.Remove path) done (taking_path_with (service.Remove path) done h.0) free
@@ -376,13 +393,14 @@ module _ (s : KernelState) (n : ℕ) (service : Service) (done word : ℕ) where
         (region_given h n before.b before.is (buffer_of service + done) region_inside)
 
     module _ (order : IsInOrder (loaded s n (buffer_region_va service done))) (to : ℕ) (same : KeepsWord service word to) where
-      region_goes : (at : Step) → holds_page (place.InService service (step.BufferRegion done word)) ≡ holds_page (place.InService service at) →
+      region_goes : (at : Step) → is_calm_step at ≡ true → holds_page (place.InService service (step.BufferRegion done word)) ≡ holds_page
+          (place.InService service at) →
           StandsAtStep space (record (slot_at s n) { extra = words_at (number_of service) at }) before.b service at →
           StandsFor names (with_extra (loaded s n (buffer_region_va service done)) n (words_at (number_of service) at)) a
-      region_goes at held so =
+      region_goes at calm held so =
           let unborne = unborne_before (Unit {0}) space (slot_at s n) before.b done word service before.at in
-          read_goes_on h n service (step.BufferRegion done word) before (unborne (step.BufferRegion done word)) (buffer_region_va service done) order
-          at (unborne at) held so
+          read_goes_on h n service (step.BufferRegion done word) before (unborne (step.BufferRegion done word)) refl (buffer_region_va service done)
+          order at (unborne at) calm held so
 
       -- it has one: the page's entry is looked at
       pub buffer_region_found : tells_page (buffer_region_word s n service done) ≡ true →
@@ -390,7 +408,7 @@ module _ (s : KernelState) (n : ℕ) (service : Service) (done word : ℕ) where
       buffer_region_found told =
           let there : is_some (s.spaces.regions (slot_at s n).directory (region_index (buffer_of service + done))) ≡ true =
           sym (region_told (s.spaces.regions (slot_at s n).directory (region_index (buffer_of service + done)))) ∙ told in
-          region_goes (step.BufferEntry done to) (held_entry (Unit {0}) space (slot_at s n) before.b done word service before.at to)
+          region_goes (step.BufferEntry done to) refl (held_entry (Unit {0}) space (slot_at s n) before.b done word service before.at to)
           (before_with space (slot_at s n) before.b (words_at (number_of service) (step.BufferEntry done to)) (Unit {0}) HasTable service done word to
           same there before.at)
 
@@ -402,7 +420,7 @@ module _ (s : KernelState) (n : ℕ) (service : Service) (done word : ℕ) where
           sym (region_told (s.spaces.regions (slot_at s n).directory (region_index (buffer_of service + done)))) ∙ told in
           let refused : refuses_next space.row service done ≡ true =
           ap (is_refused_by (writes_buffer service)) (table_none h n before.b before.is (buffer_of service + done) region_inside none) in
-          region_goes (step.Faulting done to) ((held_faulting (Unit {0}) space (slot_at s n) before.b done word service before.at to).0)
+          region_goes (step.Faulting done to) refl ((held_faulting (Unit {0}) space (slot_at s n) before.b done word service before.at to).0)
           (before_with space (slot_at s n) before.b (words_at (number_of service) (step.Faulting done to)) (Unit {0}) Refuses service done word to
           same refused before.at)
 
@@ -427,19 +445,21 @@ module _ (s : KernelState) (n : ℕ) (service : Service) (done word : ℕ) where
     refusal_is = entry_told h n before_page.b before_page.is (buffer_of service + done) entry_inside (writes_buffer service)
 
     module _ (order : IsInOrder (loaded s n (buffer_entry_va service done))) (to : ℕ) (same : KeepsWord service word to) where
-      entry_goes : (at : Step) → holds_page (place.InService service (step.BufferEntry done word)) ≡ holds_page (place.InService service at) →
+      entry_goes : (at : Step) → is_calm_step at ≡ true → holds_page (place.InService service (step.BufferEntry done word)) ≡ holds_page
+          (place.InService service at) →
           StandsAtStep space (record (slot_at s n) { extra = words_at (number_of service) at }) before_page.b service at →
           StandsFor names (with_extra (loaded s n (buffer_entry_va service done)) n (words_at (number_of service) at)) a
-      entry_goes at held so =
+      entry_goes at calm held so =
           let unborne = unborne_before HasTable space (slot_at s n) before_page.b done word service before_page.at in
-          read_goes_on h n service (step.BufferEntry done word) before_page (unborne (step.BufferEntry done word)) (buffer_entry_va service done)
-          order at (unborne at) held so
+          read_goes_on h n service (step.BufferEntry done word) before_page (unborne (step.BufferEntry done word)) refl
+          (buffer_entry_va service done) order at (unborne at) calm held so
 
       -- it does: the service goes on to its access
       pub buffer_entry_allows : tells_allowed (writes_buffer service) (buffer_entry_word s n service done) ≡ true →
           StandsFor names (with_extra (loaded s n (buffer_entry_va service done)) n (words_at (number_of service) (moving_step service done to))) a
       buffer_entry_allows told =
-          entry_goes (moving_step service done to) (held_moving HasTable space (slot_at s n) before_page.b done word service before_page.at to)
+          entry_goes (moving_step service done to) (moving_calm service done to) (held_moving HasTable space (slot_at s n) before_page.b done
+          word service before_page.at to)
           (moving_with space (slot_at s n) before_page.b (words_at (number_of service) (moving_step service done to)) HasTable service done word to
           same (refusal_is ∙ ap not told) before_page.at)
 
@@ -447,6 +467,6 @@ module _ (s : KernelState) (n : ℕ) (service : Service) (done word : ℕ) where
       pub buffer_entry_refuses : tells_allowed (writes_buffer service) (buffer_entry_word s n service done) ≡ false →
           StandsFor names (with_extra (loaded s n (buffer_entry_va service done)) n (words_at (number_of service) (step.Faulting done to))) a
       buffer_entry_refuses told =
-          entry_goes (step.Faulting done to) ((held_faulting HasTable space (slot_at s n) before_page.b done word service before_page.at to).1)
+          entry_goes (step.Faulting done to) refl ((held_faulting HasTable space (slot_at s n) before_page.b done word service before_page.at to).1)
           (before_with space (slot_at s n) before_page.b (words_at (number_of service) (step.Faulting done to)) HasTable Refuses service done word to
           same (refusal_is ∙ ap not told) before_page.at)

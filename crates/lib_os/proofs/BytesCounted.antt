@@ -14,14 +14,14 @@ use Rattle.lib_os.specs.declared.place.Step.{Step}
 use Rattle.lib_os.specs.declared.place.Step.TheVariants as step
 use Rattle.lib_os.specs.declared.service.Service.{Service}
 use Rattle.lib_os.specs.declared.service.Service.TheVariants as service
-use Rattle.lib_os.specs.AbstractState.{AbstractState, Born, in_service, replied}
+use Rattle.lib_os.specs.AbstractState.{AbstractState, Born, Phase, in_service, replied}
 use Rattle.lib_os.specs.Fence.{in_fence, is_buffer}
 use Rattle.lib_os.specs.InOrder.{IsInOrder}
 use Rattle.lib_os.specs.LibraryPages.{HasTaken, View, keeps_request}
 use Rattle.lib_os.specs.Places.{place_of, words_at}
 use Rattle.lib_os.specs.Rows.{Names}
 use Rattle.lib_os.specs.StandsFor.{AwaitsOrHasBytes, HasBytesReply, HasReply, IsCounting, IsStatusFor, StandsAtStep, StandsFor, awaits_bytes, has_bytes, view_of}
-use Rattle.lib_os.specs.StandsInHandler.{answer_behind, buffer_of, handed_with, hands_back, most_of, wanted_of}
+use Rattle.lib_os.specs.StandsInHandler.{HandsAt, answer_behind, buffer_of, by_reply, handed_with, hands_back, most_of, wanted_of}
 use Rattle.lib_os.specs.UserCalls.{load}
 use Rattle.lib_os.proofs.Beneath.{handing_unborne}
 use Rattle.lib_os.proofs.DescriptorLooks.{read_goes_on}
@@ -29,6 +29,7 @@ use Rattle.lib_os.proofs.FileLooks.{handing_held}
 use Rattle.lib_os.proofs.Loading.{loaded}
 use Rattle.lib_os.proofs.Numbered.{number_of}
 use Rattle.lib_os.proofs.ReplyRead.{reply_at, reply_load}
+use Rattle.lib_os.proofs.PipesStand.{is_calm_step}
 use Rattle.lib_os.proofs.Serving.{IsServed, served}
 use Rattle.lib_os.proofs.SlotsStand.{born_live}
 use Rattle.lib_os.proofs.WindowWords.{read_at}
@@ -79,7 +80,7 @@ handed_answer (service.Stat fd va) hands word some = by_test (word == 0) refl so
 handed_answer _ hands word some = absurd (false≢true hands)
 
 -- a buffer of fewer bytes
-buffer_less : (va n m : ℕ) → is_buffer va n ≡ true → m ≤ n → is_buffer va m ≡ true
+pub buffer_less : (va n m : ℕ) → is_buffer va n ≡ true → m ≤ n → is_buffer va m ≡ true
 unfolding in_fence
 buffer_less va n m buffer few = grind (arith, nat_tests)
 
@@ -122,19 +123,22 @@ module _ (s : KernelState) (n id : ℕ) (call : Service) (stands : place_of (slo
   counting_gives = reply_load s n id (h.tabled.ids n (born_live v.own)) it.self has.small
 
   module _ (order : IsInOrder (loaded s n (reply_at id))) where
-    counting_goes : (to : Step) → keeps_request to ≡ true →
+    counting_goes : (to : Step) → keeps_request to ≡ true → is_calm_step to ≡ true →
         StandsAtStep space (record (slot_at s n) { extra = words_at (number_of call) to }) v.b call to →
         StandsFor names (with_extra (loaded s n (reply_at id)) n (words_at (number_of call) to)) a
-    counting_goes to keeps so =
-        read_goes_on h n call (step.CountingReply id) v (handing_unborne call it.hands (step.CountingReply id)) (reply_at id) order to
-        (handing_unborne call it.hands to)
+    counting_goes to keeps calm so =
+        read_goes_on h n call (step.CountingReply id) v (handing_unborne call it.hands (step.CountingReply id)) refl (reply_at id) order to
+        (handing_unborne call it.hands to) calm
         (handing_held call it.hands (step.CountingReply id) refl ∙ sym (handing_held call it.hands to keeps)) so
 
     -- no bytes come with it: its page is given back
     pub counts_none : handed_with call (slot_at s n).rendezvous.value ≡ 0 →
         StandsFor names (with_extra (loaded s n (reply_at id)) n (words_at (number_of call) (step.Clearing id))) a
     counts_none none =
-        counting_goes (step.Clearing id) refl (clearing_there space (record (slot_at s n) { extra = words_at (number_of call) (step.Clearing id) }) v.b id
+        counting_goes (step.Clearing id) refl refl (clearing_there space (record (slot_at s n) {
+          extra = words_at (number_of call) (step.Clearing
+              id);
+        }) v.b id
         call it.hands (
           it.self,
           record {
@@ -153,13 +157,15 @@ module _ (s : KernelState) (n id : ℕ) (call : Service) (stands : place_of (slo
         StandsFor names (with_extra (loaded s n (reply_at id)) n (words_at (number_of call) (step.FileRegion 0 counted_bytes))) a
     counts_some some =
         let most = handed_most call it.hands counted_word in
-        counting_goes (step.FileRegion 0 counted_bytes) refl (record {
+        counting_goes (step.FileRegion 0 counted_bytes) refl refl (record {
           hands = it.hands;
           regs = has.regs;
           program = has.program;
+          eax = 0;
           registers = has.registers;
           bytes = has.bytes;
-          phase = has.phase ∙ ap (λ (word : ℕ). in_service call (replied has.bytes word)) (handed_answer call it.hands counted_word some);
+          hands_at = subst (λ (q : Phase). HandsAt call has.bytes (answer_behind call counted_bytes) 0 q)
+              (sym (has.phase ∙ ap (λ (word : ℕ). in_service call (replied has.bytes word)) (handed_answer call it.hands counted_word some))) by_reply;
           many = has.many;
           fewer = some;
           most = (let first = most.0 in let last = most.1 in omega (arith, first, last));

@@ -26,7 +26,6 @@ use Rattle.lib_os.specs.declared.service.Service.{Service}
 use Rattle.lib_os.specs.declared.service.Service.TheVariants as service
 use Rattle.lib_os.specs.declared.numbers.TheConstants.{SERVICE_STAT, STAT_SIZE}
 use Rattle.lib_os.specs.AbstractRun.{abs_step}
-use Rattle.lib_os.specs.FileServices.{terminal_stat}
 use Rattle.lib_os.specs.LibraryCall.{library_step}
 use Rattle.fs_layout.specs.FileActs.{stat_bytes}
 use Rattle.fs_layout.specs.declared.numbers.TheConstants.{FTYPE_REG, MAXNAMELEN}
@@ -43,7 +42,7 @@ use Rattle.lib_os.specs.LibrarySteps.{service_answered}
 use Rattle.lib_os.specs.Places.{place_of, words_at}
 use Rattle.lib_os.specs.Rows.{AreBytes, Names, Rows, lasting, rows_of}
 use Rattle.lib_os.specs.StandsFor.{StandsAtStep, StandsFor, borne_in, view_of}
-use Rattle.lib_os.specs.StandsInHandler.{IsDelivering, is_refused_by}
+use Rattle.lib_os.specs.StandsInHandler.{IsDelivering, is_refused_by, stat_told}
 use Rattle.lib_os.specs.UserCalls.{accessing, giving, store, store_byte, with_bytes_put, with_user_byte, with_user_word}
 use Rattle.lib_os.proofs.Answering.{back_stands}
 use Rattle.lib_os.proofs.BufferAccesses.{IsMoved, entry_lets, moved_is, reached_order, stage_stands, stored_order}
@@ -52,10 +51,12 @@ use Rattle.lib_os.proofs.BytesRead.{lasting_reads, lasting_writes, user_entry_wr
 use Rattle.lib_os.proofs.BytesStand.{stored_stands}
 use Rattle.lib_os.proofs.EntryWords.{row_entry}
 use Rattle.lib_os.proofs.Fences.{buffer_below, buffer_each, inside_below, inside_number}
-use Rattle.lib_os.proofs.Logical.{inside_programs}
+use Rattle.lib_os.proofs.Logical.{inside_programs, is_making_pipe}
 use Rattle.lib_os.proofs.Numbered.{named_at, number_of}
 use Rattle.lib_os.proofs.PageBytes.{bytes_drop, bytes_take}
+use Rattle.lib_os.proofs.PipesStand.{calm_unmade, is_calm, is_calm_step}
 use Rattle.lib_os.proofs.Serving.{IsServed, holds_page, service_step}
+use Rattle.lib_os.proofs.SlotsStand.{is_piped}
 use Rattle.lib_os.proofs.StatesStand.{quiet_stands}
 use Rattle.lib_os.proofs.Touching.{byte_stored, stored_is, touched_quiet}
 use Rattle.lib_os.proofs.WordsTell.{is_in_handler, outside_stack}
@@ -120,23 +121,25 @@ lets_next s d p va byte count lets =
     }
 
 pub put_stands : {names : Names} (bytes : List ℕ) (s : KernelState) (a : AbstractState) → StandsFor names s a → (n : ℕ) (b : Born) → a.slots n ≡ born b →
-    is_in_handler (place_of (slot_at s n)) ≡ false → borne_in (place_of (slot_at s n)) ≡ None → (p va : ℕ) → AreBytes bytes →
+    is_in_handler (place_of (slot_at s n)) ≡ false → borne_in (place_of (slot_at s n)) ≡ None → is_making_pipe (place_of (slot_at s n)) ≡ false →
+    is_piped (place_of (slot_at s n)) ≡ false → s.last ≡ Some n → (p va : ℕ) → AreBytes bytes →
     LetsWrite s.spaces (slot_at s n).directory p va (length bytes) →
     IsPut names s (spaces_put s.spaces (slot_at s n).directory va bytes) a (all_stored a n va bytes) n b
 unfolding spaces_put all_stored rows_of
-put_stands [] s a h n b at outside unborne p va small lets =
+put_stands [] s a h n b at outside unborne unmade off last p va small lets =
     record { it = b; there = at; program = refl; phase = refl; blocked = refl; console = refl; rows = refl; stands = h }
-put_stands {names} (byte ∷ rest) s a h n b at outside unborne p va small lets =
+put_stands {names} (byte ∷ rest) s a h n b at outside unborne unmade off last p va small lets =
     let d : ℕ = (slot_at s n).directory in
     let sp : SpacesState = stored_byte s.spaces d va byte in
     let here = lets_first s.spaces d p va (length rest) lets in
     let below = inside_below va here.0 in
     let next : (va + 1) % 2 ^ 32 ≡ va + 1 = omega (arith, below) in
     let put = byte_stored s.spaces d va byte lets.entry (inside_number va here.0) here.1 lets.allowed in
-    let one = stored_stands h n b at outside unborne va byte (small zero) (inside_programs va here.0) (lasting lets.entry)
+    let one = stored_stands h n b at outside unborne unmade off last va byte (small zero) (inside_programs va here.0) (lasting lets.entry)
     (ap (option_map lasting) here.1) lets.writes put (stored_order s n va byte h.in_order) in
     let was = byte_put {s = s} n b va byte (page_at b va) at put.rows one in
-    let more = put_stands rest (with_spaces s sp) (stored a n b va byte) one n was.it was.there outside unborne p (va + 1) (λ i. small (suc i))
+    let more = put_stands rest (with_spaces s sp) (stored a n b va byte) one n was.it was.there outside unborne unmade off last p (va + 1) (λ i.
+    small (suc i))
     (lets_next s.spaces d p va byte (length rest) lets) in
     subst (λ (after : AbstractState). IsPut names s (spaces_put sp d (va + 1) rest) a after n b)
     (λ i. all_stored (stored_into a n va byte (born_in (sym at i))) n (sym next i) rest)
@@ -174,7 +177,8 @@ buffer_behind va n c buffer few = grind (arith, nat_tests)
 -- it has bytes for an address, and the page there is one that may be written, where it stands or as a copy of it
 module _ {names : Names} {s : KernelState} {a : AbstractState} (h : StandsFor names s a) (n : ℕ) (b : Born) (is : a.slots n ≡ born b)
     (call : Service) (step : Step) (stands : place_of (slot_at s n) ≡ place.InService call step)
-    (unborne : borne_in (place.InService call step) ≡ None) (at : ℕ) (bytes : List ℕ) (answer : ℕ) (v : IsDelivering (slot_at s n) b call at bytes answer)
+    (unborne : borne_in (place.InService call step) ≡ None) (calm : is_calm (place.InService call step) ≡ true)
+    (off : is_piped (place.InService call step) ≡ false) (at : ℕ) (bytes : List ℕ) (answer : ℕ) (v : IsDelivering (slot_at s n) b call at bytes answer)
     (lets : is_refused_by true (rows_of s.spaces (slot_at s n).directory (page_number at)) ≡ false) where
   abbrev k : Slot
   k = slot_at s n
@@ -216,6 +220,9 @@ module _ {names : Names} {s : KernelState} {a : AbstractState} (h : StandsFor na
 
   none_borne : borne_in (place_of k) ≡ None
   none_borne = ap borne_in stands ∙ unborne
+
+  calm_here : is_calm (place_of k) ≡ true
+  calm_here = ap is_calm stands ∙ calm
 
   put_length : length first_bytes ≡ count
   put_length = length-take-le count bytes lies.within
@@ -272,9 +279,6 @@ module _ {names : Names} {s : KernelState} {a : AbstractState} (h : StandsFor na
     abbrev pub putting : KernelState
     putting = with_spaces s put_spaces
 
-    pub put : IsPut names touched_state put_spaces a (all_stored a n at first_bytes) n b
-    put = put_stands first_bytes touched_state a touched_stands n b is outside none_borne (page_number at) at (bytes_take count bytes v.small) touched_lets
-
     -- a word, where four bytes are put
     pub word_put : (word : ℕ) → to_le_bytes w32 word ≡ first_bytes → store s n at word ≡ giving putting tt
     unfolding store
@@ -291,65 +295,72 @@ module _ {names : Names} {s : KernelState} {a : AbstractState} (h : StandsFor na
         ∙ ap (λ (l : List ℕ). giving (with_bytes_put touched_state n at l) tt) same
         ∙ ap (λ (t : KernelState). giving t tt) (put_is touched_state n at first_bytes)
 
-    -- with these left, for the environment as it is then
-    abbrev with_left : List ℕ → Option Born → AbstractState
-    with_left rest it = delivered_so_far (all_stored a n at first_bytes) n regs call ((at + count) % 2 ^ 32) answer rest it
+    -- in its turn
+    module _ (last : s.last ≡ Some n) where
+      pub put : IsPut names touched_state put_spaces a (all_stored a n at first_bytes) n b
+      put = put_stands first_bytes touched_state a touched_stands n b is outside none_borne (calm_unmade (place_of k) calm_here)
+          (ap is_piped stands ∙ off) last (page_number at) at (bytes_take count bytes v.small) touched_lets
 
-    so_far : (rest : List ℕ) → with_left rest (born_in ((all_stored a n at first_bytes).slots n)) ≡ with_left rest (Some put.it)
-    so_far rest = ap (λ (slot : AbstractSlot). with_left rest (born_in slot)) put.there
+      -- with these left, for the environment as it is then
+      abbrev with_left : List ℕ → Option Born → AbstractState
+      with_left rest it = delivered_so_far (all_stored a n at first_bytes) n regs call ((at + count) % 2 ^ 32) answer rest it
 
-    -- nothing is printed
-    pub delivered_console : delivered.console ≡ a.console
-    delivered_console = ap (λ (x : AbstractState). x.console) (so_far other_bytes) ∙ by_rest other_bytes ∙ put.console
-      where
-        by_rest : (rest : List ℕ) → (with_left rest (Some put.it)).console ≡ (all_stored a n at first_bytes).console
-        by_rest [] = refl
-        by_rest (byte ∷ rest) = refl
+      so_far : (rest : List ℕ) → with_left rest (born_in ((all_stored a n at first_bytes).slots n)) ≡ with_left rest (Some put.it)
+      so_far rest = ap (λ (slot : AbstractSlot). with_left rest (born_in slot)) put.there
 
-    -- no byte is left, and it has answered
-    pub answer_stands : other_bytes ≡ [] → holds_page (place.InService call step) ≡ false →
-        StandsFor names (service_answered putting n answer) delivered
-    answer_stands none holds =
-        subst (λ (x : AbstractState). StandsFor names (service_answered putting n answer) x)
-        (sym (so_far other_bytes ∙ ap (λ (rest : List ℕ). with_left rest (Some put.it)) none))
-        (back_stands put.stands n put.it put.there (record regs { eax = answer }) none_borne (ap holds_page stands ∙ holds) v.silent
-        (put.blocked ∙ v.awake) (outside_stack regs k.extra (place.InService call step) stands refl) refl refl)
+      -- nothing is printed
+      pub delivered_console : delivered.console ≡ a.console
+      delivered_console = ap (λ (x : AbstractState). x.console) (so_far other_bytes) ∙ by_rest other_bytes ∙ put.console
+        where
+          by_rest : (rest : List ℕ) → (with_left rest (Some put.it)).console ≡ (all_stored a n at first_bytes).console
+          by_rest [] = refl
+          by_rest (byte ∷ rest) = refl
 
-    pub put_row : rows_of put_spaces d ≡ rows_of s.spaces d
-    put_row = ap (λ (rows : Rows). rows d) (put.rows ∙ (touched_quiet s.spaces d at Write).rows)
+      -- no byte is left, and it has answered
+      pub answer_stands : other_bytes ≡ [] → holds_page (place.InService call step) ≡ false →
+          StandsFor names (service_answered putting n answer) delivered
+      answer_stands none holds =
+          subst (λ (x : AbstractState). StandsFor names (service_answered putting n answer) x)
+          (sym (so_far other_bytes ∙ ap (λ (rest : List ℕ). with_left rest (Some put.it)) none))
+          (back_stands put.stands n put.it put.there (record regs { eax = answer }) none_borne (ap holds_page stands ∙ holds) calm_here v.silent
+          (put.blocked ∙ v.awake) (outside_stack regs k.extra (place.InService call step) stands refl) refl refl)
 
-    -- some are, and it stands before them at another step
-    pub rest_stands : (to : Step) → 0 < length other_bytes → holds_page (place.InService call step) ≡ holds_page (place.InService call to) →
-        borne_in (place.InService call to) ≡ None →
-        ((w : View) (c : Born) → w.row ≡ rows_of s.spaces d →
-        IsDelivering (record k { extra = words_at (number_of call) to }) c call (at + count) other_bytes answer →
-        StandsAtStep w (record k { extra = words_at (number_of call) to }) c call to) →
-        StandsFor names (with_extra putting n (words_at (number_of call) to)) delivered
-    rest_stands to some held unborne_after so = by_rest other_bytes refl some
-      where
-        by_rest : (rest : List ℕ) → other_bytes ≡ rest → 0 < length rest → StandsFor names (with_extra putting n (words_at (number_of call) to)) delivered
-        by_rest [] left more = absurd (omega (arith, more))
-        by_rest (byte ∷ rest) left more =
-            let within = lies.within in
-            let end = ends_below in
-            let long = length-drop count bytes in
-            let next : (at + count) % 2 ^ 32 ≡ at + count = omega (arith, within, end) in
-            let after : AbstractState = all_stored a n at first_bytes in
-            let c : Born = record put.it { phase = in_service call (delivering (at + count) other_bytes answer) } in
-            subst (λ (x : AbstractState). StandsFor names (with_extra putting n (words_at (number_of call) to)) x)
-            ((λ i. at_stage after n put.it call (delivering (sym next i) (left i) answer))
-            ∙ sym (so_far other_bytes ∙ ap (λ (l : List ℕ). with_left l (Some put.it)) left))
-            (stage_stands put.stands n (number_of call) put.it put.there (outside_stack regs k.extra (place.InService call step) stands refl)
-            none_borne call to (delivering (at + count) other_bytes answer) (ap holds_page stands ∙ held) unborne_after (named_at k call step stands)
-            (so (view_of put_spaces d) c put_row (record {
-              program = put.program ∙ v.program;
-              phase = refl;
-              silent = v.silent;
-              awake = put.blocked ∙ v.awake;
-              some = some;
-              inside = ap (is_buffer (at + count)) long ∙ buffer_behind at (length bytes) count v.inside within;
-              small = bytes_drop count bytes v.small;
-            })))
+      pub put_row : rows_of put_spaces d ≡ rows_of s.spaces d
+      put_row = ap (λ (rows : Rows). rows d) (put.rows ∙ (touched_quiet s.spaces d at Write).rows)
+
+      -- some are, and it stands before them at another step
+      pub rest_stands : (to : Step) → 0 < length other_bytes → holds_page (place.InService call step) ≡ holds_page (place.InService call to) →
+          borne_in (place.InService call to) ≡ None → is_calm_step to ≡ true →
+          ((w : View) (c : Born) → w.row ≡ rows_of s.spaces d →
+          IsDelivering (record k { extra = words_at (number_of call) to }) c call (at + count) other_bytes answer →
+          StandsAtStep w (record k { extra = words_at (number_of call) to }) c call to) →
+          StandsFor names (with_extra putting n (words_at (number_of call) to)) delivered
+      rest_stands to some held unborne_after calm_after so = by_rest other_bytes refl some
+        where
+          by_rest : (rest : List ℕ) → other_bytes ≡ rest → 0 < length rest → StandsFor names (with_extra putting n (words_at (number_of call) to)) delivered
+          by_rest [] left more = absurd (omega (arith, more))
+          by_rest (byte ∷ rest) left more =
+              let within = lies.within in
+              let end = ends_below in
+              let long = length-drop count bytes in
+              let next : (at + count) % 2 ^ 32 ≡ at + count = omega (arith, within, end) in
+              let after : AbstractState = all_stored a n at first_bytes in
+              let c : Born = record put.it { phase = in_service call (delivering (at + count) other_bytes answer) } in
+              subst (λ (x : AbstractState). StandsFor names (with_extra putting n (words_at (number_of call) to)) x)
+              ((λ i. at_stage after n put.it call (delivering (sym next i) (left i) answer))
+              ∙ sym (so_far other_bytes ∙ ap (λ (l : List ℕ). with_left l (Some put.it)) left))
+              (stage_stands put.stands n (number_of call) put.it put.there (outside_stack regs k.extra (place.InService call step) stands refl)
+              none_borne calm_here call to (delivering (at + count) other_bytes answer) (ap holds_page stands ∙ held) unborne_after calm_after
+              (named_at k call step stands)
+              (so (view_of put_spaces d) c put_row (record {
+                program = put.program ∙ v.program;
+                phase = refl;
+                silent = v.silent;
+                awake = put.blocked ∙ v.awake;
+                some = some;
+                inside = ap (is_buffer (at + count)) long ∙ buffer_behind at (length bytes) count v.inside within;
+                small = bytes_drop count bytes v.small;
+              })))
 
 -- ---- read
 
@@ -364,22 +375,25 @@ module _ {names : Names} {s : KernelState} {a : AbstractState} (h : StandsFor na
 
   pub read_va_is : read_va ≡ va + done
   read_va_is =
-      let below = ends_below h n v.b v.is (service.Read fd va len) (step.Delivering done word) v.place refl (va + done) (word ∷ []) 1 v.at.0 v.at.1 in
+      let below = ends_below h n v.b v.is (service.Read fd va len) (step.Delivering done word) v.place refl refl refl (va + done) (word ∷ []) 1
+      v.at.0 v.at.1 in
       omega (arith, below)
 
   -- the abstract system after it
   abbrev pub read_delivered : AbstractState
-  read_delivered = delivered h n v.b v.is (service.Read fd va len) (step.Delivering done word) v.place refl (va + done) (word ∷ []) 1 v.at.0 v.at.1
+  read_delivered = delivered h n v.b v.is (service.Read fd va len) (step.Delivering done word) v.place refl refl refl (va + done) (word ∷ []) 1
+      v.at.0 v.at.1
 
   pub read_step : abs_step a n ≡ Some read_delivered
   unfolding library_step
   read_step =
       service_step a n v.b sl.registers (service.Read fd va len) (delivering (va + done) (word ∷ []) 1) v.is v.at.0.program v.at.0.phase v.at.0.awake
-      ∙ ap Some (delivered_is h n v.b v.is (service.Read fd va len) (step.Delivering done word) v.place refl (va + done) (word ∷ []) 1 v.at.0 v.at.1)
+      ∙ ap Some (delivered_is h n v.b v.is (service.Read fd va len) (step.Delivering done word) v.place refl refl refl (va + done) (word ∷ []) 1
+      v.at.0 v.at.1)
 
   one_put : moved_at_once (va + done) 1 ≡ 1
   one_put =
-      let it = lies h n v.b v.is (service.Read fd va len) (step.Delivering done word) v.place refl (va + done) (word ∷ []) 1 v.at.0 v.at.1 in
+      let it = lies h n v.b v.is (service.Read fd va len) (step.Delivering done word) v.place refl refl refl (va + done) (word ∷ []) 1 v.at.0 v.at.1 in
       let some = it.some in
       let within = it.within in
       omega (arith, some, within)
@@ -391,69 +405,79 @@ module _ {names : Names} {s : KernelState} {a : AbstractState} (h : StandsFor na
 
     -- the state behind it
     abbrev pub read_putting : KernelState
-    read_putting = putting h n v.b v.is (service.Read fd va len) (step.Delivering done word) v.place refl (va + done) (word ∷ []) 1 v.at.0 v.at.1 there_too
+    read_putting = putting h n v.b v.is (service.Read fd va len) (step.Delivering done word) v.place refl refl refl (va + done) (word ∷ []) 1
+        v.at.0 v.at.1 there_too
 
     pub read_put : store_byte s n read_va (word % 256) ≡ giving read_putting tt
     read_put =
         let small = v.at.0.small zero in
         let byte : word % 256 ≡ word = omega (arith, small) in
         (λ i. store_byte s n (read_va_is i) (byte i))
-        ∙ byte_is_put h n v.b v.is (service.Read fd va len) (step.Delivering done word) v.place refl (va + done) (word ∷ []) 1 v.at.0 v.at.1 there_too word
+        ∙ byte_is_put h n v.b v.is (service.Read fd va len) (step.Delivering done word) v.place refl refl refl (va + done) (word ∷ []) 1 v.at.0
+        v.at.1 there_too word
         (sym (ap (λ (c : ℕ). take c (word ∷ [])) one_put))
 
-    pub read_console : read_delivered.console ≡ a.console
-    read_console =
-        delivered_console h n v.b v.is (service.Read fd va len) (step.Delivering done word) v.place refl (va + done) (word ∷ []) 1 v.at.0 v.at.1 there_too
+    -- in its turn
+    module _ (last : s.last ≡ Some n) where
+      pub read_console : read_delivered.console ≡ a.console
+      read_console =
+          delivered_console h n v.b v.is (service.Read fd va len) (step.Delivering done word) v.place refl refl refl (va + done) (word ∷ []) 1
+          v.at.0 v.at.1 there_too last
 
-    pub read_stands : StandsFor names (service_answered read_putting n 1) read_delivered
-    read_stands =
-        answer_stands h n v.b v.is (service.Read fd va len) (step.Delivering done word) v.place refl (va + done) (word ∷ []) 1 v.at.0 v.at.1 there_too
-        (ap (λ (c : ℕ). drop c (word ∷ [])) one_put) refl
+      pub read_stands : StandsFor names (service_answered read_putting n 1) read_delivered
+      read_stands =
+          answer_stands h n v.b v.is (service.Read fd va len) (step.Delivering done word) v.place refl refl refl (va + done) (word ∷ []) 1 v.at.0
+          v.at.1 there_too last
+          (ap (λ (c : ℕ). drop c (word ∷ [])) one_put) refl
 
 -- ---- stat
 
-stat_length : length terminal_stat ≡ STAT_SIZE
+named_length : (name : List ℕ) (size kind : ℕ) → length name ≡ 6 → length (stat_bytes name size kind) ≡ STAT_SIZE
 unfolding stat_bytes
-stat_length =
-    let name : length (codes "<cons>") ≡ 6 = refl in
-    let nuls = length-replicate {A = ℕ} (MAXNAMELEN - length (codes "<cons>")) 0 in
-    let words = length-bytes_of_words (0 ∷ FTYPE_REG ∷ []) in
-    let front = length-append (codes "<cons>") (replicate (MAXNAMELEN - length (codes "<cons>")) 0) in
-    let all = length-append (codes "<cons>" ++ replicate (MAXNAMELEN - length (codes "<cons>")) 0) (bytes_of_words (0 ∷ FTYPE_REG ∷ [])) in
-    omega (arith, name, nuls, words, front, all)
+named_length name size kind six =
+    let nuls = length-replicate {A = ℕ} (MAXNAMELEN - length name) 0 in
+    let words = length-bytes_of_words (size ∷ kind ∷ []) in
+    let front = length-append name (replicate (MAXNAMELEN - length name) 0) in
+    let all = length-append (name ++ replicate (MAXNAMELEN - length name) 0) (bytes_of_words (size ∷ kind ∷ [])) in
+    omega (arith, six, nuls, words, front, all)
+
+pub stat_length : (word : ℕ) → length (stat_told word) ≡ STAT_SIZE
+stat_length zero = named_length (codes "<cons>") 0 FTYPE_REG refl
+stat_length (suc held) = named_length (codes "<pipe>") held FTYPE_REG refl
 
 -- so many bytes of it are put: which those are
-abbrev pub terminal_byte : ℕ → ℕ
-terminal_byte at = slice_index terminal_stat (at % 2 ^ 32)
+abbrev pub told_byte : ℕ → ℕ → ℕ
+told_byte word at = slice_index (stat_told word) (at % 2 ^ 32)
 
 -- and the word that begins with one
-abbrev pub terminal_word : ℕ → ℕ
-terminal_word at = from_le_bytes w32 (terminal_byte at ∷ terminal_byte (at + 1) ∷ terminal_byte (at + 2) ∷ terminal_byte (at + 3) ∷ [])
+abbrev pub told_word : ℕ → ℕ → ℕ
+told_word word at =
+    from_le_bytes w32 (told_byte word at ∷ told_byte word (at + 1) ∷ told_byte word (at + 2) ∷ told_byte word (at + 3) ∷ [])
 
-rest_byte : (done i : ℕ) → done + i < 2 ^ 32 → slice_index (drop done terminal_stat) i ≡ terminal_byte (done + i)
-rest_byte done i below =
+rest_byte : (word done i : ℕ) → done + i < 2 ^ 32 → slice_index (drop done (stat_told word)) i ≡ told_byte word (done + i)
+rest_byte word done i below =
     let same : done + i ≡ (done + i) % 2 ^ 32 = omega (arith, below) in
-    get_or-drop done terminal_stat i 0 ∙ ap (slice_index terminal_stat) same
+    get_or-drop done (stat_told word) i 0 ∙ ap (slice_index (stat_told word)) same
 
-rest_four : (done : ℕ) → done + 4 ≤ STAT_SIZE →
-    take 4 (drop done terminal_stat) ≡ terminal_byte done ∷ terminal_byte (done + 1) ∷ terminal_byte (done + 2) ∷ terminal_byte (done + 3) ∷ []
-rest_four done within =
-    let all = stat_length in
-    let long = length-drop done terminal_stat in
+rest_four : (word done : ℕ) → done + 4 ≤ STAT_SIZE →
+    take 4 (drop done (stat_told word)) ≡ told_byte word done ∷ told_byte word (done + 1) ∷ told_byte word (done + 2) ∷ told_byte word (done + 3) ∷ []
+rest_four word done within =
+    let all = stat_length word in
+    let long = length-drop done (stat_told word) in
     let first : done + 0 ≡ done = omega arith in
-    let zeroth = rest_byte done 0 (omega (arith, within)) ∙ ap terminal_byte first in
-    let one = rest_byte done 1 (omega (arith, within)) in
-    let two = rest_byte done 2 (omega (arith, within)) in
-    let three = rest_byte done 3 (omega (arith, within)) in
-    take_four (drop done terminal_stat) (omega (arith, all, long, within)) ∙ (λ i. zeroth i ∷ one i ∷ two i ∷ three i ∷ [])
+    let zeroth = rest_byte word done 0 (omega (arith, within)) ∙ ap (told_byte word) first in
+    let one = rest_byte word done 1 (omega (arith, within)) in
+    let two = rest_byte word done 2 (omega (arith, within)) in
+    let three = rest_byte word done 3 (omega (arith, within)) in
+    take_four (drop done (stat_told word)) (omega (arith, all, long, within)) ∙ (λ i. zeroth i ∷ one i ∷ two i ∷ three i ∷ [])
 
-rest_one : (done : ℕ) → done < STAT_SIZE → take 1 (drop done terminal_stat) ≡ terminal_byte done ∷ []
-rest_one done within =
-    let all = stat_length in
-    let long = length-drop done terminal_stat in
+rest_one : (word done : ℕ) → done < STAT_SIZE → take 1 (drop done (stat_told word)) ≡ told_byte word done ∷ []
+rest_one word done within =
+    let all = stat_length word in
+    let long = length-drop done (stat_told word) in
     let first : done + 0 ≡ done = omega arith in
-    let zeroth = rest_byte done 0 (omega (arith, within)) ∙ ap terminal_byte first in
-    take_first (drop done terminal_stat) (omega (arith, all, long, within)) ∙ (λ i. zeroth i ∷ [])
+    let zeroth = rest_byte word done 0 (omega (arith, within)) ∙ ap (told_byte word) first in
+    take_first (drop done (stat_told word)) (omega (arith, all, long, within)) ∙ (λ i. zeroth i ∷ [])
 
 module _ {names : Names} {s : KernelState} {a : AbstractState} (h : StandsFor names s a) (n fd va done word : ℕ)
     (v : IsServed names s a n (service.Stat fd va) (step.Delivering done word)) where
@@ -464,7 +488,7 @@ module _ {names : Names} {s : KernelState} {a : AbstractState} (h : StandsFor na
   here = va + done
 
   abbrev rest : List ℕ
-  rest = drop done terminal_stat
+  rest = drop done (stat_told word)
 
   abbrev many : ℕ
   many = moved_at_once here (length rest)
@@ -481,18 +505,18 @@ module _ {names : Names} {s : KernelState} {a : AbstractState} (h : StandsFor na
   stat_behind = (done + stat_moved) % 2 ^ 32
 
   lies_here : IsMoved here (length rest) many
-  lies_here = lies h n v.b v.is (service.Stat fd va) (step.Delivering done word) v.place refl here rest 0 v.at.0 v.at.1
+  lies_here = lies h n v.b v.is (service.Stat fd va) (step.Delivering done word) v.place refl refl refl here rest 0 v.at.0 v.at.1
 
   below_here : here + length rest < 2 ^ 32
-  below_here = ends_below h n v.b v.is (service.Stat fd va) (step.Delivering done word) v.place refl here rest 0 v.at.0 v.at.1
+  below_here = ends_below h n v.b v.is (service.Stat fd va) (step.Delivering done word) v.place refl refl refl here rest 0 v.at.0 v.at.1
 
   pub stat_va_is : stat_va ≡ here
   stat_va_is = let below = below_here in omega (arith, below)
 
   rest_length : (length rest ≡ STAT_SIZE - done) × (done < STAT_SIZE)
   rest_length =
-      let all = stat_length in
-      let long = length-drop done terminal_stat in
+      let all = stat_length word in
+      let long = length-drop done (stat_told word) in
       let some = v.at.0.some in
       (omega (arith, all, long), omega (arith, all, long, some))
 
@@ -508,18 +532,18 @@ module _ {names : Names} {s : KernelState} {a : AbstractState} (h : StandsFor na
       (omega (arith, same, within, long, low), omega (arith, within, long, low))
 
   -- those that are left
-  left_is : drop many rest ≡ drop stat_behind terminal_stat
-  left_is = drop-drop many done terminal_stat ∙ ap (λ (m : ℕ). drop m terminal_stat) (sym behind_is.0)
+  left_is : drop many rest ≡ drop stat_behind (stat_told word)
+  left_is = drop-drop many done (stat_told word) ∙ ap (λ (m : ℕ). drop m (stat_told word)) (sym behind_is.0)
 
   -- the abstract system after it
   abbrev pub stat_delivered : AbstractState
-  stat_delivered = delivered h n v.b v.is (service.Stat fd va) (step.Delivering done word) v.place refl here rest 0 v.at.0 v.at.1
+  stat_delivered = delivered h n v.b v.is (service.Stat fd va) (step.Delivering done word) v.place refl refl refl here rest 0 v.at.0 v.at.1
 
   pub stat_step : abs_step a n ≡ Some stat_delivered
   unfolding library_step
   stat_step =
       service_step a n v.b st.registers (service.Stat fd va) (delivering here rest 0) v.is v.at.0.program v.at.0.phase v.at.0.awake
-      ∙ ap Some (delivered_is h n v.b v.is (service.Stat fd va) (step.Delivering done word) v.place refl here rest 0 v.at.0 v.at.1)
+      ∙ ap Some (delivered_is h n v.b v.is (service.Stat fd va) (step.Delivering done word) v.place refl refl refl here rest 0 v.at.0 v.at.1)
 
   -- where the kernel lets it
   module _ (on : is_allowed s.spaces st.directory stat_va Write ≡ true) where
@@ -528,81 +552,87 @@ module _ {names : Names} {s : KernelState} {a : AbstractState} (h : StandsFor na
 
     -- the state behind it
     abbrev pub stat_putting : KernelState
-    stat_putting = putting h n v.b v.is (service.Stat fd va) (step.Delivering done word) v.place refl here rest 0 v.at.0 v.at.1 lets_there
+    stat_putting = putting h n v.b v.is (service.Stat fd va) (step.Delivering done word) v.place refl refl refl here rest 0 v.at.0 v.at.1
+        lets_there
 
-    pub stat_word_put : (stat_moved == 4) ≡ true → store s n stat_va (terminal_word done) ≡ giving stat_putting tt
+    pub stat_word_put : (stat_moved == 4) ≡ true → store s n stat_va (told_word word done) ≡ giving stat_putting tt
     stat_word_put test =
         let many_too : (many == 4) ≡ true = ap (λ (c : ℕ). c == 4) (sym moved_same) ∙ test in
         let four = lies_here.word many_too in
         let within = behind_is.1 in
-        let those : take many rest ≡ terminal_byte done ∷ terminal_byte (done + 1) ∷ terminal_byte (done + 2) ∷ terminal_byte (done + 3) ∷ [] =
-        ap (λ (c : ℕ). take c rest) four ∙ rest_four done (omega (arith, four, within)) in
+        let those : take many rest ≡ told_byte word done ∷ told_byte word (done + 1) ∷ told_byte word (done + 2) ∷ told_byte word (done + 3) ∷ [] =
+        ap (λ (c : ℕ). take c rest) four ∙ rest_four word done (omega (arith, four, within)) in
         let long = length-take-le many rest lies_here.within in
-        ap (λ (q : ℕ). store s n q (terminal_word done)) stat_va_is
-        ∙ word_put h n v.b v.is (service.Stat fd va) (step.Delivering done word) v.place refl here rest 0 v.at.0 v.at.1 lets_there (terminal_word done)
-        (le_bytes_4 (take many rest) (terminal_word done) (long ∙ four) (bytes_take many rest v.at.0.small) (ap (from_le_bytes w32) (sym those)))
+        ap (λ (q : ℕ). store s n q (told_word word done)) stat_va_is
+        ∙ word_put h n v.b v.is (service.Stat fd va) (step.Delivering done word) v.place refl refl refl here rest 0 v.at.0 v.at.1 lets_there
+        (told_word word done)
+        (le_bytes_4 (take many rest) (told_word word done) (long ∙ four) (bytes_take many rest v.at.0.small) (ap (from_le_bytes w32) (sym those)))
 
-    pub stat_byte_put : (stat_moved == 4) ≡ false → store_byte s n stat_va (terminal_byte done) ≡ giving stat_putting tt
+    pub stat_byte_put : (stat_moved == 4) ≡ false → store_byte s n stat_va (told_byte word done) ≡ giving stat_putting tt
     stat_byte_put test =
         let many_too : (many == 4) ≡ false = ap (λ (c : ℕ). c == 4) (sym moved_same) ∙ test in
-        ap (λ (q : ℕ). store_byte s n q (terminal_byte done)) stat_va_is
-        ∙ byte_is_put h n v.b v.is (service.Stat fd va) (step.Delivering done word) v.place refl here rest 0 v.at.0 v.at.1 lets_there (terminal_byte done)
-        (sym (ap (λ (c : ℕ). take c rest) (lies_here.byte many_too) ∙ rest_one done rest_length.1))
+        ap (λ (q : ℕ). store_byte s n q (told_byte word done)) stat_va_is
+        ∙ byte_is_put h n v.b v.is (service.Stat fd va) (step.Delivering done word) v.place refl refl refl here rest 0 v.at.0 v.at.1
+        lets_there (told_byte word done)
+        (sym (ap (λ (c : ℕ). take c rest) (lies_here.byte many_too) ∙ rest_one word done rest_length.1))
 
-    pub stat_console : stat_delivered.console ≡ a.console
-    stat_console = delivered_console h n v.b v.is (service.Stat fd va) (step.Delivering done word) v.place refl here rest 0 v.at.0 v.at.1 lets_there
+    -- in its turn
+    module _ (last : s.last ≡ Some n) where
+      pub stat_console : stat_delivered.console ≡ a.console
+      stat_console = delivered_console h n v.b v.is (service.Stat fd va) (step.Delivering done word) v.place refl refl refl here rest 0 v.at.0
+          v.at.1 lets_there last
 
-    -- all bytes are put, and it has answered
-    pub stat_answers : nat_le STAT_SIZE stat_behind ≡ true → StandsFor names (service_answered stat_putting n 0) stat_delivered
-    stat_answers past =
-        let all = stat_length in
-        let above : STAT_SIZE ≤ stat_behind = grind (arith, nat_tests) in
-        answer_stands h n v.b v.is (service.Stat fd va) (step.Delivering done word) v.place refl here rest 0 v.at.0 v.at.1 lets_there
-        (left_is ∙ drop_all stat_behind terminal_stat (omega (arith, all, above))) refl
+      -- all bytes are put, and it has answered
+      pub stat_answers : nat_le STAT_SIZE stat_behind ≡ true → StandsFor names (service_answered stat_putting n 0) stat_delivered
+      stat_answers past =
+          let all = stat_length word in
+          let above : STAT_SIZE ≤ stat_behind = grind (arith, nat_tests) in
+          answer_stands h n v.b v.is (service.Stat fd va) (step.Delivering done word) v.place refl refl refl here rest 0 v.at.0 v.at.1 lets_there last
+          (left_is ∙ drop_all stat_behind (stat_told word) (omega (arith, all, above))) refl
 
-    module _ (more : nat_le STAT_SIZE stat_behind ≡ false) where
-      some_left : 0 < length (drop many rest)
-      some_left =
-          let below : stat_behind < STAT_SIZE = grind (arith, nat_tests) in
-          let all = stat_length in
-          let long = length-drop stat_behind terminal_stat in
-          let left = ap (λ (l : List ℕ). length l) left_is in
-          omega (arith, below, all, long, left)
+      module _ (more : nat_le STAT_SIZE stat_behind ≡ false) where
+        some_left : 0 < length (drop many rest)
+        some_left =
+            let below : stat_behind < STAT_SIZE = grind (arith, nat_tests) in
+            let all = stat_length word in
+            let long = length-drop stat_behind (stat_told word) in
+            let left = ap (λ (l : List ℕ). length l) left_is in
+            omega (arith, below, all, long, left)
 
-      -- it has those behind
-      has_left : (k : Slot) (c : Born) → IsDelivering k c (service.Stat fd va) (here + many) (drop many rest) 0 →
-          IsDelivering k c (service.Stat fd va) (va + stat_behind) (drop stat_behind terminal_stat) 0
-      has_left k c it =
-          let next = behind_is.0 in
-          let same : here + many ≡ va + stat_behind = omega (arith, next) in
-          subst (λ (l : List ℕ). IsDelivering k c (service.Stat fd va) (va + stat_behind) l 0) left_is
-          (subst (λ (q : ℕ). IsDelivering k c (service.Stat fd va) q (drop many rest) 0) same it)
+        -- it has those behind
+        has_left : (k : Slot) (c : Born) → IsDelivering k c (service.Stat fd va) (here + many) (drop many rest) 0 →
+            IsDelivering k c (service.Stat fd va) (va + stat_behind) (drop stat_behind (stat_told word)) 0
+        has_left k c it =
+            let next = behind_is.0 in
+            let same : here + many ≡ va + stat_behind = omega (arith, next) in
+            subst (λ (l : List ℕ). IsDelivering k c (service.Stat fd va) (va + stat_behind) l 0) left_is
+            (subst (λ (q : ℕ). IsDelivering k c (service.Stat fd va) q (drop many rest) 0) same it)
 
-      -- it looks at the next page
-      pub stat_looks : StandsFor names (with_extra stat_putting n (words_at SERVICE_STAT (step.BufferRegion stat_behind 0))) stat_delivered
-      stat_looks =
-          rest_stands h n v.b v.is (service.Stat fd va) (step.Delivering done word) v.place refl here rest 0 v.at.0 v.at.1 lets_there
-          (step.BufferRegion stat_behind 0) some_left refl refl (λ w c row it. (has_left (record st { extra = _ }) c it, tt))
+        -- it looks at the next page
+        pub stat_looks : StandsFor names (with_extra stat_putting n (words_at SERVICE_STAT (step.BufferRegion stat_behind word))) stat_delivered
+        stat_looks =
+            rest_stands h n v.b v.is (service.Stat fd va) (step.Delivering done word) v.place refl refl refl here rest 0 v.at.0 v.at.1 lets_there last
+            (step.BufferRegion stat_behind word) some_left refl refl refl (λ w c row it. (has_left (record st { extra = _ }) c it, tt))
 
-      -- or puts more bytes into this one
-      pub stat_goes_on : (((va + stat_behind) % 2 ^ 32) % PGSIZE == 0) ≡ false →
-          StandsFor names (with_extra stat_putting n (words_at SERVICE_STAT (step.Delivering stat_behind 0))) stat_delivered
-      stat_goes_on inside_page =
-          rest_stands h n v.b v.is (service.Stat fd va) (step.Delivering done word) v.place refl here rest 0 v.at.0 v.at.1 lets_there
-          (step.Delivering stat_behind 0) some_left refl refl
-          (λ w c row it. (
-            has_left (record st { extra = _ }) c it,
-            (λ i. is_refused_by true (row i (page_number (va + stat_behind))))
-                ∙ ap (λ (p : ℕ). is_refused_by true (rows_of s.spaces st.directory p)) same_page ∙ v.at.1,
-          ))
-        where
-          same_page : page_number (va + stat_behind) ≡ page_number here
-          same_page =
-              let next = behind_is.0 in
-              let some = lies_here.some in
-              let last = lies_here.page (many - 1) (omega (arith, some)) in
-              let below = below_here in
-              let long = rest_length.0 in
-              let within = lies_here.within in
-              let apart : ((va + stat_behind) % 2 ^ 32) % PGSIZE ≢ 0 = grind (arith, nat_tests) in
-              omega (arith, next, some, last, below, long, within, apart)
+        -- or puts more bytes into this one
+        pub stat_goes_on : (((va + stat_behind) % 2 ^ 32) % PGSIZE == 0) ≡ false →
+            StandsFor names (with_extra stat_putting n (words_at SERVICE_STAT (step.Delivering stat_behind word))) stat_delivered
+        stat_goes_on inside_page =
+            rest_stands h n v.b v.is (service.Stat fd va) (step.Delivering done word) v.place refl refl refl here rest 0 v.at.0 v.at.1 lets_there last
+            (step.Delivering stat_behind word) some_left refl refl refl
+            (λ w c row it. (
+              has_left (record st { extra = _ }) c it,
+              (λ i. is_refused_by true (row i (page_number (va + stat_behind))))
+                  ∙ ap (λ (p : ℕ). is_refused_by true (rows_of s.spaces st.directory p)) same_page ∙ v.at.1,
+            ))
+          where
+            same_page : page_number (va + stat_behind) ≡ page_number here
+            same_page =
+                let next = behind_is.0 in
+                let some = lies_here.some in
+                let last = lies_here.page (many - 1) (omega (arith, some)) in
+                let below = below_here in
+                let long = rest_length.0 in
+                let within = lies_here.within in
+                let apart : ((va + stat_behind) % 2 ^ 32) % PGSIZE ≢ 0 = grind (arith, nat_tests) in
+                omega (arith, next, some, last, below, long, within, apart)

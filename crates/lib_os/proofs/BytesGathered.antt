@@ -9,7 +9,7 @@ use Rattle.std.proofs.Math.Seq.{drop-append_seam}
 use Rattle.std.specs.Int.{w32, from_le_bytes, to_le_bytes}
 use Rattle.std.specs.Prelude.{nat_lt, drop, slice_index, take, Option, Some, Ok}
 use Rattle.jos_base.specs.declared.memory.Access.TheVariants.{Read}
-use Rattle.jos_base.specs.declared.numbers.TheConstants.{UTEMP}
+use Rattle.jos_base.specs.declared.numbers.TheConstants.{PGSIZE, UTEMP}
 use Rattle.jos_base.specs.declared.registers.Regs.{Regs}
 use Rattle.jos_base.specs.Environments.{Slot, records_of}
 use Rattle.jos_base.specs.KernelState.{KernelState, slot_at, with_extra}
@@ -34,13 +34,14 @@ use Rattle.lib_os.specs.StandsInHandler.{is_refused_by, stage_with, wanted_from}
 use Rattle.lib_os.specs.UserCalls.{accessing, giving, load, load_byte, user_byte, user_word}
 use Rattle.lib_os.proofs.BufferAccesses.{IsMoved, byte_small, entry_lets, frame_whole, moved_is, reached_order, stage_stands}
 use Rattle.lib_os.proofs.BytesRead.{user_byte_is, user_entry_read}
-use Rattle.lib_os.proofs.DescriptorLooks.{loaded_view}
+use Rattle.lib_os.proofs.DescriptorLooks.{loaded_view, seen_calm}
 use Rattle.lib_os.proofs.DeviceLooks.{IsWritten, begins_written}
 use Rattle.lib_os.proofs.Fences.{buffer_below, buffer_each, inside_number}
 use Rattle.lib_os.proofs.Loading.{loaded}
-use Rattle.lib_os.proofs.Logical.{is_plain}
+use Rattle.lib_os.proofs.Logical.{is_making_pipe, is_plain}
 use Rattle.lib_os.proofs.Numbered.{named_at}
 use Rattle.lib_os.proofs.PageBytes.{bytes_append}
+use Rattle.lib_os.proofs.PipesStand.{is_calm}
 use Rattle.lib_os.proofs.Serving.{IsServed, holds_page, service_step}
 use Rattle.lib_os.proofs.StatesStand.{quiet_stands}
 use Rattle.lib_os.proofs.Touching.{touched_quiet}
@@ -214,7 +215,8 @@ module _ {names : Names} {s : KernelState} {a : AbstractState} (h : StandsFor na
   plain = ap is_plain v.place
 
   written : IsWritten a v.b fd len start
-  written = begins_written h n v.b v.is (ap borne_in v.place) fd len start it.wants.given.below it.wants.given.begins
+  written = begins_written h n v.b v.is (ap borne_in v.place) (ap is_making_pipe v.place) (seen_calm h n v.b v.is (ap is_calm v.place)) fd len
+      start it.wants.given.below it.wants.given.begins
 
   pub gathered_step : abs_step a n ≡ Some gathered
   gathered_step =
@@ -235,7 +237,7 @@ module _ {names : Names} {s : KernelState} {a : AbstractState} (h : StandsFor na
           let many = it.many in
           let low : i < done = grind (arith, nat_tests) in
           let page = frame_whole h n v.b v.is (page_number UTEMP) it.kept.entry it.kept.stands in
-          subst (λ (byte : ℕ). byte < 256) (it.kept.same i low) (page.small (start + i))
+          subst (λ (byte : ℕ). byte < 256) (it.kept.same i low) (page.small (start % PGSIZE + i))
       by_place false test =
           let none : slice_index it.bytes i ≡ 0 = get_or_past it.bytes i 0 (grind (arith, nat_tests)) in
           omega (arith, none)
@@ -292,8 +294,9 @@ module _ {names : Names} {s : KernelState} {a : AbstractState} (h : StandsFor na
   gathered_stands : (word : ℕ) → take moved (to_le_bytes w32 word) ≡ taken →
       StandsFor names (with_extra (loaded s n next) n (words_at SERVICE_WRITE (step.KeepingBytes done word moved start))) gathered
   gathered_stands word is =
-      stage_stands loaded_stands n SERVICE_WRITE v.b v.is v.outside (ap borne_in v.place) (service.Write fd va len) (step.KeepingBytes done word moved start)
-      (gathering (it.bytes ++ taken)) (ap holds_page v.place) refl (named_at k (service.Write fd va len) (step.GatheringBytes done start) v.place)
+      stage_stands loaded_stands n SERVICE_WRITE v.b v.is v.outside (ap borne_in v.place) (ap is_calm v.place) (service.Write fd va len)
+      (step.KeepingBytes done word moved start)
+      (gathering (it.bytes ++ taken)) (ap holds_page v.place) refl refl (named_at k (service.Write fd va len) (step.GatheringBytes done start) v.place)
       (subst (λ (w : View). StandsAtStep w (told word) (record v.b { phase = in_service (service.Write fd va len) (gathering (it.bytes ++ taken)) })
       (service.Write fd va len) (step.KeepingBytes done word moved start)) (sym (loaded_view s n next d)) (keeping word is))
 

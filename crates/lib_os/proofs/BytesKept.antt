@@ -21,6 +21,7 @@ use Rattle.jos_base.specs.SystemCalls.{handled, has_write, is_page_perm}
 use Rattle.jos_base.specs.UserMemory.{reach_in, touched}
 use Rattle.jos_base.specs.Words.{page_number, upd}
 use Rattle.lib_os.specs.declared.numbers.TheConstants.{REQUEST_BYTES, SERVICE_WRITE}
+use Rattle.lib_os.specs.declared.place.PipeStep.TheVariants as pipe
 use Rattle.lib_os.specs.declared.place.Place.{Place}
 use Rattle.lib_os.specs.declared.place.Place.TheVariants as place
 use Rattle.lib_os.specs.declared.place.Step.{Step}
@@ -33,14 +34,15 @@ use Rattle.lib_os.specs.DescriptorPages.{lasting_words, place_page}
 use Rattle.lib_os.specs.Fence.{in_fence, is_buffer}
 use Rattle.lib_os.specs.InOrder.{IsInOrder}
 use Rattle.lib_os.specs.LibraryPages.{LibraryPages, IsOwnWritable, View, keeps_page, HasTaken}
+use Rattle.lib_os.specs.PipeEnds.{EndsStandAt, is_made}
 use Rattle.lib_os.specs.Places.{place_of, words_at}
 use Rattle.lib_os.specs.Rows.{EntryRow, Names, Rows, AreBytes, IsPage, rows_of, logical, page_seen, seen_where, shown_at}
-use Rattle.lib_os.specs.Rows.{is_clients, is_descriptor, is_programs, is_shared}
+use Rattle.lib_os.specs.Rows.{is_clients, is_of_descriptor, is_programs, is_shared}
 use Rattle.lib_os.specs.StandsFor.{HasChildren, HasServer, StandsForSlot, things_in}
 use Rattle.lib_os.specs.StandsFor.{StandsFor, StandsForBorn, StandsAt, StandsAtStep, view_of, HasTakenFrom, IsKeeping, IsTaking, borne_in}
-use Rattle.lib_os.specs.StandsFor.{refuses_next}
-use Rattle.lib_os.specs.StandsInHandler.{BeginsAt, IsConsoleOpen, IsGivenBytes, IsWritableFile, in_file, is_refused_by, on_console, stage_with}
-use Rattle.lib_os.specs.StandsInHandler.{wanted_from}
+use Rattle.lib_os.specs.StandsFor.{refuses_next, seen_unless}
+use Rattle.lib_os.specs.StandsInHandler.{BeginsAt, IsConsoleOpen, IsEndOpen, IsGivenBytes, IsWritableFile, in_file, in_pipe, is_refused_by, on_console}
+use Rattle.lib_os.specs.StandsInHandler.{stage_with, wanted_from, wanted_of}
 use Rattle.lib_os.specs.UserCalls.{CallStep, got, to_handler, gone, giving, accessing, by_access, faulting, load_byte, store, store_byte, user_byte}
 use Rattle.lib_os.specs.UserCalls.{with_bytes_put}
 use Rattle.lib_os.proofs.BytesPut.{bytes_put, put_whole, put_before, put_there, spaces_put, put_is, page_put, reached_to_write}
@@ -57,8 +59,10 @@ use Rattle.lib_os.proofs.Logical.{is_plain, logical_alike, logical_plain}
 use Rattle.lib_os.proofs.Numbered.{named_at}
 use Rattle.lib_os.proofs.PageBytes.{bytes_more, bytes_none, word_bytes}
 use Rattle.lib_os.proofs.Serving.{IsServed, holds_page, served}
-use Rattle.lib_os.proofs.SlotsStand.{SameDevices, SeenAlike, born_at, descriptors_off, given_bytes_kept, library_alike, live_stands, slot_stands}
-use Rattle.lib_os.proofs.StatesStand.{clients_live, directories_apart}
+use Rattle.lib_os.proofs.SlotsStand.{CountsKept, SameDevices, SeenAlike, born_at, descriptors_off, given_bytes_kept}
+use Rattle.lib_os.proofs.SlotsStand.{library_alike, live_stands, slot_stands}
+use Rattle.lib_os.proofs.PipesStand.{is_calm, is_calm_step, locks_same}
+use Rattle.lib_os.proofs.StatesStand.{clients_live, directories_apart, others_counts}
 use Rattle.lib_os.proofs.Touching.{touched_quiet}
 use Rattle.jos_base.proofs.Maps.{upd-at, upd-other}
 use Rattle.jos_base.proofs.Puts.{Elsewhere}
@@ -68,7 +72,7 @@ use Rattle.jos_base.proofs.Puts.{Elsewhere}
 -- A page of an environment's own, which may be written and is neither its program's nor a descriptor's, has other bytes.
 module _ {names : Names} {s : KernelState} {a : AbstractState} {sp : SpacesState} (h : StandsFor names s a) (n : ℕ) (b : Born)
     (at : a.slots n ≡ born b) (plain : is_plain (place_of (slot_at s n)) ≡ true) (p : ℕ) (outside : is_programs p ≡ false)
-    (other : is_descriptor p ≡ false) (e : Entry) (e_is : rows_of s.spaces (slot_at s n).directory p ≡ Some e)
+    (other : is_of_descriptor p ≡ false) (e : Entry) (e_is : rows_of s.spaces (slot_at s n).directory p ≡ Some e)
     (own_page : is_shared e.perm ≡ false) (writes : has_write e.perm ≡ true) (bytes : List ℕ) (is_page : IsPage bytes)
     (rewritten : IsRewritten s.spaces sp e.frame bytes) (in_order : IsInOrder (with_spaces s sp)) where
   abbrev d : ℕ
@@ -106,9 +110,9 @@ module _ {names : Names} {s : KernelState} {a : AbstractState} {sp : SpacesState
   own_beside q x ne hx = bytes_kept x.frame (alone n q x (λ same. ne) (own_counts q x hx))
 
   pub rewritten_devices : SameDevices (view_of s.spaces d) (view_of sp d)
-  rewritten_devices q x descriptor hx =
+  rewritten_devices q x descriptor no_pipe hx =
       ap lasting_words
-      (own_beside q x (λ same. let contradiction : true ≡ false = sym descriptor ∙ ap is_descriptor same ∙ other in cc) hx)
+      (own_beside q x (λ same. let contradiction : true ≡ false = sym descriptor ∙ ap is_of_descriptor same ∙ other in cc) hx)
 
   -- nothing that is seen of other clients' spaces differs; the file server may have the frame
   others : (q : ℕ) → q ≢ d → q ≢ (slot_at s 0).directory → SeenAlike names names s.spaces sp q
@@ -117,6 +121,7 @@ module _ {names : Names} {s : KernelState} {a : AbstractState} {sp : SpacesState
     bytes = λ r x hx own_too. elsewhere r x hx;
     named_so = λ r x hx shared_page. refl;
     devices = λ r x descriptor hx shared_page. ap lasting_words (elsewhere r x hx);
+    pipes = λ r x pipes hx shared_page. elsewhere r x hx;
     regions = rewritten.regions q;
   }
     where
@@ -139,15 +144,16 @@ module _ {names : Names} {s : KernelState} {a : AbstractState} {sp : SpacesState
   not_servers_slot : (m : ℕ) (slot : AbstractSlot) → a.slots m ≡ slot → slot ≢ serving FIRST_ENV_ID → 0 ≢ m
   not_servers_slot m slot is other first = other (sym is ∙ ap a.slots (sym first) ∙ h.first)
 
-  other_stands : (m : ℕ) → m ≢ n → (slot : AbstractSlot) → a.slots m ≡ slot → StandsForSlot names s.spaces (slot_at s m) slot →
+  other_stands : ((m : ℕ) → m ≢ n → CountsKept s.spaces sp (slot_at s m)) → (m : ℕ) → m ≢ n → (slot : AbstractSlot) → a.slots m ≡ slot →
+      StandsForSlot names s.spaces (slot_at s m) slot →
       StandsForSlot names sp (slot_at s m) slot
-  other_stands m ne (free id) is so = so
-  other_stands m ne (unborn id parent) is so = so
-  other_stands m ne (serving id) is so = so
-  other_stands m ne (born c) is so =
+  other_stands counts m ne (free id) is so = so
+  other_stands counts m ne (unborn id parent) is so = so
+  other_stands counts m ne (serving id) is so = so
+  other_stands counts m ne (born c) is so =
       slot_stands names names s.spaces sp (slot_at s m) (born c) so (λ live. other_seen m ne
       (not_servers_slot m (born c) is (λ same. let contradiction : born c ≡ serving FIRST_ENV_ID = same in cc))
-      (ap (λ (x : AbstractSlot). is_live_abstract x) is))
+      (ap (λ (x : AbstractSlot). is_live_abstract x) is)) (counts m ne)
 
   -- and children are borne as they were
   children_so : HasChildren names sp s.environments.slots a.slots
@@ -234,8 +240,9 @@ module _ {names : Names} {s : KernelState} {a : AbstractState} {sp : SpacesState
   rows_so = rows_turned {things = things_in s a} (ap (λ (rows : Rows). rows (slot_at s 0).directory) rewritten.rows) rows_kept
 
   -- The same is so of it, where it stands so at its place.
-  pub unseen_rewritten : StandsAt (place_of (slot_at s n)) (view_of sp (slot_at s n).directory) (slot_at s n) b → StandsFor names (with_spaces s sp) a
-  unseen_rewritten so = record {
+  pub unseen_rewritten : ((m : ℕ) → m ≢ n → CountsKept s.spaces sp (slot_at s m)) →
+      StandsAt (place_of (slot_at s n)) (view_of sp (slot_at s n).directory) (slot_at s n) b → StandsFor names (with_spaces s sp) a
+  unseen_rewritten counts so = record {
     slots = λ m. by_slot m (m == n) refl;
     children = children_so;
     apart = rows_so.apart;
@@ -243,6 +250,11 @@ module _ {names : Names} {s : KernelState} {a : AbstractState} {sp : SpacesState
     users = rows_so.users;
     whole = rows_so.whole;
     beside = rows_so.beside;
+    ends = λ m. subst (λ (row : EntryRow). EndsStandAt names a.objects (place_of (slot_at s m)) row (a.slots m))
+        (sym (ap (λ (rows : Rows). rows (slot_at s m).directory) rewritten.rows)) (h.ends m);
+    locks = locks_same (λ m. refl) (λ m q pipes. counts_kept m q) (λ m q x pipes hx shared_page. counted_bytes m q x hx shared_page) h.locks;
+    runs = h.runs;
+    old = h.old;
     free_slots = h.free_slots;
     first = h.first;
     server = server_so;
@@ -261,7 +273,8 @@ module _ {names : Names} {s : KernelState} {a : AbstractState} {sp : SpacesState
         env_type = own.env_type;
         runs = own.runs;
         upcall = own.upcall;
-        descriptors = λ fd. own.descriptors fd ∙ sym (descriptors_off names names s.spaces sp d p other shown_kept fd);
+        descriptors = λ fd kept. own.descriptors fd kept
+            ∙ sym (ap (seen_unless (is_made (place_of (slot_at s n)) fd)) (descriptors_off names names s.spaces sp d p other shown_kept fd));
         memory = λ q. own.memory q ∙ sym (memory_kept q);
         library = library_alike (place_of (slot_at s n)) (slot_at s n).extra (rows_of s.spaces d) (rows_of sp d)
             (ap (λ (rows : Rows). rows d) rewritten.rows) own.library;
@@ -277,7 +290,7 @@ module _ {names : Names} {s : KernelState} {a : AbstractState} {sp : SpacesState
           let same : m ≡ n = grind (arith, nat_tests) in
           subst (λ (o : ℕ). StandsForSlot names sp (slot_at s o) (a.slots o)) (sym same)
           (subst (λ (slot : AbstractSlot). StandsForSlot names sp (slot_at s n) slot) (sym at) mine)
-      by_slot m false test = other_stands m (grind (arith, nat_tests)) (a.slots m) refl (h.slots m)
+      by_slot m false test = other_stands counts m (grind (arith, nat_tests)) (a.slots m) refl (h.slots m)
 
 -- ---- bytes that are put in a page
 
@@ -480,12 +493,12 @@ more_from page bytes put start done fits first next i lt = by_place (nat_lt i do
         ∙ put_there page (start + done) put (i - done) lower fits ∙ next (i - done) lower ∙ sym (ap (slice_index bytes) same)
 
 -- They begin at its beginning.
-from_start : (w : View) (bytes : List ℕ) (n : ℕ) → HasTakenFrom w 0 bytes n → HasTaken w bytes n
-from_start w bytes n h = record {
+from_start : (w : View) (start : ℕ) (bytes : List ℕ) (n : ℕ) → start % PGSIZE ≡ 0 → HasTakenFrom w start bytes n → HasTaken w bytes n
+from_start w start bytes n beginning h = record {
   entry = h.entry;
   stands = h.stands;
   own_page = h.own_page;
-  same = λ i lt. let same : i ≡ 0 + i = omega arith in ap (slice_index (w.bytes h.entry.frame)) same ∙ h.same i lt;
+  same = λ i lt. let same : i ≡ start % PGSIZE + i = omega (arith, beginning) in ap (slice_index (w.bytes h.entry.frame)) same ∙ h.same i lt;
 }
 
 -- ---- what write keeps, and where it goes on
@@ -513,7 +526,10 @@ keeping_slots s n done word left x = by_kept (kept_at_once done left == 4)
 
 -- its page has all bytes
 abbrev pub step_with_all : ℕ → Step
-step_with_all start = if start == 0 then step.Printing else step.ReadingNumber
+step_with_all start =
+    if start == 0 then step.Printing
+    else if start == PGSIZE then step.Piped (pipe.Locking 0 0 0)
+    else step.ReadingNumber
 
 -- its page has so many bytes; at the next page of the buffer it looks at that
 abbrev pub step_behind : ℕ → ℕ → ℕ → ℕ → Step
@@ -536,7 +552,7 @@ step_behind_keeping va len start done word left =
 pub record IsKept (names : Names) (s : KernelState) (a : AbstractState) (n va len start done word left : ℕ) : Type 0 where
   pub spaces : SpacesState
   pub step_is : keeping s n (place_in start done) word left ≡ giving (with_spaces s spaces) tt
-  pub stands : IsInOrder (with_spaces s spaces) →
+  pub stands : IsInOrder (with_spaces s spaces) → s.last ≡ Some n →
       StandsFor names (with_extra (with_spaces s spaces) n (words_at SERVICE_WRITE (step_behind_keeping va len start done word left))) a
 
 -- ---- the page of write
@@ -549,7 +565,7 @@ pub working_outside : is_programs working_page ≡ false
 unfolding in_fence
 working_outside = refl
 
-pub working_no_descriptor : is_descriptor working_page ≡ false
+pub working_no_descriptor : is_of_descriptor working_page ≡ false
 working_no_descriptor = refl
 
 pub working_below : working_page < page_limit
@@ -585,58 +601,55 @@ module _ {names : Names} {s : KernelState} {a : AbstractState} (h : StandsFor na
   page_whole : IsPage (s.spaces.pages page.entry.frame)
   page_whole = h.whole n working_page page.entry page_counts
 
-  -- its bytes begin in the page, and end there
-  begins : start ≤ 4096
-  begins = by_start it.given.begins
-    where
-      by_start : BeginsAt (view_of s.spaces home) fd start → start ≤ 4096
-      by_start (on_console is console) = omega (arith, is)
-      by_start (in_file is file) = omega (arith, is)
+  -- where they begin in the page
+  abbrev from : ℕ
+  from = start % PGSIZE
 
-  few : start + done + left ≤ 4096
+  -- they end there
+  few : from + done + left ≤ 4096
   few =
-      let from = begins in
-      let most = min-le_right len (PGSIZE - start) in
+      let most = min-le_right len (PGSIZE - start % PGSIZE) in
       let less = it.few in
       let many = it.many in
-      omega (arith, from, most, less, many)
+      omega (arith, most, less, many)
 
   -- where the next byte is put
   abbrev at_place : ℕ
   at_place = place_in start done
 
-  at_is : place_in start done ≡ start + done
-  at_is = let all = few in omega (arith, all)
+  at_is : at_place % PGSIZE ≡ from + done
+  at_is = let all = few in let more = it.some in omega (arith, all, more)
 
   -- so many bytes are put there, which are the next of those that were taken
   module _ (kept : ℕ) (put : List ℕ) (some : 0 < kept) (most : kept ≤ left) (long : length put ≡ kept) (small : AreBytes put)
       (next : (i : ℕ) → i < length put → slice_index put i ≡ slice_index it.bytes (done + i))
       (rest : kept < left → take (left - kept) (to_le_bytes w32 (word / 256)) ≡ drop (done + kept) it.bytes)
-      (call : CallStep (Unit {0})) (puts : PutsBytes s n page.entry (start + done) put call) (order : IsInOrder (with_spaces s puts.spaces)) where
+      (call : CallStep (Unit {0})) (puts : PutsBytes s n page.entry (from + done) put call) (order : IsInOrder (with_spaces s puts.spaces))
+      (turn : s.last ≡ Some n) where
     abbrev sp : SpacesState
     sp = puts.spaces
 
     abbrev now : List ℕ
-    now = bytes_put (s.spaces.pages page.entry.frame) (start + done) put
+    now = bytes_put (s.spaces.pages page.entry.frame) (from + done) put
 
     row_same : rows_of sp home ≡ row
     row_same = ap (λ (rows : Rows). rows home) puts.rewritten.rows
 
     now_whole : IsPage now
-    now_whole = put_whole (s.spaces.pages page.entry.frame) (start + done) put small page_whole
+    now_whole = put_whole (s.spaces.pages page.entry.frame) (from + done) put small page_whole
 
     now_is : sp.pages page.entry.frame ≡ now
     now_is =
         ap (λ (pages : ℕ → List ℕ). pages page.entry.frame) puts.rewritten.pages ∙ upd-at s.spaces.pages page.entry.frame now
 
-    before_there : (i : ℕ) → i < done → slice_index (s.spaces.pages page.entry.frame) (start + i) ≡ slice_index it.bytes i
+    before_there : (i : ℕ) → i < done → slice_index (s.spaces.pages page.entry.frame) (from + i) ≡ slice_index it.bytes i
     before_there i lt =
         let same : it.kept.entry ≡ page.entry = same_Some it.kept.entry page.entry (sym it.kept.stands ∙ page.stands) in
-        (λ j. slice_index (s.spaces.pages (sym same j).frame) (start + i)) ∙ it.kept.same i lt
+        (λ j. slice_index (s.spaces.pages (sym same j).frame) (from + i)) ∙ it.kept.same i lt
 
-    all_there : (i : ℕ) → i < done + kept → slice_index now (start + i) ≡ slice_index it.bytes i
+    all_there : (i : ℕ) → i < done + kept → slice_index now (from + i) ≡ slice_index it.bytes i
     all_there i lt =
-        more_from (s.spaces.pages page.entry.frame) it.bytes put start done
+        more_from (s.spaces.pages page.entry.frame) it.bytes put from done
         (let whole = page_whole.long in let all = few in omega (arith, whole, all, long, most)) before_there next i (omega (arith, lt, long))
 
     taken : (m : ℕ) → m ≤ done + kept → HasTakenFrom (view_of sp home) start it.bytes m
@@ -644,7 +657,7 @@ module _ {names : Names} {s : KernelState} {a : AbstractState} (h : StandsFor na
       entry = page.entry;
       stands = ap (λ (r : EntryRow). r working_page) row_same ∙ page.stands;
       own_page = page.own_page;
-      same = λ i lt. ap (λ (l : List ℕ). slice_index l (start + i)) now_is ∙ all_there i (omega (arith, lt, most));
+      same = λ i lt. ap (λ (l : List ℕ). slice_index l (from + i)) now_is ∙ all_there i (omega (arith, lt, most));
     }
 
     given : IsGivenBytes (view_of sp home) fd va len start
@@ -657,7 +670,7 @@ module _ {names : Names} {s : KernelState} {a : AbstractState} (h : StandsFor na
     still : StandsFor names (with_spaces s sp) a
     still =
         unseen_rewritten h n v.b v.is (ap is_plain stands) working_page working_outside working_no_descriptor page.entry page.stands page.own_page
-        page.writes now now_whole puts.rewritten order
+        page.writes now now_whole puts.rewritten order (others_counts h n turn sp)
         (subst (λ (q : Place). StandsAt q (view_of sp home) (slot_at s n) v.b) (sym stands) (record {
           bytes = it.bytes;
           is_in = it.is_in;
@@ -672,12 +685,12 @@ module _ {names : Names} {s : KernelState} {a : AbstractState} (h : StandsFor na
           kept = taken done (omega arith);
         }))
 
-    goes_on : (to : Step) → keeps_page to ≡ true →
+    goes_on : (to : Step) → keeps_page to ≡ true → is_calm_step to ≡ true →
         StandsAtStep (view_of sp home) (record (slot_at s n) { extra = words_at SERVICE_WRITE to }) v.b writing to →
         StandsFor names (with_extra (with_spaces s sp) n (words_at SERVICE_WRITE to)) a
-    goes_on to keeps so =
-        words_stand still n SERVICE_WRITE v.b v.is (born_at still n v.b v.is) v.outside (ap borne_in stands) writing to
-        (ap holds_page stands ∙ sym keeps) refl (named_at (slot_at s n) writing (step.KeepingBytes done word left start) stands) so
+    goes_on to keeps calm so =
+        words_stand still n SERVICE_WRITE v.b v.is (born_at still n v.b v.is) v.outside (ap borne_in stands) (ap is_calm stands) writing to
+        (ap holds_page stands ∙ sym keeps) refl calm (named_at (slot_at s n) writing (step.KeepingBytes done word left start) stands) so
 
     -- ---- all bytes of the word are kept
 
@@ -727,25 +740,24 @@ module _ {names : Names} {s : KernelState} {a : AbstractState} (h : StandsFor na
         where
           prints : start ≡ 0 → IsConsoleOpen (view_of sp home) fd →
               StandsFor names (with_extra (with_spaces s sp) n (words_at SERVICE_WRITE step.Printing)) a
-          prints from console =
-              goes_on step.Printing refl (record {
+          prints at console =
+              goes_on step.Printing refl refl (record {
                 bytes = it.bytes;
                 is_in = record { program = it.is_in.program; phase = it.is_in.phase; silent = it.is_in.silent; awake = it.is_in.awake };
                 given = record {
                   below = given.below;
                   console = console;
-                  buffer = subst (λ (q : ℕ). is_buffer va (wanted_from q len) ≡ true) from given.buffer;
+                  buffer = subst (λ (q : ℕ). is_buffer va (wanted_from q len) ≡ true) at given.buffer;
                 };
-                many = all_bytes ∙ ap (λ (q : ℕ). wanted_from q len) from;
-                kept = from_start (view_of sp home) it.bytes (length it.bytes)
-                    (subst (λ (q : ℕ). HasTakenFrom (view_of sp home) q it.bytes (length it.bytes)) from
-                    (taken (length it.bytes) (omega (arith, whole))));
+                many = all_bytes ∙ ap (λ (q : ℕ). wanted_from q len) at;
+                kept = from_start (view_of sp home) start it.bytes (length it.bytes) (ap (λ (q : ℕ). q % PGSIZE) at)
+                    (taken (length it.bytes) (omega (arith, whole)));
               })
 
           asks_file : start ≡ REQUEST_BYTES → IsWritableFile (view_of sp home) fd →
               StandsFor names (with_extra (with_spaces s sp) n (words_at SERVICE_WRITE step.ReadingNumber)) a
-          asks_file from it_is =
-              goes_on step.ReadingNumber refl (record {
+          asks_file at it_is =
+              goes_on step.ReadingNumber refl refl (record {
                 stage = gathering it.bytes;
                 of_file = record {
                   is_in = record { program = it.is_in.program; phase = it.is_in.phase; silent = it.is_in.silent; awake = it.is_in.awake };
@@ -756,21 +768,45 @@ module _ {names : Names} {s : KernelState} {a : AbstractState} (h : StandsFor na
                 has = record {
                   bytes = it.bytes;
                   stage_is = sym (staged it.bytes gathered);
-                  buffer = subst (λ (q : ℕ). is_buffer va (wanted_from q len) ≡ true) from given.buffer;
-                  many = all_bytes ∙ ap (λ (q : ℕ). wanted_from q len) from;
-                  kept = subst (λ (q : ℕ). HasTakenFrom (view_of sp home) q it.bytes (length it.bytes)) from
+                  buffer = subst (λ (q : ℕ). is_buffer va (wanted_from q len) ≡ true) at given.buffer;
+                  many = all_bytes ∙ ap (λ (q : ℕ). wanted_from q len) at;
+                  kept = subst (λ (q : ℕ). HasTakenFrom (view_of sp home) q it.bytes (length it.bytes)) at
                       (taken (length it.bytes) (omega (arith, whole)));
                 };
               })
 
+          puts_in_pipe : start ≡ PGSIZE → IsEndOpen (view_of sp home) fd 1 →
+              StandsFor names (with_extra (with_spaces s sp) n (words_at SERVICE_WRITE (step.Piped (pipe.Locking 0 0 0)))) a
+          puts_in_pipe at open_end =
+              let wanted : length it.bytes ≡ wanted_of len = all_bytes ∙ ap (λ (q : ℕ). wanted_from q len) at in
+              goes_on (step.Piped (pipe.Locking 0 0 0)) refl refl (
+                (
+                  record {
+                    bytes = it.bytes;
+                    is_in = record { program = it.is_in.program; phase = it.is_in.phase; silent = it.is_in.silent; awake = it.is_in.awake };
+                    below = given.below;
+                    open_end = open_end;
+                    many = wanted;
+                    small = it.small;
+                    kept = from_start (view_of sp home) start it.bytes (length it.bytes) (ap (λ (q : ℕ). q % PGSIZE) at)
+                        (taken (length it.bytes) (omega (arith, whole)));
+                  },
+                  subst (λ (m : ℕ). 0 < m) wanted gathered,
+                ),
+                tt,
+              )
+
           by_start : BeginsAt (view_of sp home) fd start →
               StandsFor names (with_extra (with_spaces s sp) n (words_at SERVICE_WRITE (step_with_all start))) a
-          by_start (on_console from console) =
-              subst (λ (q : ℕ). StandsFor names (with_extra (with_spaces s sp) n (words_at SERVICE_WRITE (step_with_all q))) a) (sym from)
-              (prints from console)
-          by_start (in_file from it_is) =
-              subst (λ (q : ℕ). StandsFor names (with_extra (with_spaces s sp) n (words_at SERVICE_WRITE (step_with_all q))) a) (sym from)
-              (asks_file from it_is)
+          by_start (on_console at console) =
+              subst (λ (q : ℕ). StandsFor names (with_extra (with_spaces s sp) n (words_at SERVICE_WRITE (step_with_all q))) a) (sym at)
+              (prints at console)
+          by_start (in_file at it_is) =
+              subst (λ (q : ℕ). StandsFor names (with_extra (with_spaces s sp) n (words_at SERVICE_WRITE (step_with_all q))) a) (sym at)
+              (asks_file at it_is)
+          by_start (in_pipe at it_is) =
+              subst (λ (q : ℕ). StandsFor names (with_extra (with_spaces s sp) n (words_at SERVICE_WRITE (step_with_all q))) a) (sym at)
+              (puts_in_pipe at it_is)
 
       goes_behind : StandsFor names (with_extra (with_spaces s sp) n (words_at SERVICE_WRITE (step_behind va len start (length it.bytes)))) a
       goes_behind = by_wanted (nat_le (wanted_from start len) (length it.bytes)) refl
@@ -779,10 +815,10 @@ module _ {names : Names} {s : KernelState} {a : AbstractState} (h : StandsFor na
               StandsFor names (with_extra (with_spaces s sp) n
               (words_at SERVICE_WRITE (if c then step.BufferRegion (length it.bytes) start else step.GatheringBytes (length it.bytes) start))) a
           by_page fewer true test =
-              goes_on (step.BufferRegion (length it.bytes) start) refl
+              goes_on (step.BufferRegion (length it.bytes) start) refl refl
               (taking (words_at SERVICE_WRITE (step.BufferRegion (length it.bytes) start)) fewer, tt)
           by_page fewer false test =
-              goes_on (step.GatheringBytes (length it.bytes) start) refl
+              goes_on (step.GatheringBytes (length it.bytes) start) refl refl
               (taking (words_at SERVICE_WRITE (step.GatheringBytes (length it.bytes) start)) fewer, next_allowed fewer test)
 
           by_wanted : (c : Bool) → nat_le (wanted_from start len) (length it.bytes) ≡ c →
@@ -800,7 +836,7 @@ module _ {names : Names} {s : KernelState} {a : AbstractState} (h : StandsFor na
     goes_keeping : kept < left →
         StandsFor names (with_extra (with_spaces s sp) n (words_at SERVICE_WRITE (step.KeepingBytes (done + kept) (word / 256) (left - kept) start))) a
     goes_keeping more =
-        goes_on (step.KeepingBytes (done + kept) (word / 256) (left - kept) start) refl (record {
+        goes_on (step.KeepingBytes (done + kept) (word / 256) (left - kept) start) refl refl (record {
           bytes = it.bytes;
           is_in = record { program = it.is_in.program; phase = it.is_in.phase; silent = it.is_in.silent; awake = it.is_in.awake };
           given = given;
@@ -838,14 +874,14 @@ module _ {names : Names} {s : KernelState} {a : AbstractState} (h : StandsFor na
 
   -- ---- by how many are put at once
 
-  in_page : start + done < PGSIZE
+  in_page : from + done < PGSIZE
   in_page = let all = few in let more = it.some in omega (arith, all, more)
 
   user : is_page_perm page.entry.perm ≡ true
   user = (h.users n working_page page.entry page_counts).page
 
-  place_is : working_page * PGSIZE + (start + done) ≡ UTEMP + at_place % PGSIZE
-  place_is = let lt = in_page in let same = at_is in omega (arith, lt, same)
+  place_is : working_page * PGSIZE + (from + done) ≡ UTEMP + at_place % PGSIZE
+  place_is = let same = at_is in omega (arith, same)
 
   pub keeps_bytes : IsKept names s a n va len start done word left
   keeps_bytes = by_word ((at_place % 4 == 0) && (left == 4)) refl
@@ -854,27 +890,27 @@ module _ {names : Names} {s : KernelState} {a : AbstractState} (h : StandsFor na
       by_word true test =
           let four : left ≡ 4 = grind (arith, nat_tests) in
           let all = few in
-          let puts : PutsBytes s n page.entry (start + done) (to_le_bytes w32 word) (store s n (UTEMP + at_place % PGSIZE) word) =
-          subst (λ (at : ℕ). PutsBytes s n page.entry (start + done) (to_le_bytes w32 word) (store s n at word)) place_is
-          (store_puts s n working_page working_below page.entry page.stands user page.writes (start + done) in_page word (omega (arith, all, four))) in
+          let puts : PutsBytes s n page.entry (from + done) (to_le_bytes w32 word) (store s n (UTEMP + at_place % PGSIZE) word) =
+          subst (λ (at : ℕ). PutsBytes s n page.entry (from + done) (to_le_bytes w32 word) (store s n at word)) place_is
+          (store_puts s n working_page working_below page.entry page.stands user page.writes (from + done) in_page word (omega (arith, all, four))) in
           record {
             spaces = puts.spaces;
             step_is = rw test puts.step_is;
-            stands = λ order. rw test
+            stands = λ order turn. rw test
                 (kept_goes 4 (to_le_bytes w32 word) (omega arith) (omega (arith, four)) refl (word_bytes word)
                 (λ i lt. word_byte it.bytes done word left i it.word_is (omega (arith, lt, four)))
-                (λ more. absurd (omega (arith, more, four))) (store s n (UTEMP + at_place % PGSIZE) word) puts order);
+                (λ more. absurd (omega (arith, more, four))) (store s n (UTEMP + at_place % PGSIZE) word) puts order turn);
           }
       by_word false test =
-          let puts : PutsBytes s n page.entry (start + done) (word % 256 ∷ []) (store_byte s n (UTEMP + at_place % PGSIZE) (word % 256)) =
-          subst (λ (at : ℕ). PutsBytes s n page.entry (start + done) (word % 256 ∷ []) (store_byte s n at (word % 256))) place_is
-          (store_byte_puts s n working_page working_below page.entry page.stands user page.writes (start + done) in_page (word % 256)) in
+          let puts : PutsBytes s n page.entry (from + done) (word % 256 ∷ []) (store_byte s n (UTEMP + at_place % PGSIZE) (word % 256)) =
+          subst (λ (at : ℕ). PutsBytes s n page.entry (from + done) (word % 256 ∷ []) (store_byte s n at (word % 256))) place_is
+          (store_byte_puts s n working_page working_below page.entry page.stands user page.writes (from + done) in_page (word % 256)) in
           record {
             spaces = puts.spaces;
             step_is = rw test puts.step_is;
-            stands = λ order. rw test
+            stands = λ order turn. rw test
                 (kept_goes 1 (word % 256 ∷ []) (omega arith) it.some refl (bytes_more (word % 256) [] (omega arith) bytes_none)
-                first_byte behind_it (store_byte s n (UTEMP + at_place % PGSIZE) (word % 256)) puts order);
+                first_byte behind_it (store_byte s n (UTEMP + at_place % PGSIZE) (word % 256)) puts order turn);
           }
         where
           first_byte : (i : ℕ) → i < 1 → slice_index (word % 256 ∷ []) i ≡ slice_index it.bytes (done + i)

@@ -43,11 +43,13 @@ use Rattle.lib_os.specs.StandsInHandler.{wanted_of}
 use Rattle.lib_os.specs.UserCalls.{CallStep, got, system}
 use Rattle.lib_os.proofs.BytesRead.{lasting_reads}
 use Rattle.lib_os.proofs.Calls.{cputs_is, cputs_step, cputs_writes}
+use Rattle.lib_os.proofs.DescriptorLooks.{seen_calm}
 use Rattle.lib_os.proofs.DeviceLooks.{names_console}
 use Rattle.lib_os.proofs.EntryWords.{row_entry}
 use Rattle.lib_os.proofs.FrameRead.{bytes_read_is}
-use Rattle.lib_os.proofs.Logical.{is_plain, logical_plain}
+use Rattle.lib_os.proofs.Logical.{is_making_pipe, is_plain, logical_plain}
 use Rattle.lib_os.proofs.Numbered.{named_at}
+use Rattle.lib_os.proofs.PipesStand.{calm_places, descriptors_turned, is_calm}
 use Rattle.lib_os.proofs.Serving.{IsServed, library_moved, served, step_in}
 use Rattle.lib_os.proofs.SlotsStand.{born_at, born_live}
 use Rattle.lib_os.proofs.StatesStand.{clients_live, printed_stands, quiet_stands, slot_changed}
@@ -170,7 +172,8 @@ module _ {names : Names} {s : KernelState} {a : AbstractState} (h : StandsFor na
   printed = answered (with_printed a it.bytes) n v.b regs (length it.bytes)
 
   console : object_of a v.b fd ≡ Some terminal
-  console = names_console h n v.b v.is (ap borne_in stands) fd it.given.below it.given.console
+  console = names_console h n v.b v.is (ap borne_in stands) (ap is_making_pipe stands) (seen_calm h n v.b v.is (ap is_calm stands)) fd
+      it.given.below it.given.console
 
   printing_step : abs_step a n ≡ Some printed
   printing_step =
@@ -210,7 +213,8 @@ module _ {names : Names} {s : KernelState} {a : AbstractState} (h : StandsFor na
           env_type = own.env_type;
           runs = subst (λ (blocked : Bool). IsStatusFor (slot_at s n).status blocked) it.is_in.awake own.runs;
           upcall = own.upcall ∙ ap upcall_at stands ∙ sym (ap upcall_at there);
-          descriptors = own.descriptors;
+          descriptors = descriptors_turned names sp d (place_of (slot_at s n)) (place_of k) v.b.descriptors (ap is_calm stands) (ap is_calm
+              there) own.descriptors;
           memory = own.memory;
           library = library_moved (place_of (slot_at s n)) (place_of k) (slot_at s n).extra words (rows_of sp d)
               (ap has_copy stands ∙ sym (ap has_copy there))
@@ -229,8 +233,8 @@ module _ {names : Names} {s : KernelState} {a : AbstractState} (h : StandsFor na
 
     printing_stands : StandsFor names (with_extra (with_bytes_reached s n UTEMP (wanted_of len)) n words) printed
     printing_stands =
-        slot_changed reached n v.b v.is k after refl (record { id = refl; env_type = refl; calm = λ runs. runs }) (ap is_plain stands)
-        (ap is_plain there) mine
+        slot_changed reached n v.b v.is k after refl (record { id = refl; env_type = refl; turns = refl; calm = λ runs. runs }) (ap is_plain stands)
+        (ap is_plain there) mine (calm_places (ap is_calm stands) (ap is_calm there)) (λ fd. refl)
 
   pub prints_bytes : (rest : List ℕ) → IsPrinted s a n len rest
   prints_bytes rest = record {

@@ -29,7 +29,7 @@ use Rattle.lib_os.specs.DescriptorPages.{Things}
 use Rattle.lib_os.specs.Fence.{is_inside, is_buffer}
 use Rattle.lib_os.specs.MemoryServices.{byte_or_fault}
 use Rattle.lib_os.specs.Rows.{EntryRow, Names, lasting, rows_of, is_shared, is_cow, may_write, page_by, page_seen, seen_where, is_programs}
-use Rattle.lib_os.specs.Rows.{logical, IsNamed, IsUsers}
+use Rattle.lib_os.specs.Rows.{is_of_descriptor, logical, IsNamed, IsUsers}
 use Rattle.lib_os.specs.StandsFor.{StandsFor, StandsForBorn, StandsForSlot, StandsAt, IsRemapping, view_of, things_in}
 use Rattle.lib_os.specs.LibraryPages.{View}
 use Rattle.lib_os.specs.Places.{place_of}
@@ -40,7 +40,7 @@ use Rattle.lib_os.specs.declared.service.Service.TheVariants as service
 use Rattle.lib_os.specs.StandsInHandler.{IsToCopy, is_refused_by, is_write}
 use Rattle.lib_os.proofs.EntriesStand.{page_shows}
 use Rattle.lib_os.proofs.Fences.{buffer_each, buffer_below, inside_number}
-use Rattle.lib_os.proofs.Logical.{inside_programs, programs_beside, logical_beside, is_remapped}
+use Rattle.lib_os.proofs.Logical.{both, inside_programs, programs_beside, programs_no_descriptor, logical_beside, is_remapped}
 use Rattle.lib_os.proofs.StatesStand.{clients_live}
 use Rattle.jos_base.proofs.Walks.{walked_below}
 
@@ -425,11 +425,14 @@ pub logical_inside : {names : Names} {s : KernelState} {a : AbstractState} → S
 logical_inside {names} {s} {a} stands n b is p inside other =
     logical_beside s.spaces s.environments.slots n (clients_live stands n b is) p (programs_beside p inside).0 other
 
--- of that it is known what stands there
-pub remapped_at : (at : Place) (v : View) (k : Slot) (b : Born) (p : ℕ) → is_remapped at p ≡ true → StandsAt at v k b → IsRemapping v.row p
-remapped_at (place.InService service.Fork (step.Remap id page)) v k b p is at =
+-- of that it is known what stands there, where it is not a page that service pipe makes
+pub remapped_at : (at : Place) (v : View) (k : Slot) (b : Born) (p : ℕ) → is_of_descriptor p ≡ false → is_remapped at p ≡ true → StandsAt at v k b →
+    IsRemapping v.row p
+remapped_at (place.InService service.Pipe (step.Piped making)) v k b p other is at =
+    absurd (let contradiction : false ≡ true = sym other ∙ (both (is_of_descriptor p) _ is).0 in cc)
+remapped_at (place.InService service.Fork (step.Remap id page)) v k b p other is at =
     let same : page ≡ p = grind (arith, nat_tests) in subst (λ (q : ℕ). IsRemapping v.row q) same at.1
-remapped_at _ v k b p is at = absurd (let contradiction : false ≡ true = is in cc)
+remapped_at _ v k b p other is at = absurd (let contradiction : false ≡ true = is in cc)
 
 module _ (names : Names) (s : KernelState) (a : AbstractState) (n : ℕ) (b : Born) (stands : StandsFor names s a) (is : a.slots n ≡ born b) where
   memory_is : (p : ℕ) → b.memory p ≡ page_seen names s.spaces (slot_at s n).directory p
@@ -438,15 +441,17 @@ module _ (names : Names) (s : KernelState) (a : AbstractState) (n : ℕ) (b : Bo
   abbrev is_twice : ℕ → Bool
   is_twice p = is_remapped (place_of (slot_at s n)) p
 
-  pub remapped : (p : ℕ) → is_twice p ≡ true → IsRemapping (rows_of s.spaces (slot_at s n).directory) p
-  remapped p twice =
-      remapped_at (place_of (slot_at s n)) (view_of s.spaces (slot_at s n).directory) (slot_at s n) b p twice (born_part names s a n b stands is).at
+  pub remapped : (p : ℕ) → is_of_descriptor p ≡ false → is_twice p ≡ true → IsRemapping (rows_of s.spaces (slot_at s n).directory) p
+  remapped p none twice =
+      remapped_at (place_of (slot_at s n)) (view_of s.spaces (slot_at s n).directory) (slot_at s n) b p none twice (born_part names s a n b
+      stands is).at
 
   pub users_inside : (p : ℕ) (x : Entry) → is_programs p ≡ true → rows_of s.spaces (slot_at s n).directory p ≡ Some x → IsUsers x.perm
   users_inside p x inside at = by_step (is_twice p) refl
     where
       by_step : (c : Bool) → is_twice p ≡ c → IsUsers x.perm
-      by_step true twice = let it = remapped p twice in subst (λ (e : Entry). IsUsers e.perm) (same_Some it.entry x (sym it.stands ∙ at)) it.user
+      by_step true twice = let it = remapped p (programs_no_descriptor p inside) twice in subst (λ (e : Entry). IsUsers e.perm) (same_Some
+          it.entry x (sym it.stands ∙ at)) it.user
       by_step false other = stands.users n p x (logical_inside stands n b is p inside other ∙ at)
 
   pub named_inside : (p : ℕ) (x : Entry) → is_programs p ≡ true → rows_of s.spaces (slot_at s n).directory p ≡ Some x → is_shared x.perm ≡ true →
@@ -455,7 +460,7 @@ module _ (names : Names) (s : KernelState) (a : AbstractState) (n : ℕ) (b : Bo
     where
       by_step : (c : Bool) → is_twice p ≡ c → IsNamed names s.spaces.pages a.shared (things_in s a) a.next_name p x.frame
       by_step true twice =
-          let it = remapped p twice in
+          let it = remapped p (programs_no_descriptor p inside) twice in
           let own_page : is_shared x.perm ≡ false =
           ap (λ (e : Entry). is_shared e.perm) (sym (same_Some it.entry x (sym it.stands ∙ at))) ∙ it.own_page in
           absurd (let contradiction : false ≡ true = sym own_page ∙ shared_page in cc)

@@ -1,6 +1,6 @@
 -- The kernel's state goes on standing for the abstract one where a byte is stored: in a page of the environment's own, which
 -- nobody else sees, or in a shared one, which all see who have it.
-use Rattle.std.proofs.Common.{◌≡◌, ◌≢◌, ◌∙◌, ◌<◌, ◌==◌, ℕ, Bool, true, false, None, List, refl, sym, ap, subst, arith, if◌then◌else◌}
+use Rattle.std.proofs.Common.{◌⊎◌, inl, inr, ◌≡◌, ◌≢◌, ◌∙◌, ◌<◌, ◌==◌, ℕ, Bool, true, false, None, List, refl, sym, ap, subst, arith, if◌then◌else◌}
 use Rattle.std.proofs.lemmas.Bool.Decides.{nat_tests}
 use Rattle.std.specs.Prelude.{Option, Some, slice_set}
 use Rattle.jos_base.specs.declared.numbers.TheConstants.{UTEMP}
@@ -14,7 +14,9 @@ use Rattle.lib_os.specs.AbstractMemory.{stored, stored_in}
 use Rattle.lib_os.specs.DescriptorPages.{lasting_words}
 use Rattle.lib_os.specs.InOrder.{IsInOrder}
 use Rattle.lib_os.specs.Places.{place_of}
-use Rattle.lib_os.specs.Rows.{Names, Rows, rows_of, logical, is_descriptor, is_programs, is_shared, may_write}
+use Rattle.lib_os.specs.PipeEnds.{EndsStandAt, LocksStand}
+use Rattle.lib_os.specs.Rows.{EntryRow, Names, Rows, rows_of, logical, is_of_descriptor, is_pipe_page, is_programs}
+use Rattle.lib_os.specs.Rows.{is_shared, may_write, own_perm, pipe_page}
 use Rattle.lib_os.specs.Rows.{AgreeWhereShared, AreNamed, AreUsers, AreWhole, AreBeside, server_row, IsNamed, IsPage, ShowsBy}
 use Rattle.lib_os.specs.StandsFor.{StandsFor, StandsForBorn, view_of, borne_in, things_in}
 use Rattle.lib_os.proofs.Effects.{Stored}
@@ -22,18 +24,27 @@ use Rattle.lib_os.proofs.EntriesCount.{Counts, entry_counts}
 use Rattle.lib_os.proofs.EntriesStand.{RowsStand, rows_turned, same_sharing, other_frame, shown_same, seen_own, seen_by}
 use Rattle.lib_os.proofs.EntriesStand.{named_bytes, page_kind, page_shows}
 use Rattle.lib_os.proofs.Logical.{logical_alike, logical_beside, logical_plain, programs_beside, programs_no_descriptor}
-use Rattle.lib_os.proofs.Logical.{unborne_plain, unborne_unremapped}
+use Rattle.lib_os.proofs.Logical.{is_making_pipe, unborne_beside, unborne_plain}
 use Rattle.lib_os.proofs.PageBytes.{page_set}
 use Rattle.lib_os.proofs.PagesStand.{programs_frame}
-use Rattle.lib_os.proofs.SlotsStand.{SameDevices, SeenAlike, kept_rows, library_alike, page_put, slot_stands, born_at}
+use Rattle.lib_os.proofs.PipesStand.{ends_moved, locks_same, same_places}
+use Rattle.lib_os.proofs.SlotsStand.{SameDevices, SamePipes, SeenAlike, is_piped, keeps_pipe, kept_rows}
+use Rattle.lib_os.proofs.SlotsStand.{library_alike, page_put, pipe_minded, slot_stands}
+use Rattle.lib_os.proofs.SlotsStand.{born_at, turn_unpiped}
 use Rattle.lib_os.proofs.Children.{same_child, children_still}
-use Rattle.lib_os.proofs.StatesStand.{space_moves, clients_live, server_alike}
+use Rattle.lib_os.proofs.StatesStand.{counts_beside, ends_at, others_counts, space_moves, clients_live, server_alike}
 use Rattle.lib_os.proofs.WordsTell.{is_in_handler}
 use Rattle.jos_base.proofs.Maps.{upd-at, upd-other}
+use Rattle.jos_base.proofs.Puts.{Elsewhere}
+
+-- the page of a pipe is one of a descriptor's
+pipes_descriptor : (q : ℕ) → is_pipe_page q ≡ true → is_of_descriptor q ≡ true
+pipes_descriptor q pipes = grind (arith, nat_tests)
 
 module _ {names : Names} {s : KernelState} {a : AbstractState} {sp : SpacesState} (h : StandsFor names s a) (n : ℕ) (b : Born)
     (at : a.slots n ≡ born b) (outside : is_in_handler (place_of (slot_at s n)) ≡ false)
-    (unborne : borne_in (place_of (slot_at s n)) ≡ None)
+    (unborne : borne_in (place_of (slot_at s n)) ≡ None) (unmade : is_making_pipe (place_of (slot_at s n)) ≡ false)
+    (off : is_piped (place_of (slot_at s n)) ≡ false) (last : s.last ≡ Some n)
     (va byte : ℕ) (small : byte < 256) (inside : is_programs (page_number va) ≡ true) (e : Entry)
     (he : rows_of s.spaces (slot_at s n).directory (page_number va) ≡ Some e)
     (writes : has_write e.perm ≡ true) (st : Stored s.spaces sp e.frame (page_offset va) byte) (in_order : IsInOrder (with_spaces s sp)) where
@@ -61,7 +72,7 @@ module _ {names : Names} {s : KernelState} {a : AbstractState} {sp : SpacesState
   -- this one among them
   counts_here : before n p ≡ Some e
   counts_here = logical_beside s.spaces s.environments.slots n (clients_live h n b at) p (programs_beside p inside).0
-      (unborne_unremapped (place_of (slot_at s n)) p unborne) ∙ he
+      (unborne_beside (place_of (slot_at s n)) p unborne (programs_no_descriptor p inside)) ∙ he
 
   -- another frame's bytes
   bytes_kept : (x : Entry) → x.frame ≢ e.frame → sp.pages x.frame ≡ s.spaces.pages x.frame
@@ -89,7 +100,7 @@ module _ {names : Names} {s : KernelState} {a : AbstractState} {sp : SpacesState
   -- what stands in its own space counts
   own_counts : (q : ℕ) (x : Entry) → rows_of s.spaces d q ≡ Some x → before n q ≡ Some x
   own_counts q x hx =
-      logical_plain s.spaces s.environments.slots n (clients_live h n b at) (unborne_plain (place_of (slot_at s n)) outside unborne) q ∙ hx
+      logical_plain s.spaces s.environments.slots n (clients_live h n b at) (unborne_plain (place_of (slot_at s n)) outside unborne unmade) q ∙ hx
 
   -- another page of one's own keeps its bytes, in this space
   own_beside : (q : ℕ) (x : Entry) → q ≢ p → rows_of s.spaces d q ≡ Some x → is_shared x.perm ≡ false → sp.pages x.frame ≡ s.spaces.pages x.frame
@@ -113,32 +124,48 @@ module _ {names : Names} {s : KernelState} {a : AbstractState} {sp : SpacesState
   own_elsewhere q r x ne hx own_page =
       bytes_kept x (frames_differ q r x hx (λ found.
       other_frame before h.apart n p found.slot found.page found.entry e
-      (λ same too. ne (sym found.home ∙ ap (λ (m : ℕ). (slot_at s m).directory) same)) counts_here writes found.counts (found.sharing ∙ own_page)))
+      (λ same too. ne (sym found.home ∙ ap (λ (m : ℕ). (slot_at s m).directory) same)) counts_here writes found.counts (found.own own_page)))
 
   -- a descriptor's page has another
-  descriptors_apart : (q r : ℕ) (x : Entry) → is_descriptor r ≡ true → rows_of s.spaces q r ≡ Some x → is_shared x.perm ≡ true → x.frame ≢ e.frame
-  descriptors_apart q r x descriptor hx shared_page =
-      frames_differ q r x hx (λ found same.
-      let there : is_shared found.entry.perm ≡ true = found.sharing ∙ shared_page in
-      let here : is_shared e.perm ≡ true =
-      sym (same_sharing before h.apart found.slot found.page n p found.entry e found.counts counts_here same) ∙ there in
-      let contradiction : true ≡ false =
-      sym descriptor
-      ∙ ap is_descriptor (sym (found.itself shared_page))
-      ∙ sym (h.named found.slot found.page found.entry found.counts there).kind
-      ∙ ap (λ (f : ℕ). names.is_object (names.name f)) same
-      ∙ page_kind inside (h.named n p e counts_here here) in
-      cc)
+  descriptors_apart : (q r : ℕ) (x : Entry) → is_of_descriptor r ≡ true → rows_of s.spaces q r ≡ Some x → is_shared x.perm ≡ true → x.frame ≢ e.frame
+  descriptors_apart q r x descriptor hx shared_page = frames_differ q r x hx (λ found. by_shared found (found.shared shared_page))
+    where
+      by_shared : (found : Counts s q r x) → (is_shared found.entry.perm ≡ true) ⊎ (found.entry.perm ≡ own_perm) → found.entry.frame ≢ e.frame
+      by_shared found (inl there) same =
+          let here : is_shared e.perm ≡ true =
+          sym (same_sharing before h.apart found.slot found.page n p found.entry e found.counts counts_here same) ∙ there in
+          let contradiction : true ≡ false =
+          sym descriptor
+          ∙ ap is_of_descriptor (sym (found.itself shared_page))
+          ∙ sym (h.named found.slot found.page found.entry found.counts there).kind
+          ∙ ap (λ (f : ℕ). names.is_object (names.name f)) same
+          ∙ page_kind inside (h.named n p e counts_here here) in
+          cc
+      by_shared found (inr made) same =
+          let here : is_shared e.perm ≡ false =
+          sym (same_sharing before h.apart found.slot found.page n p found.entry e found.counts counts_here same) ∙ ap is_shared made in
+          let other : Elsewhere n p found.slot found.page =
+          λ slot page.
+          let contradiction : true ≡ false =
+          sym descriptor ∙ ap is_of_descriptor (sym (found.itself shared_page) ∙ sym page) ∙ programs_no_descriptor p inside in
+          cc in
+          other_frame before h.apart found.slot found.page n p e found.entry other found.counts (ap has_write made) counts_here here (sym same)
 
-  -- so that those of this space tell the same
-  devices_kept : SameDevices (view_of s.spaces d) (view_of sp d)
-  devices_kept q x descriptor hx = ap lasting_words (by_sharing (is_shared x.perm) refl)
+  -- so that those of this space have the same bytes
+  of_descriptor : (q : ℕ) (x : Entry) → is_of_descriptor q ≡ true → rows_of s.spaces d q ≡ Some x → sp.pages x.frame ≡ s.spaces.pages x.frame
+  of_descriptor q x descriptor hx = by_sharing (is_shared x.perm) refl
     where
       by_sharing : (c : Bool) → is_shared x.perm ≡ c → sp.pages x.frame ≡ s.spaces.pages x.frame
       by_sharing true shared_page = bytes_kept x (descriptors_apart d q x descriptor hx shared_page)
       by_sharing false own_page =
           own_beside q x
-          (λ same. let contradiction : true ≡ false = sym descriptor ∙ ap is_descriptor same ∙ programs_no_descriptor p inside in cc) hx own_page
+          (λ same. let contradiction : true ≡ false = sym descriptor ∙ ap is_of_descriptor same ∙ programs_no_descriptor p inside in cc) hx own_page
+
+  devices_kept : SameDevices (view_of s.spaces d) (view_of sp d)
+  devices_kept q x descriptor no_pipe hx = ap lasting_words (of_descriptor q x descriptor hx)
+
+  pipes_kept : SamePipes (view_of s.spaces d) (view_of sp d)
+  pipes_kept q x pipes hx = of_descriptor q x (pipes_descriptor q pipes) hx
 
   space_alike : (q : ℕ) → ((r : ℕ) (x : Entry) → rows_of s.spaces q r ≡ Some x → is_shared x.perm ≡ false →
       sp.pages x.frame ≡ s.spaces.pages x.frame) → SeenAlike names names s.spaces sp q
@@ -147,6 +174,7 @@ module _ {names : Names} {s : KernelState} {a : AbstractState} {sp : SpacesState
     bytes = bytes;
     named_so = λ r x hx shared_page. refl;
     devices = λ r x descriptor hx shared_page. ap lasting_words (bytes_kept x (descriptors_apart q r x descriptor hx shared_page));
+    pipes = λ r x pipes hx shared_page. bytes_kept x (descriptors_apart q r x (pipes_descriptor r pipes) hx shared_page);
     regions = st.regions q;
   }
 
@@ -158,6 +186,22 @@ module _ {names : Names} {s : KernelState} {a : AbstractState} {sp : SpacesState
 
   beside_kept : AreBeside (server_row s.spaces s.environments.slots) (logical sp s.environments.slots)
   beside_kept m q r x y hx is = h.beside m q r x y (sym (counts_kept m q) ∙ hx) is
+
+  -- no page of a pipe that counts as shared has the frame
+  pipes_apart : (m q : ℕ) (x : Entry) → is_pipe_page q ≡ true → before m q ≡ Some x → is_shared x.perm ≡ true → x.frame ≢ e.frame
+  pipes_apart m q x pipes hx shared_page same =
+      let here : is_shared e.perm ≡ true = sym (same_sharing before h.apart m q n p x e hx counts_here same) ∙ shared_page in
+      let contradiction : true ≡ false =
+      sym (pipes_descriptor q pipes)
+      ∙ sym (h.named m q x hx shared_page).kind
+      ∙ ap (λ (f : ℕ). names.is_object (names.name f)) same
+      ∙ page_kind inside (h.named n p e counts_here here) in
+      cc
+
+  locks_stand : LocksStand sp.pages s.environments.slots (logical sp s.environments.slots)
+  locks_stand =
+      locks_same (λ m. refl) (λ m q pipes. counts_kept m q)
+      (λ m q x pipes hx shared_page. bytes_kept x (pipes_apart m q x pipes hx shared_page)) h.locks
 
   -- in a page of its own
   module _ (own_page : is_shared e.perm ≡ false) where
@@ -186,13 +230,20 @@ module _ {names : Names} {s : KernelState} {a : AbstractState} {sp : SpacesState
           only = λ r is. (born_at h n b at).regions_only r (sym (st.regions d r) ∙ is);
         })
         (kept_rows (place_of (slot_at s n)) (view_of s.spaces d) (view_of sp d) outside (ap (λ (rows : Rows). rows d) st.rows) (st.regions d)
-        ((λ x hx own_too. own_beside (page_number UTEMP) x (λ same. (programs_beside p inside).2 (sym same)) hx own_too), devices_kept))
+        ((λ x hx own_too. own_beside (page_number UTEMP) x (λ same. (programs_beside p inside).2 (sym same)) hx own_too), devices_kept)
+        (keeps_pipe (pipe_minded (place_of (slot_at s n))) (view_of s.spaces d) (view_of sp d)
+        (λ fd minds below x lies. pipes_kept (pipe_page fd) x (grind (arith, nat_tests)) lies)))
+        (turn_unpiped (view_of s.spaces d) (view_of sp d) (slot_at s n) (place_of (slot_at s n)) (slot_at s n).status (slot_at s n).runs off)
 
     own_stored : StandsFor names (with_spaces s sp) (with_born a n (record b { memory = upd b.memory p after }))
     own_stored =
         space_moves h n b at sp (record b { memory = upd b.memory p after }) a.shared a.next_name unborne
         (λ q ne. space_alike q (λ r x hx own_too. own_elsewhere q r x ne hx own_too)) mine
         (record { apart = apart_kept; named = named_kept; users = users_kept; whole = whole_kept; beside = beside_kept }) in_order
+        (others_counts h n last sp)
+        (ends_moved (same_places refl) (λ fd. refl) (λ fd name is. refl) (λ fd below. row_kept d (pipe_page fd)) (λ fd x below is. refl)
+        (ends_at h n b at))
+        locks_stand (omega arith) (λ fd name names_it. h.old n fd name b at names_it)
 
   -- in a shared page
   module _ (shared_page : is_shared e.perm ≡ true) where
@@ -209,7 +260,7 @@ module _ {names : Names} {s : KernelState} {a : AbstractState} {sp : SpacesState
         let contradiction : true ≡ false =
         sym shared_page
         ∙ sym (same_sharing before h.apart found.slot found.page n p found.entry e found.counts counts_here same)
-        ∙ found.sharing ∙ own_page in
+        ∙ found.own own_page in
         cc)
 
     shared_put : sp.pages e.frame ≡ bytes_after
@@ -219,23 +270,25 @@ module _ {names : Names} {s : KernelState} {a : AbstractState} {sp : SpacesState
     named_stored : AreNamed names sp.pages (upd a.shared name bytes_after) (things_in s a) a.next_name (logical sp s.environments.slots)
     named_stored m q x hx shared_too =
         let was = h.named m q x (sym (counts_kept m q) ∙ hx) shared_too in
-        record { home = was.home; kind = was.kind; shows = by_frame was (x.frame == e.frame) refl; old = was.old }
+        record { home = was.home; kind = was.kind; of_pipe = was.of_pipe; shows = by_frame was (x.frame == e.frame) refl; old = was.old }
       where
         by_frame : IsNamed names s.spaces.pages a.shared (things_in s a) a.next_name q x.frame → (t : Bool) → (x.frame == e.frame) ≡ t →
-            ShowsBy (things_in s a) (names.name x.frame) x.frame (names.is_object (names.name x.frame))
+            ShowsBy (things_in s a) (names.name x.frame) x.frame (names.is_object (names.name x.frame)) (names.is_pipe (names.name x.frame))
             (upd a.shared name bytes_after (names.name x.frame)) (sp.pages x.frame)
         by_frame was true test =
             let same : e.frame ≡ x.frame = grind (arith, nat_tests) in
-            subst (λ (f : ℕ). ShowsBy (things_in s a) (names.name f) f (names.is_object (names.name f)) (upd a.shared name bytes_after (names.name f))
+            subst (λ (f : ℕ). ShowsBy (things_in s a) (names.name f) f (names.is_object (names.name f)) (names.is_pipe (names.name f)) (upd
+            a.shared name bytes_after (names.name f))
             (sp.pages f)) same
-            (subst (λ (c : Bool). ShowsBy (things_in s a) name e.frame c (upd a.shared name bytes_after name) (sp.pages e.frame))
+            (subst (λ (c : Bool). ShowsBy (things_in s a) name e.frame c (names.is_pipe name) (upd a.shared name bytes_after name) (sp.pages e.frame))
             (sym (page_kind inside (h.named n p e counts_here shared_page)))
             (upd-at a.shared name bytes_after ∙ sym shared_put))
         by_frame was false test =
             let other : x.frame ≢ e.frame = grind (arith, nat_tests) in
             let other_name : names.name x.frame ≢ name =
             λ same. other (sym was.home ∙ ap (λ (m : ℕ). names.frame m) same ∙ (h.named n p e counts_here shared_page).home) in
-            subst (λ (l : List ℕ). ShowsBy (things_in s a) (names.name x.frame) x.frame (names.is_object (names.name x.frame)) l (sp.pages x.frame))
+            subst (λ (l : List ℕ). ShowsBy (things_in s a) (names.name x.frame) x.frame (names.is_object (names.name x.frame))
+            (names.is_pipe (names.name x.frame)) l (sp.pages x.frame))
             (sym (upd-other a.shared name bytes_after (names.name x.frame) other_name))
             (named_bytes {after = sp.pages} (sym (bytes_kept x other)) was).shows
 
@@ -249,7 +302,13 @@ module _ {names : Names} {s : KernelState} {a : AbstractState} {sp : SpacesState
     shared_stored = record {
       slots = λ m. slot_stands names names s.spaces sp (slot_at s m) (a.slots m) (h.slots m)
           (λ live. space_alike (slot_at s m).directory
-          (λ r x hx own_too. bytes_kept x (own_other (slot_at s m).directory r x hx own_too)));
+          (λ r x hx own_too. bytes_kept x (own_other (slot_at s m).directory r x hx own_too)))
+          (counts_beside h n last off sp m);
+      ends = λ m. subst (λ (row : EntryRow). EndsStandAt names a.objects (place_of (slot_at s m)) row (a.slots m))
+          (sym (ap (λ (rows : Rows). rows (slot_at s m).directory) st.rows)) (h.ends m);
+      locks = locks_stand;
+      runs = h.runs;
+      old = h.old;
       children = children_still h.children (λ m. refl) (λ m. same_child (slot_at s m) (slot_at s m) refl) (λ m. refl)
           (λ m live. space_alike (slot_at s m).directory
           (λ r x hx own_too. bytes_kept x (own_other (slot_at s m).directory r x hx own_too)));

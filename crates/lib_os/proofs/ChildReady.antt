@@ -21,11 +21,11 @@ use Rattle.lib_os.specs.DescriptorPages.{lasting_words}
 use Rattle.lib_os.specs.InOrder.{IsInOrder}
 use Rattle.lib_os.specs.LibraryPages.{is_library_region, region_index}
 use Rattle.lib_os.specs.Places.{place_of, words_at}
-use Rattle.lib_os.specs.Rows.{EntryRow, IsPage, IsUsers, Names, counted, is_descriptor, is_programs, is_shared, logical}
+use Rattle.lib_os.specs.Rows.{EntryRow, IsPage, IsUsers, Names, counted, is_of_descriptor, is_programs, is_shared, logical}
 use Rattle.lib_os.specs.Rows.{page_seen, rows_of}
 use Rattle.lib_os.specs.StandsFor.{StandsFor, StandsForBorn, StandsForUnborn, things_in}
-use Rattle.lib_os.proofs.Bearing.{IsBearer, IsChild, bearer, bearing_stands, others_count_too, parent_not_first, child_not_first}
-use Rattle.lib_os.proofs.BearingCounts.{of_slots, live_counts, parent_lives, child_lives, child_place, spaces_apart, parent_counted, child_counted}
+use Rattle.lib_os.proofs.Bearing.{IsBearer, IsChild, bearer, bearing_stands, of_slots, others_count_too, parent_not_first, child_not_first}
+use Rattle.lib_os.proofs.BearingCounts.{live_counts, parent_lives, child_lives, child_place, spaces_apart, parent_counted, child_counted}
 use Rattle.lib_os.proofs.BearingCounts.{parent_counts, child_counts, other_counts}
 use Rattle.lib_os.proofs.Effects.{Made}
 use Rattle.lib_os.proofs.EntriesStand.{PutsRow, named_bytes, put_is, rows_put, rows_same, rows_stand, seen_at}
@@ -35,8 +35,8 @@ use Rattle.lib_os.proofs.Logical.{counted_plain, logical_some, programs_beside}
 use Rattle.lib_os.proofs.PageBytes.{zero_page_whole}
 use Rattle.lib_os.proofs.PagesStand.{other_regions, row_elsewhere, row_placed}
 use Rattle.lib_os.proofs.Slots.{slot_kept}
-use Rattle.lib_os.proofs.SlotsStand.{SeenAlike, born_stands}
-use Rattle.lib_os.proofs.StatesStand.{slot_in_order}
+use Rattle.lib_os.proofs.SlotsStand.{SeenAlike, born_stands, counts_unpiped, is_piped}
+use Rattle.lib_os.proofs.StatesStand.{others_counts, slot_in_order}
 use Rattle.jos_base.proofs.Maps.{upd-at, upd-other}
 use Rattle.jos_base.proofs.Puts.{Elsewhere}
 
@@ -83,6 +83,7 @@ module _ {names : Names} {s : KernelState} {a : AbstractState} (h : StandsFor na
     bytes = λ p x is own_page. refl;
     named_so = λ p x is shared_page. refl;
     devices = λ p x descriptor is shared_page. refl;
+    pipes = λ p x pipes is shared_page. refl;
     regions = λ r. refl;
   }
 
@@ -141,12 +142,12 @@ module _ {names : Names} {s : KernelState} {a : AbstractState} (h : StandsFor na
   handler_set_stands =
       subst (λ (x : Slot). StandsFor names (with_slot_at state n (record x { extra = words_at SERVICE_FORK next })) a) (sym parent_kept)
       (bearing_stands h n id (step.ChildUpcall id) next v after handled refl refl (λ d other beside. same_spaces d)
-      (record { id = refl; env_type = refl; calm = λ runs. runs }) (record { id = refl; env_type = refl; calm = λ runs. runs })
+      (record { id = refl; env_type = refl; turns = refl; calm = λ runs. runs }) (record { id = refl; env_type = refl; turns = refl; calm = λ runs. runs })
       (moved_place parent (step.ChildUpcall id) next stands) refl
-      (own_moved parent (step.ChildUpcall id) next stands v.own (in_with_words (words_at SERVICE_FORK next) v.stands)) still_unborn has_handler
+      (own_moved parent (step.ChildUpcall id) next stands refl refl v.own (in_with_words (words_at SERVICE_FORK next) v.stands)) still_unborn has_handler
       (rows_same (logical s.spaces s.environments.slots) (logical s.spaces slots_after) counts (rows_stand h))
       (slot_in_order state n after (ap (λ (x : Slot). is_live_slot x) (sym parent_kept)) (ap (λ (x : Slot). x.directory) (sym parent_kept))
-      (slot_in_order s m handled refl refl h.in_order)))
+      (slot_in_order s m handled refl refl h.in_order)) (λ j ne piped runs fd x y below is lies device. (refl, refl)) (λ p is. refl) (λ q p x is. refl))
 
 -- ---- the stack
 
@@ -161,8 +162,8 @@ stack_user : IsUsers stack_bits
 stack_user = record { page = refl; copied = λ is. absurd (let contradiction : false ≡ true = is in cc) }
 
 -- it is no descriptor's
-no_stack : (p : ℕ) → is_descriptor p ≡ true → p ≢ stack_page
-no_stack p is same = let contradiction : true ≡ false = sym is ∙ ap is_descriptor same in cc
+no_stack : (p : ℕ) → is_of_descriptor p ≡ true → p ≢ stack_page
+no_stack p is same = let contradiction : true ≡ false = sym is ∙ ap is_of_descriptor same in cc
 
 -- its region is one of the library's
 stack_region : (r : ℕ) → (r == stack_page / NPTENTRIES) ≡ true → is_library_region r ≡ true
@@ -174,7 +175,8 @@ stack_region r is = last ((r == region_index UTEMP) || (r == region_index FDTABL
 
 module _ {names : Names} {s : KernelState} {a : AbstractState} {sp : SpacesState} (h : StandsFor names s a) (n id : ℕ)
     (stands : place_of (slot_at s n) ≡ place.InService service.Fork (step.ChildStack id))
-    (made : Made s.spaces sp (slot_at s (id % NENV)).directory stack_page stack_bits) (in_order : IsInOrder (with_spaces s sp)) where
+    (made : Made s.spaces sp (slot_at s (id % NENV)).directory stack_page stack_bits) (in_order : IsInOrder (with_spaces s sp))
+    (last : s.last ≡ Some n) where
   abbrev from : Step
   from = step.ChildStack id
 
@@ -216,12 +218,14 @@ module _ {names : Names} {s : KernelState} {a : AbstractState} {sp : SpacesState
     bytes = λ r x hx own_page. bytes_kept q r x hx;
     named_so = λ r x hx shared_page. refl;
     devices = λ r x descriptor hx shared_page. ap lasting_words (bytes_kept q r x hx);
+    pipes = λ r x pipes hx shared_page. bytes_kept q r x hx;
     regions = λ r. other_regions made.placed q r ne;
   }
 
   mine : StandsForBorn names sp (moved mother to) u.b
   mine =
-      own_moved mother from to stands (born_stands mother u.b (others_alike mother.directory (spaces_apart h n id from u)) u.own)
+      own_moved mother from to stands refl refl (born_stands mother u.b (others_alike mother.directory (spaces_apart h n id from u))
+      (counts_unpiped s.spaces sp mother (ap is_piped stands)) u.own)
       (in_with_words (words_at SERVICE_FORK to) u.stands)
 
   has_stack : IsChild names sp mother u.b to child
@@ -245,7 +249,7 @@ module _ {names : Names} {s : KernelState} {a : AbstractState} {sp : SpacesState
           (λ x hx own_page. bytes_kept d p x hx) (λ x hx shared_page. refl)
           ∙ u.child.passed p inside refl
 
-      handed : (p : ℕ) → is_descriptor p ≡ true → true ≡ true → rows_of sp d p ≡ rows_of sp mother.directory p
+      handed : (p : ℕ) → is_of_descriptor p ≡ true → true ≡ true → rows_of sp d p ≡ rows_of sp mother.directory p
       handed p is on =
           rows_beside d p (λ same too. no_stack p is too)
           ∙ u.child.handed p is refl
@@ -318,3 +322,4 @@ module _ {names : Names} {s : KernelState} {a : AbstractState} {sp : SpacesState
   stack_made_stands =
       bearing_moves h n id from to u refl sp (λ q ne beside. others_alike q beside) mine has_stack
       (rows_same (put before (id % NENV) stack_page (Some new_entry)) behind stack_counts (rows_put (rows_stand h) stack_row)) in_order
+      (others_counts h n last sp) (λ p is. rows_beside mother.directory p (λ same too. spaces_apart h n id from u same)) bytes_kept

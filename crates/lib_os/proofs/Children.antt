@@ -8,9 +8,9 @@ use Rattle.jos_base.specs.Environments.{Slot}
 use Rattle.jos_base.specs.SpacesState.{SpacesState}
 use Rattle.lib_os.specs.AbstractState.{AbstractSlot, Born, unborn, born, is_live}
 use Rattle.lib_os.specs.Places.{place_of}
-use Rattle.lib_os.specs.Rows.{Names, EntryRow, rows_of, page_seen, is_descriptor}
+use Rattle.lib_os.specs.Rows.{Names, EntryRow, rows_of, page_seen, is_of_descriptor}
 use Rattle.lib_os.specs.StandsFor.{HasChildren, IsBorne, ChildPages, borne_in}
-use Rattle.lib_os.proofs.SlotsStand.{SeenAlike, seen_alike}
+use Rattle.lib_os.proofs.SlotsStand.{SeenAlike, SeenButPipes, but_pipes, seen_but_pipes}
 
 -- ---- one child
 
@@ -27,13 +27,13 @@ same_child k after same = record {
   directory = ap (λ (x : Slot). x.directory) same;
 }
 
-pub borne_moved : {names after : Names} {s t : SpacesState} {parent : Slot} {parent_is : AbstractSlot} {k : Slot} {id parent_id : ℕ}
+pub borne_stays : {names after : Names} {s t : SpacesState} {parent : Slot} {parent_is : AbstractSlot} {k : Slot} {id parent_id : ℕ}
     (parent_after : Slot) (parent_after_is : AbstractSlot) (k_after : Slot) → place_of parent_after ≡ place_of parent →
     parent_after.registers ≡ parent.registers → parent_after_is ≡ parent_is →
-    ((p : ℕ) → is_descriptor p ≡ true → rows_of t parent_after.directory p ≡ rows_of s parent.directory p) →
-    SameChild k k_after → SeenAlike names after s t k.directory →
+    ((p : ℕ) → is_of_descriptor p ≡ true → rows_of t parent_after.directory p ≡ rows_of s parent.directory p) →
+    SameChild k k_after → SeenButPipes names after s t k.directory →
     IsBorne names s parent parent_is k id parent_id → IsBorne after t parent_after parent_after_is k_after id parent_id
-borne_moved {names = names} {after = after} {s = s} {t = t} {k = k} parent_after parent_after_is k_after place registers same kept child seen h = record {
+borne_stays {names = names} {after = after} {s = s} {t = t} {k = k} parent_after parent_after_is k_after place registers same kept child seen h = record {
   b = h.b;
   born_by = same ∙ h.born_by;
   named = h.named;
@@ -43,7 +43,7 @@ borne_moved {names = names} {after = after} {s = s} {t = t} {k = k} parent_after
   registers = child.registers ∙ h.registers ∙ ap (λ (r : Regs). record r { eax = 0 }) (sym registers);
   upcall = child.upcall ∙ h.upcall;
   passed = λ p inside passed.
-      ap (λ (d : ℕ). page_seen after t d p) child.directory ∙ seen_alike seen p ∙ h.passed p inside passed;
+      ap (λ (d : ℕ). page_seen after t d p) child.directory ∙ seen_but_pipes seen p ∙ h.passed p inside passed;
   handed = λ p is passed.
       ap (λ (d : ℕ). rows_of t d p) child.directory ∙ ap (λ (r : EntryRow). r p) seen.rows ∙ h.handed p is passed ∙ sym (kept p is);
   rest = λ p inside off.
@@ -51,6 +51,16 @@ borne_moved {names = names} {after = after} {s = s} {t = t} {k = k} parent_after
   library = subst (λ (r : EntryRow). ChildPages h.step r) (sym (ap (λ (d : ℕ). rows_of t d) child.directory ∙ seen.rows)) h.library;
   tables = λ r table. h.tables r (sym (seen.regions r) ∙ sym (ap (λ (d : ℕ). is_some (t.regions d r)) child.directory) ∙ table);
 }
+
+-- the same where the pages of pipes have the same bytes
+pub borne_moved : {names after : Names} {s t : SpacesState} {parent : Slot} {parent_is : AbstractSlot} {k : Slot} {id parent_id : ℕ}
+    (parent_after : Slot) (parent_after_is : AbstractSlot) (k_after : Slot) → place_of parent_after ≡ place_of parent →
+    parent_after.registers ≡ parent.registers → parent_after_is ≡ parent_is →
+    ((p : ℕ) → is_of_descriptor p ≡ true → rows_of t parent_after.directory p ≡ rows_of s parent.directory p) →
+    SameChild k k_after → SeenAlike names after s t k.directory →
+    IsBorne names s parent parent_is k id parent_id → IsBorne after t parent_after parent_after_is k_after id parent_id
+borne_moved parent_after parent_after_is k_after place registers same kept child seen h =
+    borne_stays parent_after parent_after_is k_after place registers same kept child (but_pipes seen) h
 
 -- ---- all of them
 
@@ -77,10 +87,10 @@ parent_elsewhere {slots = slots} {abstract = abstract} h n none m id parent is s
 module _ {names after : Names} {s t : SpacesState} {slots slots_after : ℕ → Slot} {abstract abstract_after : ℕ → AbstractSlot}
     (h : HasChildren names s slots abstract) where
   -- One slot is another, which bore no child and bears none.
-  pub children_kept : (n : ℕ) → ((m : ℕ) → m ≢ n → slots_after m ≡ slots m) → ((m : ℕ) → m ≢ n → abstract_after m ≡ abstract m) →
-      ((m : ℕ) → m ≢ n → is_live (abstract m) ≡ true → SeenAlike names after s t (slots m).directory) →
+  pub children_stay : (n : ℕ) → ((m : ℕ) → m ≢ n → slots_after m ≡ slots m) → ((m : ℕ) → m ≢ n → abstract_after m ≡ abstract m) →
+      ((m : ℕ) → m ≢ n → is_live (abstract m) ≡ true → SeenButPipes names after s t (slots m).directory) →
       BearsNone (slots n) (abstract n) → BearsNone (slots_after n) (abstract_after n) → HasChildren after t slots_after abstract_after
-  children_kept n same same_abstract seen none none_after = record { borne = borne; have = have }
+  children_stay n same same_abstract seen none none_after = record { borne = borne; have = have }
     where
       borne_elsewhere : (m id parent : ℕ) → m ≢ n → abstract_after m ≡ unborn id parent →
           IsBorne after t (slots_after (parent % NENV)) (abstract_after (parent % NENV)) (slots_after m) id parent
@@ -88,7 +98,7 @@ module _ {names after : Names} {s t : SpacesState} {slots slots_after : ℕ → 
           let was : abstract m ≡ unborn id parent = sym (same_abstract m ne) ∙ is in
           let apart : parent % NENV ≢ n = parent_elsewhere h n none m id parent was in
           let its_parent : slots_after (parent % NENV) ≡ slots (parent % NENV) = same (parent % NENV) apart in
-          borne_moved (slots_after (parent % NENV)) (abstract_after (parent % NENV)) (slots_after m)
+          borne_stays (slots_after (parent % NENV)) (abstract_after (parent % NENV)) (slots_after m)
           (ap (λ (k : Slot). place_of k) its_parent) (ap (λ (k : Slot). k.registers) its_parent) (same_abstract (parent % NENV) apart)
           (λ p descriptor. ap (λ (k : Slot). rows_of t k.directory p) its_parent ∙ ap (λ (r : EntryRow). r p)
           (seen (parent % NENV) apart (ap (λ (x : AbstractSlot). is_live x) (h.borne m id parent was).born_by)).rows)
@@ -124,20 +134,32 @@ module _ {names after : Names} {s t : SpacesState} {slots slots_after : ℕ → 
           by_slot false test = have_elsewhere q id b (grind (arith, nat_tests)) is bears
 
   -- Each slot stands where it stood, with its registers.
-  pub children_still : ((m : ℕ) → place_of (slots_after m) ≡ place_of (slots m)) → ((m : ℕ) → SameChild (slots m) (slots_after m)) →
+  pub children_stay_still : ((m : ℕ) → place_of (slots_after m) ≡ place_of (slots m)) → ((m : ℕ) → SameChild (slots m) (slots_after m)) →
       ((m : ℕ) → abstract_after m ≡ abstract m) →
-      ((m : ℕ) → is_live (abstract m) ≡ true → SeenAlike names after s t (slots m).directory) → HasChildren after t slots_after abstract_after
-  children_still places same same_abstract seen = record {
+      ((m : ℕ) → is_live (abstract m) ≡ true → SeenButPipes names after s t (slots m).directory) → HasChildren after t slots_after abstract_after
+  children_stay_still places same same_abstract seen = record {
     borne = λ m id parent is.
         let was : abstract m ≡ unborn id parent = sym (same_abstract m) ∙ is in
         let p = parent % NENV in
-        borne_moved (slots_after p) (abstract_after p) (slots_after m) (places p) (same p).registers (same_abstract p)
+        borne_stays (slots_after p) (abstract_after p) (slots_after m) (places p) (same p).registers (same_abstract p)
         (λ q descriptor. ap (λ (d : ℕ). rows_of t d q) (same p).directory
         ∙ ap (λ (r : EntryRow). r q) (seen p (ap (λ (x : AbstractSlot). is_live x) (h.borne m id parent was).born_by)).rows) (same m)
         (seen m (ap (λ (x : AbstractSlot). is_live x) was)) (h.borne m id parent was);
     have = λ q id b is bears.
         same_abstract (id % NENV) ∙ h.have q id b (sym (same_abstract q) ∙ is) (ap borne_in (sym (places q)) ∙ bears);
   }
+
+  -- the same where the pages of pipes have the same bytes
+  pub children_kept : (n : ℕ) → ((m : ℕ) → m ≢ n → slots_after m ≡ slots m) → ((m : ℕ) → m ≢ n → abstract_after m ≡ abstract m) →
+      ((m : ℕ) → m ≢ n → is_live (abstract m) ≡ true → SeenAlike names after s t (slots m).directory) →
+      BearsNone (slots n) (abstract n) → BearsNone (slots_after n) (abstract_after n) → HasChildren after t slots_after abstract_after
+  children_kept n same same_abstract seen none none_after =
+      children_stay n same same_abstract (λ m ne live. but_pipes (seen m ne live)) none none_after
+
+  pub children_still : ((m : ℕ) → place_of (slots_after m) ≡ place_of (slots m)) → ((m : ℕ) → SameChild (slots m) (slots_after m)) →
+      ((m : ℕ) → abstract_after m ≡ abstract m) →
+      ((m : ℕ) → is_live (abstract m) ≡ true → SeenAlike names after s t (slots m).directory) → HasChildren after t slots_after abstract_after
+  children_still places same same_abstract seen = children_stay_still places same same_abstract (λ m live. but_pipes (seen m live))
 
 -- ---- one slot is another
 

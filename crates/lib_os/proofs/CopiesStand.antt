@@ -15,7 +15,7 @@ use Rattle.jos_base.specs.SpacesState.{SpacesState, put}
 use Rattle.jos_base.specs.SystemCalls.{has_write}
 use Rattle.jos_base.specs.TrapFrames.{user_flags}
 use Rattle.jos_base.specs.Words.{page_number, upd}
-use Rattle.lib_os.specs.declared.numbers.TheConstants.{PFTEMP, UXSTACK}
+use Rattle.lib_os.specs.declared.numbers.TheConstants.{DESCRIPTORS, PFTEMP, UXSTACK}
 use Rattle.lib_os.specs.declared.place.HandlerStep.{HandlerStep}
 use Rattle.lib_os.specs.declared.place.HandlerStep.TheVariants as handler
 use Rattle.lib_os.specs.declared.place.Place.{Place}
@@ -24,31 +24,34 @@ use Rattle.lib_os.specs.AbstractState.{AbstractState, Born, own, born, with_born
 use Rattle.lib_os.specs.Fence.{in_fence, is_resident}
 use Rattle.lib_os.specs.InOrder.{IsInOrder}
 use Rattle.lib_os.specs.LibraryPages.{View, LibraryPages, IsOwnWritable, is_library_region, region_index}
+use Rattle.lib_os.specs.PipeEnds.{is_made, locked_at}
 use Rattle.lib_os.specs.Places.{place_of, is_handlers, handler_registers}
 use Rattle.lib_os.specs.Rows.{IsPage, Names, EntryRow, Rows, rows_of, logical, logical_by, counted, page_by, page_seen, seen_where, is_programs}
-use Rattle.lib_os.specs.Rows.{descriptor_perm, descriptor_seen, is_cow, is_descriptor, is_shared, shown_at}
+use Rattle.lib_os.specs.Rows.{descriptor_perm, descriptor_seen, is_cow, is_of_descriptor, is_pipe_page, is_shared, pipe_page, shown_at}
 use Rattle.lib_os.specs.Rows.{is_clients, may_write, IsUsers}
 use Rattle.lib_os.specs.StandingLaws.{IsHandlerStep}
-use Rattle.lib_os.specs.StandsFor.{StandsFor, StandsForBorn, StandsAt, things_in, view_of, upcall_at, borne_in}
+use Rattle.lib_os.specs.StandsFor.{StandsFor, StandsForBorn, StandsAt, seen_unless, things_in, view_of, upcall_at, borne_in}
 use Rattle.lib_os.specs.StandsInHandler.{IsInHandler, Copies, CopiesAt, CopiesOrEnds, copies, ends, IsToCopy, IsCopiedTo, IsMappedTwice}
 use Rattle.lib_os.specs.StandsInHandler.{is_refused_by}
 use Rattle.lib_os.proofs.Beneath.{KeepsTaken, KeepsWritable, beneath_moved, same_writable}
 use Rattle.lib_os.proofs.Effects.{Made, Given, Removed}
 use Rattle.lib_os.proofs.EntriesCount.{own_lacked}
 use Rattle.lib_os.proofs.EntriesStand.{RowsStand, PutsRow, rows_put, rows_same, rows_bytes, rows_stand, put_is, seen_own}
-use Rattle.lib_os.proofs.EntriesStand.{named_bytes, shown_same}
-use Rattle.lib_os.proofs.Handled.{IsHandled, handled_part, handler_slot, handler_place, esp_kept, eflags_kept}
+use Rattle.lib_os.proofs.EntriesStand.{named_bytes, programs_no_pipe, shown_same}
+use Rattle.lib_os.proofs.Handled.{IsHandled, handled_part, handler_calm, handler_slot, handler_place, esp_kept, eflags_kept}
 use Rattle.lib_os.proofs.Logical.{is_plain, is_remapped, counted_plain, counted_elsewhere, logical_live, logical_plain, logical_beside, inside_programs}
 use Rattle.lib_os.proofs.Logical.{programs_beside}
+use Rattle.lib_os.proofs.WordsTell.{handler_runs}
 use Rattle.lib_os.proofs.PageBytes.{zero_page_whole}
 use Rattle.lib_os.proofs.PagesStand.{Puts, others_seen, elsewhere, bytes_elsewhere, other_regions, row_placed, row_elsewhere}
+use Rattle.lib_os.proofs.PipesStand.{PlacesAlike, calm_places, descriptors_turned, ends_moved, is_calm, locks_same}
 use Rattle.lib_os.proofs.Puts.{put-found}
 use Rattle.lib_os.proofs.Releasing.{row_entry}
 use Rattle.lib_os.proofs.Serving.{library_moved}
 use Rattle.lib_os.proofs.Slots.{upd-back}
 use Rattle.lib_os.proofs.SlotsStand.{SeenAlike, HasTables, descriptors_beside, descriptors_off, library_put}
-use Rattle.lib_os.proofs.StatesStand.{clients_live, own_moves, others_count, slot_in_order}
-use Rattle.jos_base.proofs.Maps.{upd-at}
+use Rattle.lib_os.proofs.StatesStand.{clients_live, ends_at, own_moves, others_count, others_counts, slot_in_order}
+use Rattle.jos_base.proofs.Maps.{upd-alike, upd-at}
 use Rattle.jos_base.proofs.Puts.{Elsewhere, put-at, put-other}
 
 -- ---- in general
@@ -75,7 +78,7 @@ pub handler_moved : {names : Names} {s t : SpacesState} {k : Slot} {b : Born} (t
     ((fd : ℕ) → descriptor_seen names t k.directory fd ≡ descriptor_seen names s k.directory fd) →
     LibraryPages (place.InHandler to) k.extra (rows_of t k.directory) → HasTables t k.directory b.regions →
     IsInHandler to (view_of t k.directory) (handler_slot k to) b → StandsForBorn names t (handler_slot k to) b
-handler_moved {t = t} {k = k} {b = b} to had inside there upcall memory descriptors library tables at =
+handler_moved {names = names} {t = t} {k = k} {b = b} to had inside there upcall memory descriptors library tables at =
     let where_it_is : place_of (handler_slot k to) ≡ place.InHandler to = handler_place k to inside there in
     record {
       id = had.id;
@@ -84,7 +87,9 @@ handler_moved {t = t} {k = k} {b = b} to had inside there upcall memory descript
       env_type = had.env_type;
       runs = had.runs;
       upcall = upcall ∙ sym (ap upcall_at where_it_is);
-      descriptors = λ fd. had.descriptors fd ∙ sym (descriptors fd);
+      descriptors = descriptors_turned names t k.directory (place_of k) (place_of (handler_slot k to)) b.descriptors
+          (handler_calm (place_of k) (handler_runs k.registers k.extra ∙ inside)) (ap is_calm where_it_is)
+          (λ fd still. had.descriptors fd still ∙ ap (λ (o : Option ℕ). seen_unless (is_made (place_of k) fd) o) (sym (descriptors fd)));
       memory = λ p. had.memory p ∙ sym (memory p);
       library = subst (λ (p : Place). LibraryPages p k.extra (rows_of t k.directory)) (sym where_it_is) library;
       regions_have = tables.have;
@@ -127,13 +132,24 @@ pub copying_stands : {names : Names} {s : KernelState} {a : AbstractState} {sp :
     ((d : ℕ) → d ≢ (slot_at s n).directory → SeenAlike names names s.spaces sp d) →
     StandsForBorn names sp (handler_slot (slot_at s n) to) b →
     RowsStand names sp.pages a.shared (things_in s a) a.next_name (logical sp (upd s.environments.slots n (handler_slot (slot_at s n) to))) →
-    IsInOrder (with_spaces s sp) →
+    IsInOrder (with_spaces s sp) → s.last ≡ Some n → is_handlers (slot_at s n).registers.esp ≡ true → IsHandlerStep to →
+    ((fd : ℕ) → fd < DESCRIPTORS → rows_of sp (slot_at s n).directory (pipe_page fd) ≡ rows_of s.spaces (slot_at s n).directory (pipe_page fd)) →
+    ((m q : ℕ) → is_pipe_page q ≡ true → logical sp (upd s.environments.slots n (handler_slot (slot_at s n) to)) m q
+    ≡ logical s.spaces s.environments.slots m q) →
+    ((m q : ℕ) (x : Entry) → is_pipe_page q ≡ true → logical s.spaces s.environments.slots m q ≡ Some x → is_shared x.perm ≡ true →
+    sp.pages x.frame ≡ s.spaces.pages x.frame) →
     StandsFor names (with_registers (with_spaces s sp) n (handler_registers (slot_at s n).registers to)) a
-copying_stands {names = names} {s = s} {a = a} {sp = sp} h n b at to unborne unborne_after others mine rows in_order =
+copying_stands {names = names} {s = s} {a = a} {sp = sp} h n b at to unborne unborne_after others mine rows in_order last inside there pipes count bytes =
+    let k : Slot = slot_at s n in
+    let alike : PlacesAlike (place_of k) (place_of (handler_slot k to)) =
+    calm_places (handler_calm (place_of k) (handler_runs k.registers k.extra ∙ inside)) (ap is_calm (handler_place k to inside there)) in
     subst (λ (x : AbstractState). StandsFor names (with_slot_at (with_spaces s sp) n (handler_slot (slot_at s n) to)) x) (born_back a n b at)
     (own_moves h n b at sp (handler_slot (slot_at s n) to) b a.shared a.next_name refl
-    (record { id = refl; env_type = refl; calm = λ runs. runs }) unborne unborne_after others mine rows
-    (slot_in_order (with_spaces s sp) n (handler_slot (slot_at s n) to) refl refl in_order))
+    (record { id = refl; env_type = refl; turns = refl; calm = λ runs. runs }) unborne unborne_after others mine rows
+    (slot_in_order (with_spaces s sp) n (handler_slot (slot_at s n) to) refl refl in_order) (others_counts h n last sp)
+    (ends_moved alike (λ fd. refl) (λ fd name is. refl) pipes (λ fd x below is. refl) (ends_at h n b at))
+    (locks_same (upd-alike (λ (x : Slot). locked_at (place_of x)) s.environments.slots n (handler_slot k to) alike.locked) count bytes h.locks)
+    (omega arith) (λ fd name names_it. h.old n fd name b at names_it))
 
 -- how the entries of the slot count at another step
 module _ (sp : SpacesState) (slots : ℕ → Slot) (n : ℕ) (to : HandlerStep) (client : is_clients n (slots n) ≡ true)
@@ -163,11 +179,19 @@ unfolding in_fence
 copy_outside = refl
 
 -- nor is it that of a descriptor
-pub copy_no_descriptor : is_descriptor copy_page ≡ false
+pub copy_no_descriptor : is_of_descriptor copy_page ≡ false
 copy_no_descriptor = refl
 
-descriptor_off : (p : ℕ) → is_descriptor p ≡ true → p ≢ copy_page
-descriptor_off p is same = let contradiction : true ≡ false = sym is ∙ ap is_descriptor same ∙ copy_no_descriptor in cc
+descriptor_off : (p : ℕ) → is_of_descriptor p ≡ true → p ≢ copy_page
+descriptor_off p is same = let contradiction : true ≡ false = sym is ∙ ap is_of_descriptor same ∙ copy_no_descriptor in cc
+
+-- or of a pipe
+pub pipe_off : (p : ℕ) → is_pipe_page p ≡ true → p ≢ copy_page
+pipe_off p is same =
+    let none : is_pipe_page copy_page ≡ false = refl in let contradiction : true ≡ false = sym is ∙ ap is_pipe_page same ∙ none in cc
+
+pub pipe_page_is : (fd : ℕ) → fd < DESCRIPTORS → is_pipe_page (pipe_page fd) ≡ true
+pipe_page_is fd below = grind (arith, nat_tests)
 
 -- so that nothing is seen of it
 pub copy_unseen : (names : Names) (s : SpacesState) (d : ℕ) → page_seen names s d copy_page ≡ None
@@ -206,7 +230,7 @@ module _ {names : Names} {s t : SpacesState} {d : ℕ} {v : Option Entry} (puts 
   descriptors_kept = descriptors_off names names s t d copy_page copy_no_descriptor shown_kept
 
   -- those that a space has there have the bits that they had
-  bits_kept : {at : Place} {words : List ℕ} → LibraryPages at words (rows_of s d) → (p : ℕ) (entry : Entry) → is_descriptor p ≡ true → rows_of t d p ≡ Some entry →
+  bits_kept : {at : Place} {words : List ℕ} → LibraryPages at words (rows_of s d) → (p : ℕ) (entry : Entry) → is_of_descriptor p ≡ true → rows_of t d p ≡ Some entry →
       entry.perm ≡ descriptor_perm
   bits_kept before p entry is stands = before.descriptors p entry is (sym (kept_beside p (descriptor_off p is)) ∙ stands)
 
@@ -226,7 +250,7 @@ module _ {names : Names} {s t : SpacesState} {d : ℕ} {v : Option Entry} (puts 
 
 module _ {names : Names} {s : KernelState} {a : AbstractState} {sp : SpacesState} (h : StandsFor names s a) (n va : ℕ)
     (stands : place_of (slot_at s n) ≡ place.InHandler (handler.Taking va))
-    (made : Made s.spaces sp (slot_at s n).directory copy_page copy_bits) (in_order : IsInOrder (with_spaces s sp)) where
+    (made : Made s.spaces sp (slot_at s n).directory copy_page copy_bits) (in_order : IsInOrder (with_spaces s sp)) (last : s.last ≡ Some n) where
   abbrev to : HandlerStep
   to = handler.Loading va 0
 
@@ -358,6 +382,10 @@ module _ {names : Names} {s : KernelState} {a : AbstractState} {sp : SpacesState
           (goes way)))
           (rows_same (put (logical s.spaces s.environments.slots) n copy_page (Some new_entry))
           (logical sp (upd s.environments.slots n (handler_slot (slot_at s n) to))) counts (rows_put (rows_stand h) taken_row)) in_order
+          last v.inside (omega arith) (λ fd below. kept_beside taken_puts (pipe_page fd) (pipe_off (pipe_page fd) (pipe_page_is fd below)))
+          (λ m q is. counts m q
+          ∙ put-other (logical s.spaces s.environments.slots) n copy_page (Some new_entry) m q (λ same too. pipe_off q is too))
+          (λ m q x is hx shared_page. bytes_elsewhere h n v.b v.is taken_puts m q x (λ same too. pipe_off q is too) hx)
         where
           goes : Copies (handler.Taking va) (view_of s.spaces d) (slot_at s n) v.b v.at.fault v.at.regs → CopiesAt to (view_of sp d) v.at.fault.va
           goes way =
@@ -386,7 +414,7 @@ over_none va row = refl
 
 module _ {names : Names} {s : KernelState} {a : AbstractState} {sp : SpacesState} (h : StandsFor names s a) (n va : ℕ)
     (stands : place_of (slot_at s n) ≡ place.InHandler (handler.Unmapping va))
-    (removed : Removed s.spaces sp (slot_at s n).directory copy_page) (in_order : IsInOrder (with_spaces s sp)) where
+    (removed : Removed s.spaces sp (slot_at s n).directory copy_page) (in_order : IsInOrder (with_spaces s sp)) (last : s.last ≡ Some n) where
   abbrev back : HandlerStep
   back = handler.Restoring
 
@@ -496,6 +524,8 @@ module _ {names : Names} {s : KernelState} {a : AbstractState} {sp : SpacesState
           (rows_bytes sp.pages (λ m p x hx. unmapped_bytes m p x (sym (unmapped_counts m p) ∙ hx))
           (rows_same (logical s.spaces s.environments.slots)
           (logical sp (upd s.environments.slots n (handler_slot (slot_at s n) back))) unmapped_counts (rows_stand h))) in_order
+          last w.inside tt (λ fd below. kept_beside unmapped_puts (pipe_page fd) (pipe_off (pipe_page fd) (pipe_page_is fd below)))
+          (λ m q is. unmapped_counts m q) (λ m q x is hx shared_page. unmapped_bytes m q x hx)
 
 -- ---- whose frame the copy has
 
@@ -537,7 +567,7 @@ module _ {names : Names} {s : KernelState} {a : AbstractState} {sp : SpacesState
     (stands : place_of (slot_at s n) ≡ place.InHandler (handler.MappingOver va)) (copy : Entry)
     (copy_is : rows_of s.spaces (slot_at s n).directory copy_page ≡ Some copy)
     (given : Given s.spaces sp (slot_at s n).directory (page_number va) (record { frame = copy.frame; perm = copy_bits }))
-    (in_order : IsInOrder (with_spaces s sp)) where
+    (in_order : IsInOrder (with_spaces s sp)) (last : s.last ≡ Some n) where
   abbrev next : HandlerStep
   next = handler.Unmapping va
 
@@ -802,3 +832,10 @@ module _ {names : Names} {s : KernelState} {a : AbstractState} {sp : SpacesState
       })
       (way.at.0, subst (λ (q : ℕ). IsMappedTwice (view_of sp home) q) way.at.0 mapped_twice)))
       (rows_same (put left n p (Some over)) after over_counts (rows_put (rows_put (rows_stand h) left_row) over_row)) in_order
+      last u.inside tt (λ fd below. over_kept (pipe_page fd) (off_pipe (pipe_page fd) (pipe_page_is fd below)))
+      (λ m q is. over_counts m q ∙ put-other left n p (Some over) m q (λ same too. off_pipe q is too)
+      ∙ put-other before n copy_page None m q (λ same too. pipe_off q is too))
+      (λ m q x is hx shared_page. bytes_elsewhere h n u.b u.is over_puts m q x (λ same too. off_pipe q is too) hx)
+    where
+      off_pipe : (q : ℕ) → is_pipe_page q ≡ true → q ≢ p
+      off_pipe q is same = let contradiction : true ≡ false = sym is ∙ ap is_pipe_page same ∙ programs_no_pipe p page_inside in cc

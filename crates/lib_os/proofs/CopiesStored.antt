@@ -28,7 +28,7 @@ use Rattle.lib_os.specs.InOrder.{IsInOrder}
 use Rattle.lib_os.specs.LibraryPages.{LibraryPages, IsOwnWritable, has_copy}
 use Rattle.lib_os.specs.Places.{place_of, handler_registers}
 use Rattle.lib_os.specs.Rows.{Names, Rows, AreBytes, IsPage, rows_of, logical, descriptor_seen, page_seen, seen_where, shown_at}
-use Rattle.lib_os.specs.Rows.{is_clients, is_programs, is_shared}
+use Rattle.lib_os.specs.Rows.{is_clients, is_programs, is_shared, pipe_page}
 use Rattle.lib_os.specs.StandingLaws.{IsHandlerStep}
 use Rattle.lib_os.specs.StandsFor.{StandsFor, things_in, view_of, upcall_at, borne_in}
 use Rattle.lib_os.specs.StandsInHandler.{Copies, CopiesAt, CopiesOrEnds, copies, ends, IsToCopy, IsCopiedTo, page_word}
@@ -74,7 +74,7 @@ storing_way {s = s} {n = n} {va = va} {index = index} {word = word} v = by_way v
 module _ {names : Names} {s : KernelState} {a : AbstractState} {sp : SpacesState} (h : StandsFor names s a) (n va index word : ℕ)
     (stands : place_of (slot_at s n) ≡ place.InHandler (handler.Storing va index word)) (copy : Entry)
     (copy_is : rows_of s.spaces (slot_at s n).directory copy_page ≡ Some copy) (bytes : List ℕ) (is_page : IsPage bytes)
-    (rewritten : IsRewritten s.spaces sp copy.frame bytes) (in_order : IsInOrder (with_spaces s sp)) where
+    (rewritten : IsRewritten s.spaces sp copy.frame bytes) (in_order : IsInOrder (with_spaces s sp)) (last : s.last ≡ Some n) where
   abbrev from : HandlerStep
   from = handler.Storing va index word
 
@@ -129,6 +129,7 @@ module _ {names : Names} {s : KernelState} {a : AbstractState} {sp : SpacesState
     bytes = λ r x hx own_page. elsewhere r x hx;
     named_so = λ r x hx shared_page. refl;
     devices = λ r x descriptor hx shared_page. ap lasting_words (elsewhere r x hx);
+    pipes = λ r x pipes hx shared_page. elsewhere r x hx;
     regions = rewritten.regions q;
   }
     where
@@ -229,7 +230,7 @@ module _ {names : Names} {s : KernelState} {a : AbstractState} {sp : SpacesState
         (λ x hx own_page. other_bytes (page_number UXSTACK) x stack_beside hx)
         (same_writable (rows_of s.spaces d) (rows_of sp d) (λ q inside. row_kept d q))
         (record { row = row_kept d (page_number UTEMP); bytes = λ x hx own_page. other_bytes (page_number UTEMP) x working_beside hx }) goes)) rows_kept
-        in_order
+        in_order last v.inside there (λ fd below. row_kept d (pipe_page fd)) (λ m q is. counts_kept m q) (λ m q x is hx shared_page. counted_bytes m q x hx shared_page)
 
 -- ---- a word
 
@@ -277,7 +278,7 @@ module _ {names : Names} {s : KernelState} {a : AbstractState} {sp : SpacesState
     (stands : place_of (slot_at s n) ≡ place.InHandler (handler.Storing va index word)) (there : index < PAGE_WORDS) (copy : Entry)
     (copy_is : rows_of s.spaces (slot_at s n).directory copy_page ≡ Some copy)
     (rewritten : IsRewritten s.spaces sp copy.frame (bytes_put (s.spaces.pages copy.frame) (4 * index) (to_le_bytes w32 word)))
-    (in_order : IsInOrder (with_spaces s sp)) where
+    (in_order : IsInOrder (with_spaces s sp)) (last : s.last ≡ Some n) where
   abbrev home : ℕ
   home = (slot_at s n).directory
 
@@ -302,7 +303,7 @@ module _ {names : Names} {s : KernelState} {a : AbstractState} {sp : SpacesState
 
   source_kept : sp.pages copying.at.1.entry.frame ≡ s.spaces.pages copying.at.1.entry.frame
   source_kept =
-      other_bytes {sp = sp} h n va index word stands copy copy_is page page_whole rewritten in_order (page_number w.at.fault.va) copying.at.1.entry
+      other_bytes {sp = sp} h n va index word stands copy copy_is page page_whole rewritten in_order last (page_number w.at.fault.va) copying.at.1.entry
       beside copying.at.1.stands
 
   source_stands : rows_of sp home (page_number w.at.fault.va) ≡ Some copying.at.1.entry
@@ -349,14 +350,14 @@ module _ {names : Names} {s : KernelState} {a : AbstractState} {sp : SpacesState
   pub word_stored : index + 1 < PAGE_WORDS →
       StandsFor names (with_registers (with_spaces s sp) n (handler_registers (slot_at s n).registers (handler.Loading va (index + 1)))) a
   word_stored more =
-      rewritten_stands {sp = sp} h n va index word stands copy copy_is page page_whole rewritten in_order (handler.Loading va (index + 1)) more refl refl refl
+      rewritten_stands {sp = sp} h n va index word stands copy copy_is page page_whole rewritten in_order last (handler.Loading va (index + 1)) more refl refl refl
       (copying.at.0, to_copy, copied_further)
 
   -- that was the last
   pub last_stored : index + 1 ≡ PAGE_WORDS →
       StandsFor names (with_registers (with_spaces s sp) n (handler_registers (slot_at s n).registers (handler.MappingOver va))) a
   last_stored all =
-      rewritten_stands {sp = sp} h n va index word stands copy copy_is page page_whole rewritten in_order (handler.MappingOver va) tt refl refl refl
+      rewritten_stands {sp = sp} h n va index word stands copy copy_is page page_whole rewritten in_order last (handler.MappingOver va) tt refl refl refl
       (copying.at.0, to_copy, subst (λ (k : ℕ). IsCopiedTo (4 * k) (view_of sp home) w.at.fault.va) all copied_further)
 
 -- ---- the store

@@ -10,7 +10,9 @@ use Rattle.std.proofs.lemmas.Option.{same_Some, none-some}
 use Rattle.jos_base.specs.declared.memory.Access.TheVariants.{Read}
 use Rattle.jos_base.specs.declared.numbers.TheConstants.{E_INVAL, FDTABLE, NPTENTRIES, PGSIZE, PTE_P, UVPT}
 use Rattle.jos_base.specs.declared.registers.Regs.{Regs}
-use Rattle.jos_base.specs.Counting.{page_limit}
+use Rattle.jos_base.specs.Counting.{named as named_by, page_count, page_limit}
+use Rattle.jos_base.specs.SpacesState.{SpacesState, own_count}
+use Rattle.jos_base.proofs.Counts.{page_count-same}
 use Rattle.jos_base.specs.KernelState.{KernelState, slot_at, with_extra}
 use Rattle.jos_base.specs.Reach.{Entry}
 use Rattle.jos_base.specs.SystemCalls.{has_write, is_page_address}
@@ -29,10 +31,12 @@ use Rattle.lib_os.specs.InOrder.{IsInOrder}
 use Rattle.lib_os.specs.LibraryCall.{library_step}
 use Rattle.lib_os.specs.LibraryPages.{View, region_index}
 use Rattle.lib_os.specs.LibrarySteps.{service_answered}
-use Rattle.lib_os.specs.Places.{words_at}
-use Rattle.lib_os.specs.Rows.{EntryRow, IsUsers, Names, descriptor_page, descriptor_perm, is_descriptor, is_shared}
+use Rattle.lib_os.specs.Places.{place_of, words_at}
+use Rattle.lib_os.specs.Rows.{EntryRow, IsUsers, Names, Rows, descriptor_page, descriptor_perm, descriptor_seen, is_of_descriptor, is_shared}
 use Rattle.lib_os.specs.Rows.{may_write, name_of, page_by, rows_of, shown_at}
-use Rattle.lib_os.specs.StandsFor.{IsIn, IsOpen, NoneIsOpenBelow, StandsAtStep, StandsFor, borne_in, view_of}
+use Rattle.lib_os.specs.InService.{IsIn, IsOpen, NoneIsOpenBelow}
+use Rattle.lib_os.specs.PipeEnds.{is_dropped, is_made}
+use Rattle.lib_os.specs.StandsFor.{StandsAtStep, StandsFor, borne_in, seen_unless, view_of}
 use Rattle.lib_os.specs.UserCalls.{load}
 use Rattle.lib_os.proofs.Answering.{back_stands}
 use Rattle.lib_os.proofs.EntryWords.{region_told, row_entry, row_told}
@@ -41,8 +45,10 @@ use Rattle.lib_os.proofs.Loading.{loaded}
 use Rattle.lib_os.proofs.Numbered.{named_at, number_of}
 use Rattle.lib_os.proofs.Serving.{IsServed, holds_page}
 use Rattle.lib_os.proofs.SlotsStand.{born_at}
-use Rattle.lib_os.proofs.StatesStand.{quiet_stands}
-use Rattle.lib_os.proofs.Touching.{touched_quiet}
+use Rattle.lib_os.proofs.Effects.{Quiet}
+use Rattle.lib_os.proofs.PipesStand.{calm_dropped, calm_made, is_calm, is_calm_step}
+use Rattle.lib_os.proofs.StatesStand.{lasting_named, quiet_stands}
+use Rattle.lib_os.proofs.Touching.{touched_quiet, touched_uses}
 use Rattle.lib_os.proofs.WindowWords.{read_at, load_directory_word, load_table_word}
 
 -- ---- places
@@ -82,7 +88,7 @@ pub page_is_below : (fd : ℕ) → fd < DESCRIPTORS → descriptor_page fd < pag
 unfolding page_limit
 page_is_below fd below = omega (arith, below)
 
-pub is_descriptors : (fd : ℕ) → fd < DESCRIPTORS → is_descriptor (descriptor_page fd) ≡ true
+pub is_descriptors : (fd : ℕ) → fd < DESCRIPTORS → is_of_descriptor (descriptor_page fd) ≡ true
 is_descriptors fd below = grind (arith, nat_tests)
 
 -- ---- an entry of one
@@ -101,7 +107,7 @@ none_from descriptors fd (suc n) none =
     ap (λ (o : Option ℕ). if is_some o then Some fd else first_from is_some descriptors (fd + 1) n) here
     ∙ none_from descriptors (fd + 1) n (λ q from to. none q (omega (arith, from)) (omega (arith, to)))
 
-some_from : (descriptors : ℕ → Option ℕ) (fd n q : ℕ) → fd ≤ q → q < fd + n → ((r : ℕ) → fd ≤ r → r < q → descriptors r ≡ None) →
+pub some_from : (descriptors : ℕ → Option ℕ) (fd n q : ℕ) → fd ≤ q → q < fd + n → ((r : ℕ) → fd ≤ r → r < q → descriptors r ≡ None) →
     is_some (descriptors q) ≡ true → first_from is_some descriptors fd n ≡ Some q
 unfolding first_from
 some_from descriptors fd zero q from to none there = absurd (omega (arith, from, to))
@@ -116,6 +122,10 @@ some_from descriptors fd (suc n) q from to none there = elim (cases_eq fd q) [
 ]
 
 -- ---- which are open
+
+-- each descriptor of an environment is what is seen of its page
+abbrev pub SeesDescriptors : Names → KernelState → ℕ → Born → Type 0
+SeesDescriptors names s n b = (fd : ℕ) → b.descriptors fd ≡ descriptor_seen names s.spaces (slot_at s n).directory fd
 
 module _ {names : Names} {s : KernelState} {a : AbstractState} (h : StandsFor names s a) (n : ℕ) (b : Born) (at : a.slots n ≡ born b) where
   abbrev space : ℕ
@@ -132,59 +142,14 @@ module _ {names : Names} {s : KernelState} {a : AbstractState} (h : StandsFor na
   pub entry_bits : (fd : ℕ) (x : Entry) → fd < DESCRIPTORS → row (descriptor_page fd) ≡ Some x → x.perm ≡ descriptor_perm
   entry_bits fd x below is = (born_at h n b at).library.descriptors (descriptor_page fd) x (is_descriptors fd below) is
 
-  -- one that is none of the descriptors
-  pub past_seen : (fd : ℕ) → DESCRIPTORS ≤ fd → b.descriptors fd ≡ None
-  past_seen fd above =
-      let test : nat_lt fd DESCRIPTORS ≡ false = grind (arith, nat_tests) in
-      (born_at h n b at).descriptors fd
-      ∙ ap (λ (c : Bool). if c then name_of (shown_at names s.spaces space (descriptor_page fd)) else None) test
+  -- each descriptor is what is seen of its page, where none is made and none is dropped
+  pub seen_unmade : ((fd : ℕ) → is_made (place_of (slot_at s n)) fd ≡ false) → ((fd : ℕ) → is_dropped (place_of (slot_at s n)) fd ≡ false) →
+      SeesDescriptors names s n b
+  seen_unmade made dropped fd =
+      (born_at h n b at).descriptors fd (dropped fd) ∙ ap (λ (c : Bool). seen_unless c (descriptor_seen names s.spaces space fd)) (made fd)
 
-  -- no page stands there
-  pub none_seen : (fd : ℕ) → row (descriptor_page fd) ≡ None → b.descriptors fd ≡ None
-  none_seen fd none =
-      (born_at h n b at).descriptors fd
-      ∙ ap (λ (o : Option Entry). if nat_lt fd DESCRIPTORS then name_of (option_map (page_by names s.spaces.pages) o) else None) none
-      ∙ by_test (nat_lt fd DESCRIPTORS)
-    where
-      nothing : Option ℕ
-      nothing = None
-
-      by_test : (c : Bool) → (if c then nothing else nothing) ≡ nothing
-      by_test true = refl
-      by_test false = refl
-
-  -- one does: the descriptor is the name of its frame
-  pub name_seen : (fd : ℕ) (x : Entry) → fd < DESCRIPTORS → row (descriptor_page fd) ≡ Some x → b.descriptors fd ≡ Some (names.name x.frame)
-  name_seen fd x below is =
-      let test : nat_lt fd DESCRIPTORS ≡ true = grind (arith, nat_tests) in
-      let shared_page : is_shared x.perm ≡ true = ap is_shared (entry_bits fd x below is) in
-      (born_at h n b at).descriptors fd
-      ∙ ap (λ (c : Bool). if c then name_of (shown_at names s.spaces space (descriptor_page fd)) else None) test
-      ∙ ap (λ (o : Option Entry). name_of (option_map (page_by names s.spaces.pages) o)) is
-      ∙ ap (λ (c : Bool). name_of (Some (if c then named (names.name x.frame) (has_write x.perm) else own (s.spaces.pages x.frame) (may_write x.perm))))
-      shared_page
-
-  -- it is open where its page stands
-  pub open_seen : (fd : ℕ) → fd < DESCRIPTORS → is_some (b.descriptors fd) ≡ is_some (row (descriptor_page fd))
-  open_seen fd below = by_row (row (descriptor_page fd)) refl
-    where
-      by_row : (o : Option Entry) → row (descriptor_page fd) ≡ o → is_some (b.descriptors fd) ≡ is_some o
-      by_row None is = ap is_some (none_seen fd is)
-      by_row (Some x) is = ap is_some (name_seen fd x below is)
-
-  pub row_of_name : (fd name : ℕ) → b.descriptors fd ≡ Some name →
-      (fd < DESCRIPTORS) × (x : Entry) × (row (descriptor_page fd) ≡ Some x) × (names.name x.frame ≡ name)
-  row_of_name fd name has = by_test (nat_lt fd DESCRIPTORS) refl
-    where
-      by_row : fd < DESCRIPTORS → (o : Option Entry) → row (descriptor_page fd) ≡ o →
-          (fd < DESCRIPTORS) × (x : Entry) × (row (descriptor_page fd) ≡ Some x) × (names.name x.frame ≡ name)
-      by_row below None is = absurd (none-some name (sym (none_seen fd is) ∙ has))
-      by_row below (Some x) is = (below, x, is, same_Some (names.name x.frame) name (sym (name_seen fd x below is) ∙ has))
-
-      by_test : (c : Bool) → nat_lt fd DESCRIPTORS ≡ c →
-          (fd < DESCRIPTORS) × (x : Entry) × (row (descriptor_page fd) ≡ Some x) × (names.name x.frame ≡ name)
-      by_test true test = by_row (grind (arith, nat_tests)) (row (descriptor_page fd)) refl
-      by_test false test = absurd (none-some name (sym (past_seen fd (grind (arith, nat_tests))) ∙ has))
+  pub seen_calm : is_calm (place_of (slot_at s n)) ≡ true → SeesDescriptors names s n b
+  seen_calm calm = seen_unmade (calm_made (place_of (slot_at s n)) calm) (calm_dropped (place_of (slot_at s n)) calm)
 
   -- ---- without a table none is
 
@@ -203,13 +168,6 @@ module _ {names : Names} {s : KernelState} {a : AbstractState} (h : StandsFor na
   pub no_table_none : has_table ≡ false → NoneIsOpenBelow row DESCRIPTORS
   no_table_none none fd below = no_table_row none fd below
 
-  pub no_table_seen : has_table ≡ false → (fd : ℕ) → b.descriptors fd ≡ None
-  no_table_seen none fd = by_test (nat_lt fd DESCRIPTORS) refl
-    where
-      by_test : (c : Bool) → nat_lt fd DESCRIPTORS ≡ c → b.descriptors fd ≡ None
-      by_test true test = none_seen fd (no_table_row none fd (grind (arith, nat_tests)))
-      by_test false test = past_seen fd (grind (arith, nat_tests))
-
   -- ---- the object
 
   pub object_below : (fd : ℕ) → fd < DESCRIPTORS → object_name b fd ≡ b.descriptors fd
@@ -222,30 +180,102 @@ module _ {names : Names} {s : KernelState} {a : AbstractState} (h : StandsFor na
       let test : nat_lt fd DESCRIPTORS ≡ false = grind (arith, nat_tests) in
       ap (λ (c : Bool). if c then b.descriptors fd else None) test
 
-  pub object_missing : (fd : ℕ) → row (descriptor_page fd) ≡ None → object_name b fd ≡ None
+-- Each descriptor is what is seen of its page.
+module _ {names : Names} {s : KernelState} {a : AbstractState} (h : StandsFor names s a) (n : ℕ) (b : Born) (at : a.slots n ≡ born b)
+    (seen : SeesDescriptors names s n b) where
+  abbrev seen_space : ℕ
+  seen_space = (slot_at s n).directory
+
+  abbrev seen_row : EntryRow
+  seen_row = rows_of s.spaces seen_space
+
+  -- one that is none of the descriptors
+  pub past_seen : (fd : ℕ) → DESCRIPTORS ≤ fd → b.descriptors fd ≡ None
+  past_seen fd above =
+      let test : nat_lt fd DESCRIPTORS ≡ false = grind (arith, nat_tests) in
+      seen fd
+      ∙ ap (λ (c : Bool). if c then name_of (shown_at names s.spaces seen_space (descriptor_page fd)) else None) test
+
+  -- no page stands there
+  pub none_seen : (fd : ℕ) → seen_row (descriptor_page fd) ≡ None → b.descriptors fd ≡ None
+  none_seen fd none =
+      seen fd
+      ∙ ap (λ (o : Option Entry). if nat_lt fd DESCRIPTORS then name_of (option_map (page_by names s.spaces.pages) o) else None) none
+      ∙ by_test (nat_lt fd DESCRIPTORS)
+    where
+      nothing : Option ℕ
+      nothing = None
+
+      by_test : (c : Bool) → (if c then nothing else nothing) ≡ nothing
+      by_test true = refl
+      by_test false = refl
+
+  -- one does: the descriptor is the name of its frame
+  pub name_seen : (fd : ℕ) (x : Entry) → fd < DESCRIPTORS → seen_row (descriptor_page fd) ≡ Some x → b.descriptors fd ≡ Some (names.name x.frame)
+  name_seen fd x below is =
+      let test : nat_lt fd DESCRIPTORS ≡ true = grind (arith, nat_tests) in
+      let shared_page : is_shared x.perm ≡ true = ap is_shared (entry_bits h n b at fd x below is) in
+      seen fd
+      ∙ ap (λ (c : Bool). if c then name_of (shown_at names s.spaces seen_space (descriptor_page fd)) else None) test
+      ∙ ap (λ (o : Option Entry). name_of (option_map (page_by names s.spaces.pages) o)) is
+      ∙ ap (λ (c : Bool). name_of (Some (if c then named (names.name x.frame) (has_write x.perm) else own (s.spaces.pages x.frame) (may_write x.perm))))
+      shared_page
+
+  -- it is open where its page stands
+  pub open_seen : (fd : ℕ) → fd < DESCRIPTORS → is_some (b.descriptors fd) ≡ is_some (seen_row (descriptor_page fd))
+  open_seen fd below = by_row (seen_row (descriptor_page fd)) refl
+    where
+      by_row : (o : Option Entry) → seen_row (descriptor_page fd) ≡ o → is_some (b.descriptors fd) ≡ is_some o
+      by_row None is = ap is_some (none_seen fd is)
+      by_row (Some x) is = ap is_some (name_seen fd x below is)
+
+  pub row_of_name : (fd name : ℕ) → b.descriptors fd ≡ Some name →
+      (fd < DESCRIPTORS) × (x : Entry) × (seen_row (descriptor_page fd) ≡ Some x) × (names.name x.frame ≡ name)
+  row_of_name fd name has = by_test (nat_lt fd DESCRIPTORS) refl
+    where
+      by_row : fd < DESCRIPTORS → (o : Option Entry) → seen_row (descriptor_page fd) ≡ o →
+          (fd < DESCRIPTORS) × (x : Entry) × (seen_row (descriptor_page fd) ≡ Some x) × (names.name x.frame ≡ name)
+      by_row below None is = absurd (none-some name (sym (none_seen fd is) ∙ has))
+      by_row below (Some x) is = (below, x, is, same_Some (names.name x.frame) name (sym (name_seen fd x below is) ∙ has))
+
+      by_test : (c : Bool) → nat_lt fd DESCRIPTORS ≡ c →
+          (fd < DESCRIPTORS) × (x : Entry) × (seen_row (descriptor_page fd) ≡ Some x) × (names.name x.frame ≡ name)
+      by_test true test = by_row (grind (arith, nat_tests)) (seen_row (descriptor_page fd)) refl
+      by_test false test = absurd (none-some name (sym (past_seen fd (grind (arith, nat_tests))) ∙ has))
+
+  pub no_table_seen : is_some (s.spaces.regions seen_space table_region) ≡ false → (fd : ℕ) → b.descriptors fd ≡ None
+  no_table_seen none fd = by_test (nat_lt fd DESCRIPTORS) refl
+    where
+      by_test : (c : Bool) → nat_lt fd DESCRIPTORS ≡ c → b.descriptors fd ≡ None
+      by_test true test = none_seen fd (no_table_row h n b at none fd (grind (arith, nat_tests)))
+      by_test false test = past_seen fd (grind (arith, nat_tests))
+
+  -- ---- the object
+
+  pub object_missing : (fd : ℕ) → seen_row (descriptor_page fd) ≡ None → object_name b fd ≡ None
   object_missing fd none = by_test (nat_lt fd DESCRIPTORS) refl
     where
       by_test : (c : Bool) → nat_lt fd DESCRIPTORS ≡ c → object_name b fd ≡ None
-      by_test true test = object_below fd (grind (arith, nat_tests)) ∙ none_seen fd none
-      by_test false test = object_past fd (grind (arith, nat_tests))
+      by_test true test = object_below h n b at fd (grind (arith, nat_tests)) ∙ none_seen fd none
+      by_test false test = object_past h n b at fd (grind (arith, nat_tests))
 
-  pub object_is : (fd : ℕ) (x : Entry) → fd < DESCRIPTORS → row (descriptor_page fd) ≡ Some x → object_name b fd ≡ Some (names.name x.frame)
-  object_is fd x below is = object_below fd below ∙ name_seen fd x below is
+  pub object_is : (fd : ℕ) (x : Entry) → fd < DESCRIPTORS → seen_row (descriptor_page fd) ≡ Some x → object_name b fd ≡ Some (names.name x.frame)
+  object_is fd x below is = object_below h n b at fd below ∙ name_seen fd x below is
 
-  pub object_open : (fd : ℕ) → fd < DESCRIPTORS → is_none (object_name b fd) ≡ is_none (row (descriptor_page fd))
-  object_open fd below = by_row (row (descriptor_page fd)) refl
+  pub object_open : (fd : ℕ) → fd < DESCRIPTORS → is_none (object_name b fd) ≡ is_none (seen_row (descriptor_page fd))
+  object_open fd below = by_row (seen_row (descriptor_page fd)) refl
     where
-      by_row : (o : Option Entry) → row (descriptor_page fd) ≡ o → is_none (object_name b fd) ≡ is_none o
+      by_row : (o : Option Entry) → seen_row (descriptor_page fd) ≡ o → is_none (object_name b fd) ≡ is_none o
       by_row None is = ap is_none (object_missing fd is)
       by_row (Some x) is = ap is_none (object_is fd x below is)
 
   -- ---- the lowest
 
-  pub none_open : NoneIsOpenBelow row DESCRIPTORS → lowest_open b ≡ None
+  pub none_open : NoneIsOpenBelow seen_row DESCRIPTORS → lowest_open b ≡ None
   none_open none =
       none_from b.descriptors 0 DESCRIPTORS (λ fd from to. none_seen fd (none fd (omega (arith, to))))
 
-  pub first_open : (fd : ℕ) → fd < DESCRIPTORS → NoneIsOpenBelow row fd → IsOpen row fd → lowest_open b ≡ Some fd
+  pub first_open : (fd : ℕ) → fd < DESCRIPTORS → NoneIsOpenBelow seen_row fd → IsOpen seen_row fd → lowest_open b ≡ Some fd
   first_open fd below none there =
       some_from b.descriptors 0 DESCRIPTORS fd (omega arith) (omega (arith, below)) (λ q from to. none_seen q (none q to))
       (open_seen fd below ∙ there)
@@ -298,25 +328,41 @@ none_there (Some x) is = absurd (let contradiction : true ≡ false = is in cc)
 
 -- ---- behind a load, nothing that is seen is another
 
+-- where frames are used for the same, and nothing is seen to change, pages are mapped as often
+pub quiet_view : {s t : SpacesState} → Quiet s t → t.uses ≡ s.uses → (d : ℕ) → view_of t d ≡ view_of s d
+unfolding rows_of
+quiet_view {s = s} {t = t} quiet uses d = λ i. record {
+  row = quiet.rows i d;
+  tables = λ r. quiet.regions d r i;
+  bytes = quiet.pages i;
+  counts = λ frame. mapped frame i + own_count (uses i frame);
+}
+  where
+    entry_same : (f space q : ℕ) → named_by f (t.entries space q) ≡ named_by f (s.entries space q)
+    entry_same f space q =
+        lasting_named f (t.entries space q) ∙ ap (λ (r : Rows). named_by f (r space q)) quiet.rows ∙ sym (lasting_named f (s.entries space q))
+
+    mapped : (frame : ℕ) → page_count t.entries frame ≡ page_count s.entries frame
+    mapped frame = page_count-same t.entries s.entries frame (entry_same frame)
+
 pub loaded_view : (s : KernelState) (n va d : ℕ) → view_of (loaded s n va).spaces d ≡ view_of s.spaces d
 loaded_view s n va d =
-    let quiet = touched_quiet s.spaces (slot_at s n).directory va Read in
-    λ i. record { row = quiet.rows i d; tables = λ r. quiet.regions d r i; bytes = quiet.pages i }
+    quiet_view (touched_quiet s.spaces (slot_at s n).directory va Read) (touched_uses s.spaces (slot_at s n).directory va Read) d
 
 -- a service that has read a word goes on at another of its steps, or answers
 module _ {names : Names} {s : KernelState} {a : AbstractState} (h : StandsFor names s a) (n : ℕ) (service : Service) (from : Step)
-    (v : IsServed names s a n service from) (unborne : borne_in (place.InService service from) ≡ None) (va : ℕ)
-    (order : IsInOrder (loaded s n va)) where
+    (v : IsServed names s a n service from) (unborne : borne_in (place.InService service from) ≡ None)
+    (calm : is_calm_step from ≡ true) (va : ℕ) (order : IsInOrder (loaded s n va)) where
   loaded_stands : StandsFor names (loaded s n va) a
   loaded_stands = quiet_stands h (touched_quiet s.spaces (slot_at s n).directory va Read) order
 
-  pub read_goes_on : (to : Step) → borne_in (place.InService service to) ≡ None →
+  pub read_goes_on : (to : Step) → borne_in (place.InService service to) ≡ None → is_calm_step to ≡ true →
       holds_page (place.InService service from) ≡ holds_page (place.InService service to) →
       StandsAtStep (view_of s.spaces (slot_at s n).directory) (record (slot_at s n) { extra = words_at (number_of service) to }) v.b service to →
       StandsFor names (with_extra (loaded s n va) n (words_at (number_of service) to)) a
-  read_goes_on to none held so =
-      words_stand loaded_stands n (number_of service) v.b v.is (born_at loaded_stands n v.b v.is) v.outside (ap borne_in v.place ∙ unborne) service to
-      (ap holds_page v.place ∙ held) none (named_at (slot_at s n) service from v.place)
+  read_goes_on to none calm_to held so =
+      words_stand loaded_stands n (number_of service) v.b v.is (born_at loaded_stands n v.b v.is) v.outside (ap borne_in v.place ∙ unborne)
+      (ap is_calm v.place ∙ calm) service to (ap holds_page v.place ∙ held) none calm_to (named_at (slot_at s n) service from v.place)
       (subst (λ (w : View). StandsAtStep w (record (slot_at s n) { extra = words_at (number_of service) to }) v.b service to)
       (sym (loaded_view s n va (slot_at s n).directory)) so)
 
@@ -324,7 +370,7 @@ module _ {names : Names} {s : KernelState} {a : AbstractState} (h : StandsFor na
       StandsFor names (service_answered (loaded s n va) n word) (answered a n v.b (slot_at s n).registers word)
   read_answers holds is_in word =
       back_stands loaded_stands n v.b v.is (record (slot_at s n).registers { eax = word }) (ap borne_in v.place ∙ unborne)
-      (ap holds_page v.place ∙ holds) is_in.silent is_in.awake v.outside refl refl
+      (ap holds_page v.place ∙ holds) (ap is_calm v.place ∙ calm) is_in.silent is_in.awake v.outside refl refl
 
 -- ---- the steps of the abstract system
 

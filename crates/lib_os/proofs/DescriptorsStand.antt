@@ -2,7 +2,7 @@
 -- another's: the descriptor is gone, or names what the other one names. A service that does so keeps in mind which are open, so that the page
 -- and the words that tell how far it is are changed at once.
 use Rattle.std.proofs.Common.{◌≡◌, ◌≢◌, ◌∙◌, ◌+◌, ◌/◌, ◌%◌, ◌<◌, ◌==◌, ◌&&◌, ◌||◌, ◌⊎◌, inl, inr, ℕ, Bool, true, false, List, [], ◌∷◌}
-use Rattle.std.proofs.Common.{Option, Some, None, refl, sym, ap, subst, arith, if◌then◌else◌}
+use Rattle.std.proofs.Common.{Option, Some, None, not, refl, sym, ap, subst, arith, if◌then◌else◌}
 use Rattle.std.specs.Prelude.{is_some, nat_lt}
 use Rattle.std.specs.Option.{option_map}
 use Rattle.std.proofs.lemmas.Bool.{cases_eq}
@@ -25,41 +25,48 @@ use Rattle.lib_os.specs.declared.place.Step.{Step}
 use Rattle.lib_os.specs.declared.place.Step.TheVariants as step
 use Rattle.lib_os.specs.declared.service.Service.{Service}
 use Rattle.lib_os.specs.declared.service.Service.TheVariants as service
-use Rattle.lib_os.specs.AbstractState.{AbstractState, Born, Stage, born, entered, guest, at_guest, named, own, with_born}
-use Rattle.lib_os.specs.Answers.{answered, back_with}
+use Rattle.lib_os.specs.AbstractState.{AbstractState, Born, Phase, ProgramState, Stage, born, entered, guest, at_guest, named, own, with_born}
+use Rattle.lib_os.specs.DescriptorPages.{lock_of}
+use Rattle.lib_os.specs.Fence.{is_resident}
+use Rattle.lib_os.specs.PipeEnds.{EndsStand, LocksStand, is_dropped, is_made, is_on_its_way, locked_at, pipe_named}
+use Rattle.jos_base.specs.TrapFrames.{user_flags}
+use Rattle.lib_os.specs.Answers.{answered}
 use Rattle.lib_os.specs.Descriptors.{object_name, with_descriptor}
 use Rattle.lib_os.specs.InOrder.{IsInOrder}
 use Rattle.lib_os.specs.LibraryPages.{IsOwnWritable, LibraryPages}
-use Rattle.lib_os.specs.LibrarySteps.{TakesAtMost, gone_back, service_answered}
+use Rattle.lib_os.specs.LibrarySteps.{TakesAtMost, service_answered}
 use Rattle.lib_os.specs.Places.{is_handlers, place_of, words_at}
 use Rattle.lib_os.specs.Rows.{Agree, EntryRow, IsNamed, IsPage, IsUsers, MayBeHad, Names, Rows, descriptor_page, descriptor_perm, descriptor_seen}
-use Rattle.lib_os.specs.Rows.{is_descriptor, is_programs, is_shared, logical, may_write, name_of, page_by, page_seen, rows_of, seen_where, shown_at}
+use Rattle.lib_os.specs.Rows.{is_clients, is_of_descriptor, is_pipe_page, is_programs, is_shared, logical, may_write, name_of, page_by, page_seen}
+use Rattle.lib_os.specs.Rows.{pipe_page, rows_of, seen_where, shown_at}
 use Rattle.lib_os.specs.Services.{service_of}
-use Rattle.lib_os.specs.StandsFor.{IsDuplicating, IsIn, IsOpen, NoneIsOpenBelow, StandsAtStep, StandsFor, StandsForBorn, borne_in, things_in, view_of}
+use Rattle.lib_os.specs.InService.{IsDuplicating, IsIn, IsOpen, NoneIsOpenBelow}
+use Rattle.lib_os.specs.StandsFor.{IsStatusFor, StandsAt, StandsAtStep, StandsFor, StandsForBorn, borne_in, seen_unless, things_in, view_of}
 use Rattle.lib_os.specs.UserCalls.{CallStep, giving, system}
-use Rattle.lib_os.proofs.Answering.{back_stands}
 use Rattle.lib_os.proofs.CallersStay.{map_answers}
 use Rattle.lib_os.proofs.Calls.{made_step, page_unmap_is}
 use Rattle.lib_os.proofs.DescriptorLooks.{descriptor_address, descriptor_begins, descriptor_number, descriptor_va, entry_bits, is_descriptors}
-use Rattle.lib_os.proofs.DescriptorLooks.{none_up_to, object_is, page_region, table_region}
+use Rattle.lib_os.proofs.DescriptorLooks.{SeesDescriptors, none_up_to, object_below, object_is, page_region, seen_unmade, table_region}
+use Rattle.lib_os.proofs.EndsStand.{locks_left}
 use Rattle.lib_os.proofs.Effects.{Given, Removed}
-use Rattle.lib_os.proofs.EntriesStand.{PutsRow, named_at as named_place, named_bytes, rows_put, rows_same, rows_stand, same_entry, shown_same}
+use Rattle.lib_os.proofs.EntriesStand.{PutsRow, named_at as named_place, named_bytes, put_is, rows_put, rows_same, rows_stand, same_entry, shown_same}
 use Rattle.lib_os.proofs.EntryWords.{row_entry}
 use Rattle.lib_os.proofs.FreeFrames.{mapped_more}
-use Rattle.lib_os.proofs.GoingOn.{in_with_words, place_set, words_stand}
-use Rattle.lib_os.proofs.Logical.{is_plain, logical_plain, plain_unborne, programs_no_descriptor}
+use Rattle.lib_os.proofs.Logical.{is_making_pipe, is_plain, logical_plain, programs_no_descriptor, unborne_plain, unmade_makes}
 use Rattle.lib_os.proofs.Numbered.{named_at, number_of}
-use Rattle.lib_os.proofs.PagesStand.{Puts, bytes_elsewhere, counts_put, other_regions, others_seen, row_elsewhere}
+use Rattle.lib_os.proofs.PagesStand.{Puts, bytes_elsewhere, other_regions, others_seen, row_elsewhere}
+use Rattle.lib_os.proofs.PipesStand.{IsPipeFrame, calm_dropped, calm_locked, calm_on_way, calm_unmade, ends_at_one, is_calm, is_calm_step}
+use Rattle.lib_os.proofs.PipesStand.{locks_beside, locks_calm}
 use Rattle.lib_os.proofs.Placing.{inserted_given}
+use Rattle.lib_os.proofs.Puts.{put-found}
 use Rattle.lib_os.proofs.Remapping.{given_on, inserted_already, lasting_write, page_map_is}
 use Rattle.lib_os.proofs.Removing.{unmapped_removed}
-use Rattle.lib_os.proofs.Serving.{IsServed, holds_page}
-use Rattle.lib_os.proofs.Slots.{slot_put, words_put}
-use Rattle.lib_os.proofs.SlotsSet.{set_twice}
-use Rattle.lib_os.proofs.SlotsStand.{HasTables, KeptAt, at_kept, born_at, born_live, descriptor_shown, kept_unminded, minds_page, unminded_plain}
-use Rattle.lib_os.proofs.StatesStand.{clients_live, slot_in_order, space_moves}
+use Rattle.lib_os.proofs.Serving.{IsServed, holds_page, library_moved, plain_copy, plain_upcall, plain_working, words_of_none}
+use Rattle.lib_os.proofs.SlotsStand.{SeenAlike, born_at, born_live, descriptor_shown, minds_page}
+use Rattle.lib_os.proofs.StatesStand.{clients_live, ends_at, old_with, others_count, others_counts, own_moves, slot_in_order}
 use Rattle.lib_os.proofs.Trying.{LivesOn}
-use Rattle.jos_base.proofs.Maps.{upd-all, upd-at, upd-twice}
+use Rattle.lib_os.proofs.WordsTell.{handler_runs, is_in_handler, place_at}
+use Rattle.jos_base.proofs.Maps.{upd-alike, upd-all, upd-at, upd-other}
 use Rattle.jos_base.proofs.Options.{some_is}
 use Rattle.jos_base.proofs.Puts.{Elsewhere, place_cases, put-at, put-other}
 
@@ -87,247 +94,357 @@ library_kept at words row after fd below same bits h =
         | inr there ↦ h.descriptors q entry is (sym (same q there) ∙ stands)
       ];
       none = λ q outside no_descriptor no_stack no_copy no_working.
-          same q (λ is. let contradiction : true ≡ false = sym (is_descriptors fd below) ∙ ap is_descriptor (sym is) ∙ no_descriptor in cc)
+          same q (λ is. let contradiction : true ≡ false = sym (is_descriptors fd below) ∙ ap is_of_descriptor (sym is) ∙ no_descriptor in cc)
           ∙ h.none q outside no_descriptor no_stack no_copy no_working;
     }
 
--- The environment's own part, where what is shown differs at the page of one descriptor alone.
-descriptor_put : (names : Names) (s t : SpacesState) (k : Slot) (b : Born) (fd : ℕ) (name : Option ℕ) → fd < DESCRIPTORS →
-    StandsForBorn names s k b → name ≡ name_of (shown_at names t k.directory (descriptor_page fd)) →
-    ((q : ℕ) → q ≢ descriptor_page fd → shown_at names t k.directory q ≡ shown_at names s k.directory q) →
-    LibraryPages (place_of k) k.extra (rows_of t k.directory) → HasTables t k.directory b.regions →
-    KeptAt (place_of k) (view_of s k.directory) (view_of t k.directory) → StandsForBorn names t k (with_descriptor b fd name)
-descriptor_put names s t k b fd name below h here there library tables kept = record {
-  id = h.id;
-  id_small = h.id_small;
-  parent = h.parent;
-  env_type = h.env_type;
-  runs = h.runs;
-  upcall = h.upcall;
-  descriptors = upd-all (λ q (o : Option ℕ). o ≡ descriptor_seen names t d q) b.descriptors fd name (here ∙ sym seen)
-      (λ q ne. h.descriptors q ∙ sym (descriptor_shown names names s t d q (there (descriptor_page q) (λ same. ne (omega (arith, same))))));
-  memory = λ p. h.memory p ∙ sym (memory_kept p (is_programs p) refl);
-  library = library;
-  regions_have = tables.have;
-  regions_only = tables.only;
-  stack = h.stack;
-  flags = h.flags;
-  at = at_kept (view_of s d) (view_of t d) k b k.status k.runs b.memory b.regions (upd b.descriptors fd name) (place_of k) kept h.at;
+-- It stands at any page of theirs, be it that of a pipe.
+library_put_there : (at : Place) (words : List ℕ) (row after : EntryRow) (p : ℕ) → is_of_descriptor p ≡ true →
+    ((q : ℕ) → q ≢ p → after q ≡ row q) → ((x : Entry) → after p ≡ Some x → x.perm ≡ descriptor_perm) → LibraryPages at words row → LibraryPages at words after
+library_put_there at words row after p is_there same bits h = record {
+  stack = own_alike row after _ (beside (page_number UXSTACK) refl) h.stack;
+  copy = λ is. own_alike row after _ (beside (page_number PFTEMP) refl) (h.copy is);
+  no_copy = λ is. beside (page_number PFTEMP) refl ∙ h.no_copy is;
+  working = λ is. own_alike row after _ (beside (page_number UTEMP) refl) (h.working is);
+  no_working = λ is. beside (page_number UTEMP) refl ∙ h.no_working is;
+  descriptors = λ q entry is stands. elim (cases_eq q p) [
+    | inl here ↦ bits entry (ap after (sym here) ∙ stands)
+    | inr there ↦ h.descriptors q entry is (sym (same q there) ∙ stands)
+  ];
+  none = λ q outside no_descriptor no_stack no_copy no_working. beside q no_descriptor ∙ h.none q outside no_descriptor no_stack no_copy no_working;
 }
   where
-    d : ℕ
-    d = k.directory
+    beside : (q : ℕ) → is_of_descriptor q ≡ false → after q ≡ row q
+    beside q none = same q (λ is. let contradiction : true ≡ false = sym is_there ∙ ap is_of_descriptor (sym is) ∙ none in cc)
 
-    seen : descriptor_seen names t d fd ≡ name_of (shown_at names t d (descriptor_page fd))
-    seen =
-        let test : nat_lt fd DESCRIPTORS ≡ true = grind (arith, nat_tests) in
-        ap (λ (c : Bool). if c then name_of (shown_at names t d (descriptor_page fd)) else None) test
-
-    memory_kept : (p : ℕ) (c : Bool) → is_programs p ≡ c → page_seen names t d p ≡ page_seen names s d p
-    memory_kept p true inside =
-        ap (seen_where (is_programs p))
-        (there p (λ is.
-        let contradiction : true ≡ false = sym (is_descriptors fd below) ∙ ap is_descriptor (sym is) ∙ programs_no_descriptor p inside in cc))
-    memory_kept p false outside =
-        ap (λ (c : Bool). seen_where c (shown_at names t d p)) outside ∙ sym (ap (λ (c : Bool). seen_where c (shown_at names s d p)) outside)
-
--- An entry, or none, is put at the page of a descriptor, where nothing is kept in mind of it.
-module _ {names : Names} {s : KernelState} {a : AbstractState} {sp : SpacesState} {o : Option Entry} (h : StandsFor names s a) (n : ℕ) (b : Born)
-    (at : a.slots n ≡ born b) (fd : ℕ) (below : fd < DESCRIPTORS)
-    (puts : Puts names names s.spaces sp (slot_at s n).directory (descriptor_page fd) o) where
-  abbrev dir : ℕ
-  dir = (slot_at s n).directory
-
-  row_kept : (q r : ℕ) → Elsewhere q r dir (descriptor_page fd) → rows_of sp q r ≡ rows_of s.spaces q r
-  row_kept q r ne = ap (λ (rows : Rows). rows q r) puts.rows ∙ put-other (rows_of s.spaces) dir (descriptor_page fd) o q r ne
-
-  row_here : rows_of sp dir (descriptor_page fd) ≡ o
-  row_here = ap (λ (rows : Rows). rows dir (descriptor_page fd)) puts.rows ∙ put-at (rows_of s.spaces) dir (descriptor_page fd) o
-
-  shown_kept : (q : ℕ) → q ≢ descriptor_page fd → shown_at names sp dir q ≡ shown_at names s.spaces dir q
-  shown_kept q ne =
-      shown_same names names s.spaces sp dir q (row_kept dir q (λ is too. ne too)) (λ x hx own_page. puts.bytes dir q x (λ is too. ne too) hx)
-      (λ x hx shared_page. refl)
-
-  descriptor_puts_stand : (name : Option ℕ) → name ≡ name_of (option_map (page_by names sp.pages) o) →
-      ((x : Entry) → o ≡ Some x → x.perm ≡ descriptor_perm) →
-      ((r : ℕ) → is_some (sp.regions dir r) ≡ is_some (s.spaces.regions dir r)) →
-      PutsRow names names s.spaces.pages a.shared sp.pages a.shared (things_in s a) a.next_name a.next_name (logical s.spaces s.environments.slots) n
-      (descriptor_page fd) o → minds_page (place_of (slot_at s n)) ≡ false → IsInOrder (with_spaces s sp) →
-      StandsFor names (with_spaces s sp) (with_born a n (with_descriptor b fd name))
-  descriptor_puts_stand name name_is bits tables row unminded in_order =
-      space_moves h n b at sp (with_descriptor b fd name) a.shared a.next_name (plain_unborne (place_of (slot_at s n)) plain)
-      (others_seen h n b at puts) mine
-      (rows_same (put (logical s.spaces s.environments.slots) n (descriptor_page fd) o) (logical sp s.environments.slots)
-      (counts_put h n b at puts plain) (rows_put (rows_stand h) row)) in_order
-    where
-      plain : is_plain (place_of (slot_at s n)) ≡ true
-      plain = unminded_plain (place_of (slot_at s n)) unminded
-
-      own : StandsForBorn names s.spaces (slot_at s n) b
-      own = born_at h n b at
-
-      mine : StandsForBorn names sp (slot_at s n) (with_descriptor b fd name)
-      mine =
-          descriptor_put names s.spaces sp (slot_at s n) b fd name below own
-          (name_is ∙ sym (ap (λ (e : Option Entry). name_of (option_map (page_by names sp.pages) e)) row_here)) shown_kept
-          (library_kept (place_of (slot_at s n)) (slot_at s n).extra (rows_of s.spaces dir) (rows_of sp dir) fd below
-          (λ q ne. row_kept dir q (λ is too. ne too))
-          (λ x is. bits x (sym row_here ∙ is)) own.library)
-          (record {
-            have = λ r is. tables r ∙ own.regions_have r is;
-            only = λ r is. own.regions_only r (sym (tables r) ∙ is);
-          })
-          (kept_unminded (place_of (slot_at s n)) (view_of s.spaces dir) (view_of sp dir) unminded)
-
--- ---- the page of a descriptor is another, or none, where nothing is kept in mind
+-- ---- an entry of a descriptor's page, or of a pipe's, goes, or is put where none stood
 
 module _ {names : Names} {s : KernelState} {a : AbstractState} {sp : SpacesState} (h : StandsFor names s a) (n : ℕ) (b : Born)
-    (at : a.slots n ≡ born b) (fd : ℕ) (below : fd < DESCRIPTORS) (unminded : minds_page (place_of (slot_at s n)) ≡ false)
-    (in_order : IsInOrder (with_spaces s sp)) where
-  pub descriptor_removed_stands : Removed s.spaces sp (slot_at s n).directory (descriptor_page fd) →
-      StandsFor names (with_spaces s sp) (with_born a n (with_descriptor b fd None))
-  descriptor_removed_stands removed =
-      descriptor_puts_stand h n b at fd below removed_puts None refl (λ x is. absurd (none-some x is)) (λ r. removed.regions (slot_at s n).directory r)
-      removed_row unminded in_order
-    where
-      from : ℕ
-      from = (slot_at s n).directory
+    (at : a.slots n ≡ born b) where
+  module _ (p : ℕ) (removed : Removed s.spaces sp (slot_at s n).directory p) where
+    pub removed_puts : Puts names names s.spaces sp (slot_at s n).directory p None
+    removed_puts = record {
+      rows = removed.rows;
+      bytes = λ q r x ne hx.
+          removed.bytes q r x (ap (λ (rows : Rows). rows q r) removed.rows ∙ put-other (rows_of s.spaces) (slot_at s n).directory p None q r ne ∙ hx);
+      named_so = λ q r x hx shared_page. refl;
+      regions = λ q r ne. removed.regions q r;
+    }
 
-      p : ℕ
-      p = descriptor_page fd
+    pub removed_row : PutsRow names names s.spaces.pages a.shared sp.pages a.shared (things_in s a) a.next_name a.next_name
+        (logical s.spaces s.environments.slots) n p None
+    removed_row = record {
+      bytes = bytes_elsewhere h n b at removed_puts;
+      agree = λ m q x e ne hx is same. absurd (none-some e is);
+      user = λ e is. absurd (none-some e is);
+      whole = λ e is. absurd (none-some e is);
+      beside = λ q e y is there. absurd (none-some e is);
+      named_new = λ e is. absurd (none-some e is);
+      named_old = λ m q x ne hx shared_page was. named_bytes (sym (bytes_elsewhere h n b at removed_puts m q x ne hx)) was;
+    }
 
-      removed_puts : Puts names names s.spaces sp from p None
-      removed_puts = record {
-        rows = removed.rows;
-        bytes = λ q r x ne hx.
-            removed.bytes q r x (ap (λ (rows : Rows). rows q r) removed.rows ∙ put-other (rows_of s.spaces) from p None q r ne ∙ hx);
-        named_so = λ q r x hx shared_page. refl;
-        regions = λ q r ne. removed.regions q r;
-      }
+  module _ (plain : is_plain (place_of (slot_at s n)) ≡ true) (from p : ℕ) (from_is : is_of_descriptor from ≡ true) (there_is : is_of_descriptor p ≡ true)
+      (kind : is_pipe_page p ≡ is_pipe_page from) (x : Entry) (is_here : rows_of s.spaces (slot_at s n).directory from ≡ Some x)
+      (given : Given s.spaces sp (slot_at s n).directory p x) where
+    is_shared_page : is_shared x.perm ≡ true
+    is_shared_page = ap is_shared ((born_at h n b at).library.descriptors from x from_is is_here)
 
-      removed_row : PutsRow names names s.spaces.pages a.shared sp.pages a.shared (things_in s a) a.next_name a.next_name
-          (logical s.spaces s.environments.slots) n p None
-      removed_row = record {
-        bytes = bytes_elsewhere h n b at removed_puts;
-        agree = λ m q x e ne hx is same. absurd (none-some e is);
-        user = λ e is. absurd (none-some e is);
-        whole = λ e is. absurd (none-some e is);
-        beside = λ q e y is there. absurd (none-some e is);
-        named_new = λ e is. absurd (none-some e is);
-        named_old = λ m q x ne hx shared_page was. named_bytes (sym (bytes_elsewhere h n b at removed_puts m q x ne hx)) was;
-      }
+    -- the old one's entry counts
+    pub counts_here : logical s.spaces s.environments.slots n from ≡ Some x
+    counts_here = logical_plain s.spaces s.environments.slots n (clients_live h n b at) plain from ∙ is_here
 
-  pub descriptor_given_stands : (old : ℕ) (x : Entry) → old < DESCRIPTORS → rows_of s.spaces (slot_at s n).directory (descriptor_page old) ≡ Some x →
-      is_some (s.spaces.regions (slot_at s n).directory table_region) ≡ true → Given s.spaces sp (slot_at s n).directory (descriptor_page fd) x →
-      StandsFor names (with_spaces s sp) (with_born a n (with_descriptor b fd (object_name b old)))
-  descriptor_given_stands old x old_below old_is tabled given =
-      descriptor_puts_stand h n b at fd below given_puts (object_name b old) name_is
-      (λ e is. ap (λ (y : Entry). y.perm) (sym (same_Some x e is)) ∙ bits) tables given_row unminded in_order
-    where
-      into : ℕ
-      into = (slot_at s n).directory
+    given_bytes : (q r : ℕ) (y : Entry) → Elsewhere q r (slot_at s n).directory p → rows_of s.spaces q r ≡ Some y → sp.pages y.frame ≡ s.spaces.pages y.frame
+    given_bytes q r y ne hy = by_frame (y.frame == x.frame) refl
+      where
+        by_frame : (c : Bool) → (y.frame == x.frame) ≡ c → sp.pages y.frame ≡ s.spaces.pages y.frame
+        by_frame true test =
+            let same : x.frame ≡ y.frame = grind (arith, nat_tests) in
+            subst (λ (f : ℕ). sp.pages f ≡ s.spaces.pages f) same given.same
+        by_frame false test =
+            let other : y.frame ≢ x.frame = grind (arith, nat_tests) in
+            given.placed.bytes q r y (row_elsewhere given.placed q r ne ∙ hy) other
 
-      from : ℕ
-      from = descriptor_page old
+    -- it agrees with every entry of its frame, itself among them
+    given_agrees : (q r : ℕ) (y : Entry) → logical s.spaces s.environments.slots q r ≡ Some y → y.frame ≡ x.frame → Agree y.perm x.perm
+    given_agrees q r y hy same = by_place (place_cases q r n from)
+      where
+        by_place : ((q ≡ n) × (r ≡ from)) ⊎ Elsewhere q r n from → Agree y.perm x.perm
+        by_place (inl here) =
+            subst (λ (z : Entry). Agree z.perm x.perm)
+            (sym (same_entry (logical s.spaces s.environments.slots) q r n from y x here.0 here.1 hy counts_here))
+            (record { shared = refl; read_only = λ own_page. absurd (let contradiction : true ≡ false = sym is_shared_page ∙ own_page in cc) })
+        by_place (inr there) = h.apart q r n from y x there hy counts_here same
 
-      p : ℕ
-      p = descriptor_page fd
+    -- the file server may have the page as it may at the old one
+    had_too : (request : Bool) → MayBeHad request from x → MayBeHad request p x
+    had_too true had = absurd (let contradiction : true ≡ false = sym from_is ∙ ap is_of_descriptor had.0 in cc)
+    had_too false had = record { descriptor = there_is; shared = had.shared }
 
-      bits : x.perm ≡ descriptor_perm
-      bits = entry_bits h n b at old x old_below old_is
+    pub given_puts : Puts names names s.spaces sp (slot_at s n).directory p (Some x)
+    given_puts = record {
+      rows = given.placed.rows;
+      bytes = given_bytes;
+      named_so = λ q r y hy shared_page. refl;
+      regions = other_regions given.placed;
+    }
 
-      is_shared_page : is_shared x.perm ≡ true
-      is_shared_page = ap is_shared bits
+    pub given_row : PutsRow names names s.spaces.pages a.shared sp.pages a.shared (things_in s a) a.next_name a.next_name
+        (logical s.spaces s.environments.slots) n p (Some x)
+    given_row = record {
+      bytes = bytes_elsewhere h n b at given_puts;
+      agree = λ q r y e ne hy is same.
+          let same_one : x ≡ e = same_Some x e is in
+          subst (λ (z : Entry). Agree y.perm z.perm) same_one
+          (given_agrees q r y hy (same ∙ ap (λ (z : Entry). z.frame) (sym same_one)));
+      user = λ e is. subst (λ (z : Entry). IsUsers z.perm) (same_Some x e is) (h.users n from x counts_here);
+      whole = λ e is. subst (λ (z : Entry). IsPage (sp.pages z.frame)) (same_Some x e is)
+          (subst (λ (l : List ℕ). IsPage l) (sym given.same) (h.whole n from x counts_here));
+      beside = λ q e y is there.
+          subst (λ (z : Entry). z.frame ≡ y.frame → MayBeHad (q == page_number REQUEST) p z) (same_Some x e is)
+          (λ same. had_too (q == page_number REQUEST) (h.beside n from q x y counts_here there same));
+      named_new = λ e is. subst (λ (y : Entry). is_shared y.perm ≡ true → IsNamed names sp.pages a.shared (things_in s a) a.next_name p y.frame)
+          (same_Some x e is)
+          (λ shared_page. named_bytes (sym given.same) (named_place (there_is ∙ sym from_is) kind (h.named n from x counts_here shared_page)));
+      named_old = λ q r y ne hy shared_page was. named_bytes (sym (bytes_elsewhere h n b at given_puts q r y ne hy)) was;
+    }
 
-      name_is : object_name b old ≡ name_of (option_map (page_by names sp.pages) (Some x))
-      name_is =
-          object_is h n b at old x old_below old_is
-          ∙ sym (ap (λ (c : Bool). name_of (Some (if c then named (names.name x.frame) (has_write x.perm) else own (sp.pages x.frame) (may_write x.perm))))
-          is_shared_page)
+    -- the region had its table
+    pub given_tables : p / NPTENTRIES ≡ table_region → is_some (s.spaces.regions (slot_at s n).directory table_region) ≡ true → (r : ℕ) →
+        is_some (sp.regions (slot_at s n).directory r) ≡ is_some (s.spaces.regions (slot_at s n).directory r)
+    given_tables region tabled r =
+        given.placed.regions (slot_at s n).directory r
+        ∙ ap (λ (c : Bool). (c && (r == p / NPTENTRIES)) || is_some (s.spaces.regions (slot_at s n).directory r)) here
+        ∙ by_region (r == p / NPTENTRIES) refl
+      where
+        here : ((slot_at s n).directory == (slot_at s n).directory) ≡ true
+        here = grind (arith, nat_tests)
 
-      -- the old one's entry counts
-      counts_here : logical s.spaces s.environments.slots n from ≡ Some x
-      counts_here =
-          logical_plain s.spaces s.environments.slots n (clients_live h n b at) (unminded_plain (place_of (slot_at s n)) unminded) from ∙ old_is
+        by_region : (c : Bool) → (r == p / NPTENTRIES) ≡ c → (c || is_some (s.spaces.regions (slot_at s n).directory r))
+            ≡ is_some (s.spaces.regions (slot_at s n).directory r)
+        by_region true test =
+            let is : r ≡ p / NPTENTRIES = grind (arith, nat_tests) in
+            let same : table_region ≡ r = sym (is ∙ region) in
+            subst (λ (q : ℕ). true ≡ is_some (s.spaces.regions (slot_at s n).directory q)) same (sym tabled)
+        by_region false test = refl
 
-      given_bytes : (q r : ℕ) (y : Entry) → Elsewhere q r into p → rows_of s.spaces q r ≡ Some y → sp.pages y.frame ≡ s.spaces.pages y.frame
-      given_bytes q r y ne hy = by_frame (y.frame == x.frame) refl
-        where
-          by_frame : (c : Bool) → (y.frame == x.frame) ≡ c → sp.pages y.frame ≡ s.spaces.pages y.frame
-          by_frame true test =
-              let same : x.frame ≡ y.frame = grind (arith, nat_tests) in
-              subst (λ (f : ℕ). sp.pages f ≡ s.spaces.pages f) same given.same
-          by_frame false test =
-              let other : y.frame ≢ x.frame = grind (arith, nat_tests) in
-              given.placed.bytes q r y (row_elsewhere given.placed q r ne ∙ hy) other
+-- ---- and with it the registers and the words of the slot are others
 
-      -- it agrees with every entry of its frame, itself among them
-      given_agrees : (q r : ℕ) (y : Entry) → logical s.spaces s.environments.slots q r ≡ Some y → y.frame ≡ x.frame → Agree y.perm x.perm
-      given_agrees q r y hy same = by_place (place_cases q r n from)
-        where
-          by_place : ((q ≡ n) × (r ≡ from)) ⊎ Elsewhere q r n from → Agree y.perm x.perm
-          by_place (inl here) =
-              subst (λ (z : Entry). Agree z.perm x.perm)
-              (sym (same_entry (logical s.spaces s.environments.slots) q r n from y x here.0 here.1 hy counts_here))
-              (record { shared = refl; read_only = λ own_page. absurd (let contradiction : true ≡ false = sym is_shared_page ∙ own_page in cc) })
-          by_place (inr there) = h.apart q r n from y x there hy counts_here same
+pub unmade_made : (at : Place) → is_making_pipe at ≡ false → (fd : ℕ) → is_made at fd ≡ false
+unmade_made (place.InService service.Pipe (step.Piped at)) unmade fd = unmade_makes at unmade fd
+unmade_made _ unmade fd = refl
 
-      -- the file server may have the page as it may at the old one
-      had_too : (request : Bool) → MayBeHad request from x → MayBeHad request p x
-      had_too true had = absurd (let is = had.0 in omega (arith, is, old_below))
-      had_too false had = record { descriptor = is_descriptors fd below; shared = had.shared }
+module _ {names : Names} {s : KernelState} {a : AbstractState} {sp : SpacesState} {o : Option Entry} (h : StandsFor names s a) (n : ℕ) (b : Born)
+    (at : a.slots n ≡ born b) (p : ℕ) (of_descriptor : is_of_descriptor p ≡ true)
+    (puts : Puts names names s.spaces sp (slot_at s n).directory p o) (outside : is_handlers (slot_at s n).registers.esp ≡ false)
+    (unborne : borne_in (place_of (slot_at s n)) ≡ None) (unmade : is_making_pipe (place_of (slot_at s n)) ≡ false)
+    (unlocked : locked_at (place_of (slot_at s n)) ≡ None) (last : s.last ≡ Some n) where
+  abbrev home : ℕ
+  home = (slot_at s n).directory
 
-      given_puts : Puts names names s.spaces sp into p (Some x)
-      given_puts = record {
-        rows = given.placed.rows;
-        bytes = given_bytes;
-        named_so = λ q r y hy shared_page. refl;
-        regions = other_regions given.placed;
-      }
+  abbrev before : Rows
+  before = logical s.spaces s.environments.slots
 
-      given_row : PutsRow names names s.spaces.pages a.shared sp.pages a.shared (things_in s a) a.next_name a.next_name
-          (logical s.spaces s.environments.slots) n p (Some x)
-      given_row = record {
-        bytes = bytes_elsewhere h n b at given_puts;
-        agree = λ q r y e ne hy is same.
-            let same_one : x ≡ e = same_Some x e is in
-            subst (λ (z : Entry). Agree y.perm z.perm) same_one
-            (given_agrees q r y hy (same ∙ ap (λ (z : Entry). z.frame) (sym same_one)));
-        user = λ e is. subst (λ (z : Entry). IsUsers z.perm) (same_Some x e is) (h.users n from x counts_here);
-        whole = λ e is. subst (λ (z : Entry). IsPage (sp.pages z.frame)) (same_Some x e is)
-            (subst (λ (l : List ℕ). IsPage l) (sym given.same) (h.whole n from x counts_here));
-        beside = λ q e y is there.
-            subst (λ (z : Entry). z.frame ≡ y.frame → MayBeHad (q == page_number REQUEST) p z) (same_Some x e is)
-            (λ same. had_too (q == page_number REQUEST) (h.beside n from q x y counts_here there same));
-        named_new = λ e is. subst (λ (y : Entry). is_shared y.perm ≡ true → IsNamed names sp.pages a.shared (things_in s a) a.next_name p y.frame)
-            (same_Some x e is)
-            (λ shared_page. named_bytes (sym given.same)
-            (named_place (is_descriptors fd below ∙ sym (is_descriptors old old_below)) (h.named n from x counts_here shared_page)));
-        named_old = λ q r y ne hy shared_page was. named_bytes (sym (bytes_elsewhere h n b at given_puts q r y ne hy)) was;
-      }
+  others : (q : ℕ) → q ≢ home → SeenAlike names names s.spaces sp q
+  others = others_seen h n b at puts
 
-      -- the region had its table
-      tables : (r : ℕ) → is_some (sp.regions into r) ≡ is_some (s.spaces.regions into r)
-      tables r =
-          given.placed.regions into r
-          ∙ ap (λ (c : Bool). (c && (r == p / NPTENTRIES)) || is_some (s.spaces.regions into r)) here
-          ∙ by_region (r == p / NPTENTRIES) refl
-        where
-          here : (into == into) ≡ true
-          here = grind (arith, nat_tests)
+  had : StandsForBorn names s.spaces (slot_at s n) b
+  had = born_at h n b at
 
-          by_region : (c : Bool) → (r == p / NPTENTRIES) ≡ c → (c || is_some (s.spaces.regions into r)) ≡ is_some (s.spaces.regions into r)
-          by_region true test =
-              let is : r ≡ p / NPTENTRIES = grind (arith, nat_tests) in
-              let same : table_region ≡ r = sym (is ∙ page_region fd below) in
-              subst (λ (q : ℕ). true ≡ is_some (s.spaces.regions into q)) same (sym tabled)
-          by_region false test = refl
+  client : is_clients n (slot_at s n) ≡ true
+  client = clients_live h n b at
+
+  unhandled : is_in_handler (place_of (slot_at s n)) ≡ false
+  unhandled = handler_runs (slot_at s n).registers (slot_at s n).extra ∙ outside
+
+  plain : is_plain (place_of (slot_at s n)) ≡ true
+  plain = unborne_plain (place_of (slot_at s n)) unhandled unborne unmade
+
+  pub row_beside : (q : ℕ) → q ≢ p → rows_of sp (slot_at s n).directory q ≡ rows_of s.spaces (slot_at s n).directory q
+  row_beside q ne = ap (λ (rows : Rows). rows home q) puts.rows ∙ put-other (rows_of s.spaces) home p o home q (λ same too. ne too)
+
+  pub row_there : rows_of sp (slot_at s n).directory p ≡ o
+  row_there = ap (λ (rows : Rows). rows home p) puts.rows ∙ put-at (rows_of s.spaces) home p o
+
+  shown_beside : (q : ℕ) → q ≢ p → shown_at names sp home q ≡ shown_at names s.spaces home q
+  shown_beside q ne =
+      shown_same names names s.spaces sp home q (row_beside q ne) (λ x hx own_page. puts.bytes home q x (λ same too. ne too) hx)
+      (λ x hx shared_page. refl)
+
+  -- other descriptors are seen as they were, and so is the memory
+  pub seen_beside : (q : ℕ) → q < DESCRIPTORS → descriptor_page q ≢ p →
+      descriptor_seen names sp (slot_at s n).directory q ≡ descriptor_seen names s.spaces (slot_at s n).directory q
+  seen_beside q below ne = descriptor_shown names names s.spaces sp home q (shown_beside (descriptor_page q) ne)
+
+  memory_same : (q : ℕ) (c : Bool) → is_programs q ≡ c → page_seen names sp home q ≡ page_seen names s.spaces home q
+  memory_same q true inside =
+      ap (seen_where (is_programs q))
+      (shown_beside q (λ is.
+      let contradiction : true ≡ false = sym of_descriptor ∙ ap is_of_descriptor (sym is) ∙ programs_no_descriptor q inside in cc))
+  memory_same q false off =
+      ap (λ (c : Bool). seen_where c (shown_at names sp home q)) off ∙ sym (ap (λ (c : Bool). seen_where c (shown_at names s.spaces home q)) off)
+
+  module _ (regs : Regs) (words : List ℕ) (after : Place)
+      (there : place_of (record (slot_at s n) { registers = regs; extra = words }) ≡ after) (outside_after : is_in_handler after ≡ false)
+      (unborne_after : borne_in after ≡ None) (unmade_after : is_making_pipe after ≡ false) (unlocked_after : locked_at after ≡ None) where
+    abbrev moved : Slot
+    moved = record (slot_at s n) { registers = regs; extra = words }
+
+    abbrev counted_after : Rows
+    counted_after = logical sp (upd s.environments.slots n moved)
+
+    plain_after : is_plain (place_of moved) ≡ true
+    plain_after = ap is_plain there ∙ unborne_plain after outside_after unborne_after unmade_after
+
+    -- all entries count as they did, and this one with them
+    counts_after : (m q : ℕ) → counted_after m q ≡ put before n p o m q
+    counts_after = put_is before counted_after n p o (here p ∙ row_there) beside
+      where
+        slot_is : upd s.environments.slots n moved n ≡ moved
+        slot_is = upd-at s.environments.slots n moved
+
+        here : (q : ℕ) → counted_after n q ≡ rows_of sp home q
+        here q =
+            logical_plain sp (upd s.environments.slots n moved) n (ap (λ (k : Slot). is_clients n k) slot_is ∙ client)
+            (ap (λ (k : Slot). is_plain (place_of k)) slot_is ∙ plain_after) q
+            ∙ ap (λ (k : Slot). rows_of sp k.directory q) slot_is
+
+        beside : (m q : ℕ) → Elsewhere m q n p → counted_after m q ≡ before m q
+        beside m q ne = by_slot (m == n) refl
+          where
+            by_slot : (c : Bool) → (m == n) ≡ c → counted_after m q ≡ before m q
+            by_slot true test =
+                let same : m ≡ n = grind (arith, nat_tests) in
+                subst (λ (r : ℕ). counted_after r q ≡ before r q) (sym same)
+                (here q ∙ row_beside q (ne same) ∙ sym (logical_plain s.spaces s.environments.slots n client plain q))
+            by_slot false test = others_count h n b at moved others m (grind (arith, nat_tests)) q
+
+    places : (m : ℕ) → locked_at (place_of (upd s.environments.slots n moved m)) ≡ locked_at (place_of (slot_at s m))
+    places = upd-alike (λ (x : Slot). locked_at (place_of x)) s.environments.slots n moved (ap locked_at there ∙ unlocked_after ∙ sym unlocked)
+
+    -- Locks are held by whom they were, where the page is that of a descriptor,
+    pub locks_off : is_pipe_page p ≡ false → LocksStand sp.pages (upd s.environments.slots n (record (slot_at s n) { registers = regs; extra = words }))
+        (logical sp (upd s.environments.slots n (record (slot_at s n) { registers = regs; extra = words })))
+    locks_off none = locks_beside n p o none places counts_after (bytes_elsewhere h n b at puts) h.locks
+
+    unheld : (m fd : ℕ) → locked_at (place_of (slot_at s m)) ≡ Some fd → m ≢ n
+    unheld m fd locked same =
+        none-some fd (sym unlocked ∙ ap (λ (q : ℕ). locked_at (place_of (slot_at s q))) (sym same) ∙ locked)
+
+    -- where that of a pipe goes,
+    pub locks_gone : o ≡ None → LocksStand sp.pages (upd s.environments.slots n (record (slot_at s n) { registers = regs; extra = words }))
+        (logical sp (upd s.environments.slots n (record (slot_at s n) { registers = regs; extra = words })))
+    locks_gone gone = locks_left (λ m fd x below locked stands. sym (places m) ∙ locked) forth still h.locks
+      where
+        forth : (m fd : ℕ) (x : Entry) → fd < DESCRIPTORS → locked_at (place_of (slot_at s m)) ≡ Some fd → before m (pipe_page fd) ≡ Some x →
+            (locked_at (place_of (upd s.environments.slots n moved m)) ≡ Some fd) × (counted_after m (pipe_page fd) ≡ Some x)
+        forth m fd x below locked stands = (
+          places m ∙ locked,
+          counts_after m (pipe_page fd) ∙ put-other before n p o m (pipe_page fd) (λ same. absurd (unheld m fd locked same)) ∙ stands,
+        )
+
+        still : (m fd : ℕ) (x : Entry) → fd < DESCRIPTORS → counted_after m (pipe_page fd) ≡ Some x →
+            (before m (pipe_page fd) ≡ Some x) × (sp.pages x.frame ≡ s.spaces.pages x.frame)
+        still m fd x below stands = elim (put-found before n p o m (pipe_page fd) x (sym (counts_after m (pipe_page fd)) ∙ stands)) [
+          | inl here ↦ absurd (none-some x (sym gone ∙ here.2))
+          | inr it ↦ (it.1, bytes_elsewhere h n b at puts m (pipe_page fd) x it.0 it.1)
+        ]
+
+    -- and where it is put where none stood, as one that the environment has.
+    pub locks_given : (old : ℕ) (x : Entry) → old < DESCRIPTORS → rows_of s.spaces (slot_at s n).directory (pipe_page old) ≡ Some x → o ≡ Some x →
+        rows_of s.spaces (slot_at s n).directory p ≡ None →
+        LocksStand sp.pages (upd s.environments.slots n (record (slot_at s n) { registers = regs; extra = words }))
+        (logical sp (upd s.environments.slots n (record (slot_at s n) { registers = regs; extra = words })))
+    locks_given old x old_below old_is is vacant =
+        locks_calm n unlocked (ap (λ (k : Slot). locked_at (place_of k)) (upd-at s.environments.slots n moved) ∙ ap locked_at there ∙ unlocked_after)
+        (λ m ne. places m) (λ m q ne pipes. counts_after m q ∙ put-other before n p o m q (λ same. absurd (ne same))) mine bytes h.locks
+      where
+        own_counts : (q : ℕ) → before n q ≡ rows_of s.spaces home q
+        own_counts q = logical_plain s.spaces s.environments.slots n client plain q
+
+        mine : (fd : ℕ) (y : Entry) → fd < DESCRIPTORS → counted_after n (pipe_page fd) ≡ Some y → is_shared y.perm ≡ true → IsPipeFrame before y.frame
+        mine fd y below stands shared_page = elim (put-found before n p o n (pipe_page fd) y (sym (counts_after n (pipe_page fd)) ∙ stands)) [
+          | inl here ↦
+              let same : x ≡ y = same_Some x y (sym is ∙ here.2) in record {
+                slot = n;
+                fd = old;
+                below = old_below;
+                entry = x;
+                stands = own_counts (pipe_page old) ∙ old_is;
+                shared = ap (λ (e : Entry). is_shared e.perm) same ∙ shared_page;
+                same = ap (λ (e : Entry). e.frame) same;
+              }
+          | inr it ↦ record { slot = n; fd = fd; below = below; entry = y; stands = it.1; shared = shared_page; same = refl }
+        ]
+
+        bytes : (m fd : ℕ) (y : Entry) → fd < DESCRIPTORS → before m (pipe_page fd) ≡ Some y → is_shared y.perm ≡ true →
+            lock_of (sp.pages y.frame) ≡ lock_of (s.spaces.pages y.frame)
+        bytes m fd y below stands shared_page =
+            ap lock_of
+            (bytes_elsewhere h n b at puts m (pipe_page fd) y
+            (λ same too. none-some y
+            (sym (own_counts p ∙ vacant) ∙ (λ i. before (sym same i) (sym too i)) ∙ stands)) stands)
+
+    -- The state stands for that in which the environment has these descriptors, and its program is at this place.
+    pub page_moves : (program : ProgramState) (phase : Phase) (blocked : Bool) (descriptors : ℕ → Option ℕ) →
+        IsStatusFor (slot_at s n).status blocked → regs.esp ≡ (slot_at s n).registers.esp → regs.eflags ≡ (slot_at s n).registers.eflags →
+        holds_page (place_of (slot_at s n)) ≡ holds_page after →
+        PutsRow names names s.spaces.pages a.shared sp.pages a.shared (things_in s a) a.next_name a.next_name
+        (logical s.spaces s.environments.slots) n p o →
+        ((x : Entry) → o ≡ Some x → x.perm ≡ descriptor_perm) →
+        ((r : ℕ) → is_some (sp.regions (slot_at s n).directory r) ≡ is_some (s.spaces.regions (slot_at s n).directory r)) →
+        ((fd : ℕ) → is_dropped after fd ≡ false → descriptors fd ≡ descriptor_seen names sp (slot_at s n).directory fd) →
+        StandsAt after (view_of sp (slot_at s n).directory) (record (slot_at s n) { registers = regs; extra = words })
+        (record b { program = program; phase = phase; blocked = blocked; descriptors = descriptors }) →
+        EndsStand names a.objects after (rows_of sp (slot_at s n).directory)
+        (record b { program = program; phase = phase; blocked = blocked; descriptors = descriptors }) →
+        LocksStand sp.pages (upd s.environments.slots n (record (slot_at s n) { registers = regs; extra = words }))
+        (logical sp (upd s.environments.slots n (record (slot_at s n) { registers = regs; extra = words }))) →
+        IsInOrder (with_spaces s sp) → ((fd name : ℕ) → descriptors fd ≡ Some name → name < a.next_name) →
+        StandsFor names (with_slot_at (with_spaces s sp) n (record (slot_at s n) { registers = regs; extra = words }))
+        (with_born a n (record b { program = program; phase = phase; blocked = blocked; descriptors = descriptors }))
+    page_moves program phase blocked descriptors status esp eflags held row bits tables seen so ends locks in_order olds =
+        own_moves h n b at sp moved c a.shared a.next_name refl (record { id = refl; env_type = refl; turns = refl; calm = λ runs. runs }) unborne
+        (ap borne_in there ∙ unborne_after) others mine
+        (rows_same (put before n p o) counted_after counts_after (rows_put (rows_stand h) row)) (slot_in_order (with_spaces s sp) n moved refl refl in_order)
+        (others_counts h n last sp) (subst (λ (q : Place). EndsStand names a.objects q (rows_of sp home) c) (sym there) ends) locks
+        (omega arith) olds
+      where
+        c : Born
+        c = record b { program = program; phase = phase; blocked = blocked; descriptors = descriptors }
+
+        unhandled_after : is_in_handler (place_of moved) ≡ false
+        unhandled_after = ap is_in_handler there ∙ outside_after
+
+        mine : StandsForBorn names sp moved c
+        mine = record {
+          id = had.id;
+          id_small = had.id_small;
+          parent = had.parent;
+          env_type = had.env_type;
+          runs = status;
+          upcall = had.upcall ∙ plain_upcall (place_of (slot_at s n)) unhandled ∙ sym (plain_upcall (place_of moved) unhandled_after);
+          descriptors = λ fd still.
+              seen fd (sym (ap (λ (q : Place). is_dropped q fd) there) ∙ still)
+              ∙ sym (ap (λ (t : Bool). seen_unless t (descriptor_seen names sp home fd))
+              (unmade_made (place_of moved) (ap is_making_pipe there ∙ unmade_after) fd));
+          memory = λ q. had.memory q ∙ sym (memory_same q (is_programs q) refl);
+          library = library_moved (place_of (slot_at s n)) (place_of moved) (slot_at s n).extra words (rows_of sp home)
+              (plain_copy (place_of (slot_at s n)) unhandled ∙ sym (plain_copy (place_of moved) unhandled_after))
+              (plain_working (place_of (slot_at s n)) (slot_at s n).extra unhandled ∙ held ∙ sym (ap holds_page there)
+              ∙ sym (plain_working (place_of moved) words unhandled_after))
+              (library_put_there (place_of (slot_at s n)) (slot_at s n).extra (rows_of s.spaces home) (rows_of sp home) p of_descriptor row_beside
+              (λ x is. bits x (sym row_there ∙ is)) had.library);
+          regions_have = λ r is. tables r ∙ had.regions_have r is;
+          regions_only = λ r is. had.regions_only r (sym (tables r) ∙ is);
+          stack = ap (λ (e : ℕ). is_handlers e || not (is_resident e)) esp ∙ had.stack;
+          flags = subst (λ (f : ℕ). f ≡ user_flags f) (sym eflags) had.flags;
+          at = subst (λ (q : Place). StandsAt q (view_of sp home) moved c) (sym there) so;
+        }
 
 -- ---- a service that has changed a page, and the words with it
 
 -- where nothing is kept in mind at the beginning, no page is kept later
-holds_none : (s : Service) → minds_page (place.InService s step.Entered) ≡ false → (at : Step) → holds_page (place.InService s at) ≡ false
+pub holds_none : (s : Service) → minds_page (place.InService s step.Entered) ≡ false → (at : Step) → holds_page (place.InService s at) ≡ false
 holds_none (service.Write fd va len) calm at = absurd (let contradiction : true ≡ false = calm in cc)
 holds_none (service.Remove path) calm at = absurd (let contradiction : true ≡ false = calm in cc)
 holds_none (service.OpenFile path mode) calm at = absurd (let contradiction : true ≡ false = calm in cc)
@@ -337,59 +454,35 @@ holds_none (service.Stat fd va) calm at = absurd (let contradiction : true ≡ f
 holds_none (service.SetSize fd size) calm at = absurd (let contradiction : true ≡ false = calm in cc)
 holds_none _ calm at = refl
 
--- where it was at its beginning
-module _ {names : Names} {a : AbstractState} (t : KernelState) (n : ℕ) (service : Service) (b : Born)
-    (h : StandsFor names (with_extra t n (words_at (number_of service) step.Entered)) a) (at : a.slots n ≡ born b)
-    (named : service_of (record (slot_at t n).registers { eax = number_of service }) ≡ service)
-    (outside : is_handlers (slot_at t n).registers.esp ≡ false) (calm : minds_page (place.InService service step.Entered) ≡ false) where
-  abbrev begun : Slot
-  begun = record (slot_at t n) { extra = words_at (number_of service) step.Entered }
+-- ---- where one descriptor changes
 
-  there : slot_at (with_extra t n (words_at (number_of service) step.Entered)) n ≡ begun
-  there = slot_put t n begun
+-- At a step no lock is held, no pipe is made, none is dropped, and no descriptor but this one is on its way.
+pub record TouchesOne (s : Service) (from : Step) (fd : ℕ) : Type 0 where
+  pub unlocked : locked_at (place.InService s from) ≡ None
+  pub unmade : is_making_pipe (place.InService s from) ≡ false
+  pub undropped : (q : ℕ) → is_dropped (place.InService s from) q ≡ false
+  pub off_way : (q : ℕ) → q ≢ fd → is_on_its_way (place.InService s from) q ≡ false
 
-  still_outside : is_handlers (slot_at (with_extra t n (words_at (number_of service) step.Entered)) n).registers.esp ≡ false
-  still_outside = ap (λ (x : Slot). is_handlers x.registers.esp) there ∙ outside
+pub touches_calm : (s : Service) (from : Step) (fd : ℕ) → is_calm_step from ≡ true → TouchesOne s from fd
+touches_calm s from fd calm = record {
+  unlocked = calm_locked (place.InService s from) calm;
+  unmade = calm_unmade (place.InService s from) calm;
+  undropped = calm_dropped (place.InService s from) calm;
+  off_way = λ q ne. calm_on_way (place.InService s from) calm q;
+}
 
-  still_named :
-      service_of (record (slot_at (with_extra t n (words_at (number_of service) step.Entered)) n).registers { eax = number_of service }) ≡ service
-  still_named = ap (λ (x : Slot). service_of (record x.registers { eax = number_of service })) there ∙ named
-
-  at_none : borne_in (place_of (slot_at (with_extra t n (words_at (number_of service) step.Entered)) n)) ≡ None
-  at_none =
-      ap borne_in (place_set t n (number_of service) service step.Entered outside named)
-      ∙ plain_unborne (place.InService service step.Entered) (unminded_plain (place.InService service step.Entered) calm)
-
-  at_holds : holds_page (place_of (slot_at (with_extra t n (words_at (number_of service) step.Entered)) n)) ≡ false
-  at_holds = ap holds_page (place_set t n (number_of service) service step.Entered outside named) ∙ holds_none service calm step.Entered
-
-  pub begun_goes_on : (to : Step) → borne_in (place.InService service to) ≡ None →
-      StandsAtStep (view_of t.spaces (slot_at t n).directory) (record (slot_at t n) { extra = words_at (number_of service) to }) b service to →
-      StandsFor names (with_extra t n (words_at (number_of service) to)) a
-  begun_goes_on to unborne so =
-      subst (λ (z : KernelState). StandsFor names z a) (words_put t n begun (words_at (number_of service) to))
-      (words_stand h n (number_of service) b at (born_at h n b at) still_outside at_none service to (at_holds ∙ sym (holds_none service calm to))
-      unborne still_named
-      (subst (λ (x : Slot). StandsAtStep (view_of t.spaces x.directory) (record x { extra = words_at (number_of service) to }) b service to)
-      (sym there) so))
-
-  pub begun_goes_back : (regs : Regs) → (slot_at t n).rendezvous.receiving ≡ false → b.blocked ≡ false →
-      regs.esp ≡ (slot_at t n).registers.esp → regs.eflags ≡ (slot_at t n).registers.eflags →
-      StandsFor names (gone_back t n regs) (back_with a n b regs)
-  begun_goes_back regs silent awake stack flags =
-      subst (λ (z : KernelState). StandsFor names z (back_with a n b regs)) same
-      (back_stands h n b at regs at_none at_holds (ap (λ (x : Slot). x.rendezvous.receiving) there ∙ silent) awake still_outside
-      (stack ∙ sym (ap (λ (x : Slot). x.registers.esp) there)) (flags ∙ sym (ap (λ (x : Slot). x.registers.eflags) there)))
-    where
-      same : gone_back (with_extra t n (words_at (number_of service) step.Entered)) n regs ≡ gone_back t n regs
-      same =
-          ap (λ (x : Slot). with_slot_at (with_slot_at t n begun) n (record x { registers = regs; extra = no_extra })) there
-          ∙ set_twice t n begun (record begun { registers = regs; extra = no_extra })
+pub touches_given : (old new : ℕ) → TouchesOne (service.Dup old new) step.MappingDescriptor new
+touches_given old new = record {
+  unlocked = refl;
+  unmade = refl;
+  undropped = λ q. refl;
+  off_way = λ q ne. grind (arith, nat_tests);
+}
 
 module _ {names : Names} {s : KernelState} {a : AbstractState} (h : StandsFor names s a) (n : ℕ) (service : Service) (from : Step)
     (v : IsServed names s a n service from) (unborne : borne_in (place.InService service from) ≡ None)
     (calm : minds_page (place.InService service step.Entered) ≡ false) (is_in : IsIn (slot_at s n) v.b service entered) (fd : ℕ)
-    (below : fd < DESCRIPTORS) where
+    (below : fd < DESCRIPTORS) (one : TouchesOne service from fd) (last : s.last ≡ Some n) where
   abbrev d : ℕ
   d = (slot_at s n).directory
 
@@ -402,89 +495,207 @@ module _ {names : Names} {s : KernelState} {a : AbstractState} (h : StandsFor na
   StandsThere sp to name =
       StandsAtStep (view_of sp d) (record (slot_at s n) { extra = words_at (number_of service) to }) (with_descriptor v.b fd name) service to
 
-  abbrev begun_words : List ℕ
-  begun_words = words_at (number_of service) step.Entered
-
-  begun_slot : Slot
-  begun_slot = record (slot_at s n) { extra = begun_words }
-
   names_it : service_of (record (slot_at s n).registers { eax = number_of service }) ≡ service
   names_it = named_at (slot_at s n) service from v.place
 
-  begun_none : borne_in (place.InService service step.Entered) ≡ None
-  begun_none = plain_unborne (place.InService service step.Entered) (unminded_plain (place.InService service step.Entered) calm)
+  seen_all : SeesDescriptors names s n v.b
+  seen_all =
+      seen_unmade h n v.b v.is (unmade_made (place_of (slot_at s n)) (ap is_making_pipe v.place ∙ one.unmade))
+      (λ q. ap (λ (at : Place). is_dropped at q) v.place ∙ one.undropped q)
 
-  -- the same state stands for it at the beginning of its service, where nothing is kept in mind
-  begun_stands : StandsFor names (with_extra s n begun_words) a
-  begun_stands =
-      words_stand h n (number_of service) v.b v.is v.own v.outside (ap borne_in v.place ∙ unborne) service step.Entered
-      (ap holds_page v.place ∙ holds_none service calm from ∙ sym (holds_none service calm step.Entered)) begun_none names_it
-      (in_with_words begun_words is_in)
+  was_ends : EndsStand names a.objects (place.InService service from) (rows_of s.spaces d) v.b
+  was_ends = subst (λ (at : Place). EndsStand names a.objects at (rows_of s.spaces d) v.b) v.place (ends_at h n v.b v.is)
 
-  begun_unminded : minds_page (place_of (slot_at (with_extra s n begun_words) n)) ≡ false
-  begun_unminded = ap minds_page (place_set s n (number_of service) service step.Entered v.outside names_it) ∙ calm
+  fd_is : is_of_descriptor (descriptor_page fd) ≡ true
+  fd_is = is_descriptors fd below
 
-  begun_space : (slot_at (with_extra s n begun_words) n).directory ≡ d
-  begun_space = ap (λ (x : Slot). x.directory) (slot_put s n (record (slot_at s n) { extra = begun_words }))
+  fd_no_pipe : is_pipe_page (descriptor_page fd) ≡ false
+  fd_no_pipe = grind (arith, nat_tests)
+
+  other_page : (q : ℕ) → q < DESCRIPTORS → q ≢ fd → descriptor_page q ≢ descriptor_page fd
+  other_page q q_below ne same = ne (omega (arith, same))
+
+  beside_pipes : (q : ℕ) → q < DESCRIPTORS → pipe_page q ≢ descriptor_page fd
+  beside_pipes q q_below same = absurd (omega (arith, same, q_below, below))
+
+  none_held : (at : Step) → holds_page (place_of (slot_at s n)) ≡ holds_page (place.InService service at)
+  none_held at = ap holds_page v.place ∙ holds_none service calm from ∙ sym (holds_none service calm at)
+
+  module _ {sp : SpacesState} {o : Option Entry} (in_order : IsInOrder (with_spaces s sp)) (name : Option ℕ)
+      (puts : Puts names names s.spaces sp (slot_at s n).directory (descriptor_page fd) o)
+      (row : PutsRow names names s.spaces.pages a.shared sp.pages a.shared (things_in s a) a.next_name a.next_name
+      (logical s.spaces s.environments.slots) n (descriptor_page fd) o)
+      (bits : (x : Entry) → o ≡ Some x → x.perm ≡ descriptor_perm)
+      (tables : (r : ℕ) → is_some (sp.regions (slot_at s n).directory r) ≡ is_some (s.spaces.regions (slot_at s n).directory r))
+      (name_is : name ≡ name_of (option_map (page_by names sp.pages) o))
+      (have_it : (one_name pipe : ℕ) → name ≡ Some one_name → pipe_named a.objects one_name ≡ Some pipe →
+      (entry : Entry) × (rows_of s.spaces (slot_at s n).directory (pipe_page fd) ≡ Some entry) × (names.name entry.frame ≡ pipe))
+      (only_it : (entry : Entry) → rows_of s.spaces (slot_at s n).directory (pipe_page fd) ≡ Some entry →
+      (one_name : ℕ) × (name ≡ Some one_name) × (pipe_named a.objects one_name ≡ Some (names.name entry.frame)))
+      (old_it : (one_name : ℕ) → name ≡ Some one_name → one_name < a.next_name) where
+    olds_then : (q one : ℕ) → upd v.b.descriptors fd name q ≡ Some one → one < a.next_name
+    olds_then = old_with (λ q one names_it. h.old n q one v.b v.is names_it) fd name old_it
+
+    unborne_here : borne_in (place_of (slot_at s n)) ≡ None
+    unborne_here = ap borne_in v.place ∙ unborne
+
+    unmade_here : is_making_pipe (place_of (slot_at s n)) ≡ false
+    unmade_here = ap is_making_pipe v.place ∙ one.unmade
+
+    unlocked_here : locked_at (place_of (slot_at s n)) ≡ None
+    unlocked_here = ap locked_at v.place ∙ one.unlocked
+
+    row_same : (q : ℕ) → q < DESCRIPTORS → rows_of sp d (pipe_page q) ≡ rows_of s.spaces d (pipe_page q)
+    row_same q q_below =
+        row_beside h n v.b v.is (descriptor_page fd) fd_is puts v.outside unborne_here unmade_here unlocked_here last (pipe_page q) (beside_pipes q q_below)
+
+    seen_then : (q : ℕ) → upd v.b.descriptors fd name q ≡ descriptor_seen names sp d q
+    seen_then = upd-all (λ q (w : Option ℕ). w ≡ descriptor_seen names sp d q) v.b.descriptors fd name (name_is ∙ sym here)
+        (λ q ne. seen_all q ∙ sym (beside q ne (nat_lt q DESCRIPTORS) refl))
+      where
+        here : descriptor_seen names sp d fd ≡ name_of (option_map (page_by names sp.pages) o)
+        here =
+            let test : nat_lt fd DESCRIPTORS ≡ true = grind (arith, nat_tests) in
+            ap (λ (c : Bool). if c then name_of (shown_at names sp d (descriptor_page fd)) else None) test
+            ∙ ap (λ (e : Option Entry). name_of (option_map (page_by names sp.pages) e))
+            (row_there h n v.b v.is (descriptor_page fd) fd_is puts v.outside unborne_here unmade_here unlocked_here last)
+
+        beside : (q : ℕ) → q ≢ fd → (c : Bool) → nat_lt q DESCRIPTORS ≡ c → descriptor_seen names sp d q ≡ descriptor_seen names s.spaces d q
+        beside q ne true test =
+            let q_below : q < DESCRIPTORS = grind (arith, nat_tests) in
+            seen_beside h n v.b v.is (descriptor_page fd) fd_is puts v.outside unborne_here unmade_here unlocked_here last q q_below (other_page q q_below ne)
+        beside q ne false test =
+            ap (λ (c : Bool). if c then name_of (shown_at names sp d (descriptor_page q)) else None) test
+            ∙ sym (ap (λ (c : Bool). if c then name_of (shown_at names s.spaces d (descriptor_page q)) else None) test)
+
+    ends_then : (to : Place) → is_calm to ≡ true → (c : Born) → ((q : ℕ) → c.descriptors q ≡ upd v.b.descriptors fd name q) →
+        EndsStand names a.objects to (rows_of sp d) c
+    ends_then to calm_to c is =
+        ends_at_one fd (λ q ne. calm_on_way to calm_to q ∙ sym (one.off_way q ne)) (λ q ne. is q ∙ upd-other v.b.descriptors fd name q ne)
+        (λ q other it. refl) (λ q q_below ne. row_same q q_below) (λ q x q_below it. refl) have only was_ends
+      where
+        have : (one_name pipe : ℕ) → fd < DESCRIPTORS → c.descriptors fd ≡ Some one_name → pipe_named a.objects one_name ≡ Some pipe →
+            (entry : Entry) × (rows_of sp d (pipe_page fd) ≡ Some entry) × (names.name entry.frame ≡ pipe)
+        have one_name pipe fd_below so piped =
+            let it = have_it one_name pipe (sym (is fd ∙ upd-at v.b.descriptors fd name) ∙ so) piped in (it.0, row_same fd fd_below ∙ it.1, it.2)
+
+        only : (entry : Entry) → fd < DESCRIPTORS → is_on_its_way to fd ≡ false → rows_of sp d (pipe_page fd) ≡ Some entry →
+            (one_name : ℕ) × (c.descriptors fd ≡ Some one_name) × (pipe_named a.objects one_name ≡ Some (names.name entry.frame))
+        only entry fd_below off lies =
+            let it = only_it entry (sym (row_same fd fd_below) ∙ lies) in (it.0, is fd ∙ upd-at v.b.descriptors fd name ∙ it.1, it.2)
+
+    goes : (to : Step) → borne_in (place.InService service to) ≡ None → is_calm_step to ≡ true → StandsThere sp to name →
+        StandsFor names (goes_on_in sp to) (with_born a n (with_descriptor v.b fd name))
+    goes to none calm_to so =
+        page_moves h n v.b v.is (descriptor_page fd) fd_is puts v.outside unborne_here unmade_here unlocked_here last (slot_at s n).registers
+        (words_at (number_of service) to) (place.InService service to) there refl none (calm_unmade (place.InService service to) calm_to)
+        (calm_locked (place.InService service to) calm_to) v.b.program v.b.phase v.b.blocked (upd v.b.descriptors fd name) v.own.runs refl refl
+        (none_held to) row bits tables (λ q still. seen_then q) so
+        (ends_then (place.InService service to) calm_to (with_descriptor v.b fd name) (λ q. refl))
+        (locks_off h n v.b v.is (descriptor_page fd) fd_is puts v.outside unborne_here unmade_here unlocked_here last (slot_at s n).registers
+        (words_at (number_of service) to) (place.InService service to) there refl none (calm_unmade (place.InService service to) calm_to)
+        (calm_locked (place.InService service to) calm_to) fd_no_pipe) in_order olds_then
+      where
+        there : place_of (record (slot_at s n) { registers = (slot_at s n).registers; extra = words_at (number_of service) to }) ≡ place.InService service to
+        there =
+            place_at (slot_at s n).registers (number_of service) to v.outside
+            ∙ ap (λ (x : Service). place.InService x to) names_it
+
+    answers : (word : ℕ) →
+        StandsFor names (service_answered (with_spaces s sp) n word) (answered a n (with_descriptor v.b fd name) (slot_at s n).registers word)
+    answers word =
+        page_moves h n v.b v.is (descriptor_page fd) fd_is puts v.outside unborne_here unmade_here unlocked_here last regs no_extra place.Guest there
+        refl refl refl refl (guest regs) at_guest false (upd v.b.descriptors fd name)
+        (subst (λ (blocked : Bool). IsStatusFor (slot_at s n).status blocked) is_in.awake v.own.runs) refl refl
+        (ap holds_page v.place ∙ holds_none service calm from) row bits tables (λ q still. seen_then q)
+        (record { program = refl; phase = refl; words = refl; silent = is_in.silent; awake = refl })
+        (ends_then place.Guest refl (record (with_descriptor v.b fd name) { program = guest regs; phase = at_guest; blocked = false }) (λ q. refl))
+        (locks_off h n v.b v.is (descriptor_page fd) fd_is puts v.outside unborne_here unmade_here unlocked_here last regs no_extra place.Guest there
+        refl refl refl refl fd_no_pipe) in_order olds_then
+      where
+        regs : Regs
+        regs = record (slot_at s n).registers { eax = word }
+
+        there : place_of (record (slot_at s n) { registers = regs; extra = no_extra }) ≡ place.Guest
+        there = words_of_none regs no_extra v.outside refl
 
   module _ {sp : SpacesState} (in_order : IsInOrder (with_spaces s sp)) where
-    begun_order : IsInOrder (with_spaces (with_extra s n begun_words) sp)
-    begun_order = slot_in_order (with_spaces s sp) n (record (slot_at s n) { extra = begun_words }) refl refl in_order
+    -- ---- a descriptor is dropped, beside which no page of a pipe stands
 
-    abbrev begun_state : KernelState
-    begun_state = with_extra (with_spaces s sp) n begun_words
+    module _ (removed : Removed s.spaces sp d (descriptor_page fd)) (alone : rows_of s.spaces d (pipe_page fd) ≡ None) where
+      pub dropped_goes_on : (to : Step) → borne_in (place.InService service to) ≡ None → is_calm_step to ≡ true →
+          StandsThere sp to None → StandsFor names (goes_on_in sp to) (with_born a n (with_descriptor v.b fd None))
+      dropped_goes_on to none calm_to so =
+          goes in_order None (removed_puts h n v.b v.is (descriptor_page fd) removed) (removed_row h n v.b v.is (descriptor_page fd) removed)
+          (λ x is. absurd (none-some x is)) (λ r. removed.regions d r) refl (λ one_name pipe is piped. absurd (none-some one_name is))
+          (λ entry is. absurd (none-some entry (sym alone ∙ is))) (λ one_name is. absurd (none-some one_name is)) to none calm_to so
 
-    goes : (name : Option ℕ) → StandsFor names begun_state (with_born a n (with_descriptor v.b fd name)) → (to : Step) →
-        borne_in (place.InService service to) ≡ None → StandsThere sp to name →
-        StandsFor names (goes_on_in sp to) (with_born a n (with_descriptor v.b fd name))
-    goes name stands to none so =
-        begun_goes_on (with_spaces s sp) n service (with_descriptor v.b fd name) stands (upd-at a.slots n (born (with_descriptor v.b fd name)))
-        names_it v.outside calm to none so
+      pub dropped_answers : (word : ℕ) →
+          StandsFor names (service_answered (with_spaces s sp) n word) (answered a n (with_descriptor v.b fd None) (slot_at s n).registers word)
+      dropped_answers word =
+          answers in_order None (removed_puts h n v.b v.is (descriptor_page fd) removed) (removed_row h n v.b v.is (descriptor_page fd) removed)
+          (λ x is. absurd (none-some x is)) (λ r. removed.regions d r) refl (λ one_name pipe is piped. absurd (none-some one_name is))
+          (λ entry is. absurd (none-some entry (sym alone ∙ is))) (λ one_name is. absurd (none-some one_name is)) word
 
-    answers : (name : Option ℕ) → StandsFor names begun_state (with_born a n (with_descriptor v.b fd name)) → (word : ℕ) →
-        StandsFor names (service_answered (with_spaces s sp) n word) (answered a n (with_descriptor v.b fd name) (slot_at s n).registers word)
-    answers name stands word =
-        let c : Born = with_descriptor v.b fd name in
-        let regs : Regs = record (slot_at s n).registers { eax = word } in
-        subst (λ (x : AbstractState). StandsFor names (service_answered (with_spaces s sp) n word) x)
-        (λ i. record a { slots = upd-twice a.slots n (born c) (born (record c { program = guest regs; phase = at_guest; blocked = false })) i })
-        (begun_goes_back (with_spaces s sp) n service c stands (upd-at a.slots n (born c)) names_it v.outside calm regs is_in.silent is_in.awake
-        refl refl)
-
-    -- ---- a descriptor is dropped
-
-    dropped_begun : Removed s.spaces sp d (descriptor_page fd) → StandsFor names begun_state (with_born a n (with_descriptor v.b fd None))
-    dropped_begun removed =
-        descriptor_removed_stands begun_stands n v.b v.is fd below begun_unminded begun_order
-        (subst (λ (q : ℕ). Removed s.spaces sp q (descriptor_page fd)) (sym begun_space) removed)
-
-    pub dropped_goes_on : Removed s.spaces sp d (descriptor_page fd) → (to : Step) → borne_in (place.InService service to) ≡ None →
-        StandsThere sp to None → StandsFor names (goes_on_in sp to) (with_born a n (with_descriptor v.b fd None))
-    dropped_goes_on removed to none so = goes None (dropped_begun removed) to none so
-
-    pub dropped_answers : Removed s.spaces sp d (descriptor_page fd) → (word : ℕ) →
-        StandsFor names (service_answered (with_spaces s sp) n word) (answered a n (with_descriptor v.b fd None) (slot_at s n).registers word)
-    dropped_answers removed word = answers None (dropped_begun removed) word
-
-    -- ---- a descriptor is made that names what another names
+    -- ---- a descriptor is made that names what another names, beside which the same page of a pipe stands, or none
 
     module _ (old : ℕ) (x : Entry) (old_below : old < DESCRIPTORS) (old_is : rows_of s.spaces d (descriptor_page old) ≡ Some x)
-        (tabled : is_some (s.spaces.regions d table_region) ≡ true) (given : Given s.spaces sp d (descriptor_page fd) x) where
-      given_begun : StandsFor names begun_state (with_born a n (with_descriptor v.b fd (object_name v.b old)))
-      given_begun =
-          descriptor_given_stands begun_stands n v.b v.is fd below begun_unminded begun_order old x old_below
-          (subst (λ (q : ℕ). rows_of s.spaces q (descriptor_page old) ≡ Some x) (sym begun_space) old_is)
-          (subst (λ (q : ℕ). is_some (s.spaces.regions q table_region) ≡ true) (sym begun_space) tabled)
-          (subst (λ (q : ℕ). Given s.spaces sp q (descriptor_page fd) x) (sym begun_space) given)
+        (tabled : is_some (s.spaces.regions d table_region) ≡ true) (given : Given s.spaces sp d (descriptor_page fd) x) (other : old ≢ fd)
+        (same : rows_of s.spaces d (pipe_page fd) ≡ rows_of s.spaces d (pipe_page old)) where
+      bits_x : x.perm ≡ descriptor_perm
+      bits_x = entry_bits h n v.b v.is old x old_below old_is
 
-      pub given_goes_on : (to : Step) → borne_in (place.InService service to) ≡ None → StandsThere sp to (object_name v.b old) →
-          StandsFor names (goes_on_in sp to) (with_born a n (with_descriptor v.b fd (object_name v.b old)))
-      given_goes_on to none so = goes (object_name v.b old) given_begun to none so
+      plain_here : is_plain (place_of (slot_at s n)) ≡ true
+      plain_here =
+          unborne_plain (place_of (slot_at s n)) (handler_runs (slot_at s n).registers (slot_at s n).extra ∙ v.outside) (ap borne_in v.place ∙ unborne)
+          (ap is_making_pipe v.place ∙ one.unmade)
+
+      old_is_one : is_of_descriptor (descriptor_page old) ≡ true
+      old_is_one = is_descriptors old old_below
+
+      kind : is_pipe_page (descriptor_page fd) ≡ is_pipe_page (descriptor_page old)
+      kind = let old_none : is_pipe_page (descriptor_page old) ≡ false = grind (arith, nat_tests) in fd_no_pipe ∙ sym old_none
+
+      name_given : object_name v.b old ≡ name_of (option_map (page_by names sp.pages) (Some x))
+      name_given =
+          object_is h n v.b v.is seen_all old x old_below old_is
+          ∙ sym (ap (λ (c : Bool). name_of (Some (if c then named (names.name x.frame) (has_write x.perm) else own (sp.pages x.frame) (may_write x.perm))))
+          (ap is_shared bits_x))
+
+      have_given : (one_name pipe : ℕ) → object_name v.b old ≡ Some one_name → pipe_named a.objects one_name ≡ Some pipe →
+          (entry : Entry) × (rows_of s.spaces d (pipe_page fd) ≡ Some entry) × (names.name entry.frame ≡ pipe)
+      have_given one_name pipe is piped =
+          let it = was_ends.have old one_name pipe old_below (sym (object_below h n v.b v.is old old_below) ∙ is) piped in (it.0, same ∙ it.1, it.2)
+
+      only_given : (entry : Entry) → rows_of s.spaces d (pipe_page fd) ≡ Some entry →
+          (one_name : ℕ) × (object_name v.b old ≡ Some one_name) × (pipe_named a.objects one_name ≡ Some (names.name entry.frame))
+      only_given entry is =
+          let it = was_ends.only old entry old_below (one.off_way old other) (sym same ∙ is) in
+          (it.0, object_below h n v.b v.is old old_below ∙ it.1, it.2)
+
+      old_given : (one_name : ℕ) → object_name v.b old ≡ Some one_name → one_name < a.next_name
+      old_given one_name is = h.old n old one_name v.b v.is (sym (object_below h n v.b v.is old old_below) ∙ is)
+
+      pub given_goes_on : (to : Step) → borne_in (place.InService service to) ≡ None → is_calm_step to ≡ true →
+          StandsThere sp to (object_name v.b old) → StandsFor names (goes_on_in sp to) (with_born a n (with_descriptor v.b fd (object_name v.b old)))
+      given_goes_on to none calm_to so =
+          goes in_order (object_name v.b old)
+          (given_puts h n v.b v.is plain_here (descriptor_page old) (descriptor_page fd) old_is_one fd_is kind x old_is given)
+          (given_row h n v.b v.is plain_here (descriptor_page old) (descriptor_page fd) old_is_one fd_is kind x old_is given)
+          (λ e is. ap (λ (y : Entry). y.perm) (sym (same_Some x e is)) ∙ bits_x)
+          (given_tables h n v.b v.is plain_here (descriptor_page old) (descriptor_page fd) old_is_one fd_is kind x old_is given (page_region fd below) tabled)
+          name_given have_given only_given old_given to none calm_to so
 
       pub given_answers : (word : ℕ) →
           StandsFor names (service_answered (with_spaces s sp) n word)
           (answered a n (with_descriptor v.b fd (object_name v.b old)) (slot_at s n).registers word)
-      given_answers word = answers (object_name v.b old) given_begun word
+      given_answers word =
+          answers in_order (object_name v.b old)
+          (given_puts h n v.b v.is plain_here (descriptor_page old) (descriptor_page fd) old_is_one fd_is kind x old_is given)
+          (given_row h n v.b v.is plain_here (descriptor_page old) (descriptor_page fd) old_is_one fd_is kind x old_is given)
+          (λ e is. ap (λ (y : Entry). y.perm) (sym (same_Some x e is)) ∙ bits_x)
+          (given_tables h n v.b v.is plain_here (descriptor_page old) (descriptor_page fd) old_is_one fd_is kind x old_is given (page_region fd below) tabled)
+          name_given have_given only_given old_given word
 
 -- an environment that has another descriptor, and other words, is in its service as before
 pub in_with_descriptor : {k : Slot} {b : Born} {service : Service} {stage : Stage} (fd : ℕ) (name : Option ℕ) (words : List ℕ) →

@@ -1,6 +1,6 @@
 -- Whatever stands in a space counts for a slot: where it stands, or, where a copy is mapped over its page, at that page.
 use Rattle.jos_base.specs.declared.numbers.TheConstants.{NENV, UTEMP}
-use Rattle.std.proofs.Common.{◌≡◌, ◌≢◌, ◌∙◌, ◌==◌, ℕ, ◌%◌, Bool, true, false, Option, Some, None, refl, sym, ap, subst, arith}
+use Rattle.std.proofs.Common.{◌≡◌, ◌≢◌, ◌∙◌, ◌⊎◌, inl, inr, ◌==◌, ℕ, ◌%◌, Bool, true, false, Option, Some, None, refl, sym, ap, subst, arith}
 use Rattle.std.proofs.lemmas.Bool.Decides.{nat_tests}
 use Rattle.std.proofs.lemmas.Option.{none-some, same_Some}
 use Rattle.std.specs.Option.{option_map}
@@ -17,10 +17,10 @@ use Rattle.lib_os.specs.declared.place.Place.TheVariants as place
 use Rattle.lib_os.specs.AbstractState.{AbstractState, Born, AbstractSlot, free, unborn, born, serving}
 use Rattle.lib_os.specs.LibraryPages.{View, has_copy}
 use Rattle.lib_os.specs.Places.{place_of}
-use Rattle.lib_os.specs.Rows.{MayBeHad, Names, rows_of, lasting, logical, is_shared, as_cow, is_clients, is_programs}
+use Rattle.lib_os.specs.Rows.{MayBeHad, Names, rows_of, lasting, logical, is_shared, as_cow, as_own, is_clients, is_programs, own_perm}
 use Rattle.lib_os.specs.StandsFor.{StandsFor, StandsForSlot, StandsForBorn, StandsAt, view_of}
 use Rattle.lib_os.specs.StandsInHandler.{IsInHandler, CopiesOrEnds, copies, ends, IsMappedTwice}
-use Rattle.lib_os.proofs.Logical.{is_plain, is_remapped, as_cow_alike, counted_remapped, plain_unremapped, clients_so}
+use Rattle.lib_os.proofs.Logical.{counted_made, is_making_pipe, is_plain, is_remapped, as_cow_alike, counted_remapped, plain_unremapped, clients_so}
 use Rattle.lib_os.proofs.Logical.{inside_programs, programs_beside, programs_no_descriptor, logical_live, logical_plain, logical_beside}
 use Rattle.lib_os.proofs.Serving.{words_of_none}
 use Rattle.lib_os.proofs.SlotsStand.{born_live}
@@ -35,7 +35,9 @@ pub record Counts (s : KernelState) (d p : ℕ) (x : Entry) : Type 0 where
   pub entry : Entry
   pub counts : logical s.spaces s.environments.slots slot page ≡ Some entry
   pub frame : entry.frame ≡ x.frame
-  pub sharing : is_shared entry.perm ≡ is_shared x.perm
+  pub own : is_shared x.perm ≡ false → is_shared entry.perm ≡ false
+  -- it is shared, or it is a page that service pipe makes, which counts as its maker's own
+  pub shared : is_shared x.perm ≡ true → (is_shared entry.perm ≡ true) ⊎ (entry.perm ≡ own_perm)
   pub here : is_plain (place_of (slot_at s slot)) ≡ true → (page ≡ p) × (entry ≡ x)
   pub itself : is_shared x.perm ≡ true → page ≡ p
 
@@ -69,7 +71,8 @@ born_counts {names = names} {s = s} {b = b} m not_first own p x is = by_page (p 
       entry = x;
       counts = counts;
       frame = refl;
-      sharing = refl;
+      own = λ own_page. own_page;
+      shared = λ shared_page. inl shared_page;
       here = λ plain. (refl, refl);
       itself = λ shared_page. refl;
     }
@@ -94,15 +97,17 @@ born_counts {names = names} {s = s} {b = b} m not_first own p x is = by_page (p 
           counts = logical_beside s.spaces s.environments.slots m client (page_number found.0) found.1
               (ap (λ (q : Place). is_remapped q (page_number found.0)) there) ∙ twice.here_is;
           frame = sym twice.frames ∙ ap (λ (e : Entry). e.frame) (sym copy);
-          sharing = twice.own_page ∙ sym (ap (λ (e : Entry). is_shared e.perm) copy ∙ twice.own_copy);
+          own = λ own_page. twice.own_page;
+          shared = λ shared_page. absurd
+              (let contradiction : true ≡ false = sym shared_page ∙ ap (λ (e : Entry). is_shared e.perm) copy ∙ twice.own_copy in cc);
           here = λ is_so. absurd (let contradiction : true ≡ false = sym is_so ∙ ap is_plain there ∙ plain in cc);
           itself = λ shared_page. absurd
               (let contradiction : true ≡ false = sym shared_page ∙ ap (λ (e : Entry). is_shared e.perm) copy ∙ twice.own_copy in cc);
         }
 
     -- the page that fork maps onto itself
-    twice_mapped : is_remapped (place_of (slot_at s m)) p ≡ true → Counts s (slot_at s m).directory p x
-    twice_mapped twice =
+    twice_mapped : is_remapped (place_of (slot_at s m)) p ≡ true → is_making_pipe (place_of (slot_at s m)) ≡ false → Counts s (slot_at s m).directory p x
+    twice_mapped twice unmade =
         let alike = as_cow_alike x in
         record {
           slot = m;
@@ -112,16 +117,40 @@ born_counts {names = names} {s = s} {b = b} m not_first own p x is = by_page (p 
           page = p;
           entry = as_cow x;
           counts = logical_live s.spaces s.environments.slots m client p
-              ∙ counted_remapped (place_of (slot_at s m)) (rows_of s.spaces (slot_at s m).directory) p twice
+              ∙ counted_remapped (place_of (slot_at s m)) (rows_of s.spaces (slot_at s m).directory) p twice unmade
               ∙ ap (λ (o : Option Entry). option_map as_cow o) is;
           frame = alike.0;
-          sharing = alike.1;
+          own = λ own_page. alike.1 ∙ own_page;
+          shared = λ shared_page. inl (alike.1 ∙ shared_page);
           here = λ is_so. absurd (let contradiction : true ≡ false = sym twice ∙ plain_unremapped (place_of (slot_at s m)) p is_so in cc);
           itself = λ shared_page. refl;
         }
 
+    -- a page that service pipe makes
+    made_own : is_remapped (place_of (slot_at s m)) p ≡ true → is_making_pipe (place_of (slot_at s m)) ≡ true → Counts s (slot_at s m).directory p x
+    made_own making is_so = record {
+      slot = m;
+      live = live;
+      client = client;
+      home = refl;
+      page = p;
+      entry = as_own x;
+      counts = logical_live s.spaces s.environments.slots m client p
+          ∙ counted_made (place_of (slot_at s m)) (rows_of s.spaces (slot_at s m).directory) p making is_so
+          ∙ ap (λ (o : Option Entry). option_map as_own o) is;
+      frame = refl;
+      own = λ own_page. refl;
+      shared = λ shared_page. inr refl;
+      here = λ plain. absurd (let contradiction : true ≡ false = sym making ∙ plain_unremapped (place_of (slot_at s m)) p plain in cc);
+      itself = λ shared_page. refl;
+    }
+
     by_step : p ≢ page_number PFTEMP → (c : Bool) → is_remapped (place_of (slot_at s m)) p ≡ c → Counts s (slot_at s m).directory p x
-    by_step ne true twice = twice_mapped twice
+    by_step ne true twice = by_making (is_making_pipe (place_of (slot_at s m))) refl
+      where
+        by_making : (t : Bool) → is_making_pipe (place_of (slot_at s m)) ≡ t → Counts s (slot_at s m).directory p x
+        by_making true making = made_own twice making
+        by_making false unmade = twice_mapped twice unmade
     by_step ne false other = itself (logical_beside s.spaces s.environments.slots m client p ne other ∙ is)
 
     by_page : (c : Bool) → (p == page_number PFTEMP) ≡ c → (t : Bool) → is_plain (place_of (slot_at s m)) ≡ t → Counts s (slot_at s m).directory p x
@@ -154,7 +183,8 @@ entry_counts {names = names} {s = s} {a = a} h d p x other is = by_entry (s.spac
           entry = x;
           counts = logical_plain s.spaces s.environments.slots m client (ap is_plain guest) p ∙ its_row;
           frame = refl;
-          sharing = refl;
+          own = λ own_page. own_page;
+          shared = λ shared_page. inl shared_page;
           here = λ plain. (refl, refl);
           itself = λ shared_page. refl;
         }

@@ -1,8 +1,9 @@
 -- What holds of all entries, pair by pair and one by one, where a byte is stored, where one entry is put in the place of
 -- another, and where one is removed.
-use Rattle.std.proofs.Common.{◌≡◌, ◌≢◌, ◌∙◌, ◌⊎◌, ◌==◌, inl, inr, ℕ, Bool, true, false, List, refl, sym, ap, subst, if◌then◌else◌}
+use Rattle.std.proofs.Common.{◌≡◌, ◌≢◌, ◌∙◌, ◌⊎◌, ◌==◌, inl, inr, ℕ, Bool, true, false, List, refl, sym, ap, subst, arith, if◌then◌else◌}
 use Rattle.std.specs.Prelude.{Option, Some, None}
 use Rattle.std.specs.Option.{option_map}
+use Rattle.std.proofs.lemmas.Bool.Decides.{nat_tests}
 use Rattle.std.proofs.lemmas.Option.{same_Some}
 use Rattle.jos_base.specs.Reach.{Entry}
 use Rattle.jos_base.specs.KernelState.{KernelState}
@@ -12,8 +13,9 @@ use Rattle.jos_base.specs.Words.{page_number}
 use Rattle.lib_os.specs.declared.numbers.TheConstants.{REQUEST}
 use Rattle.lib_os.specs.AbstractState.{AbstractState, own, named}
 use Rattle.lib_os.specs.DescriptorPages.{Things}
+use Rattle.lib_os.specs.Fence.{in_fence}
 use Rattle.lib_os.specs.Rows.{Names, Rows, rows_of, logical, page_by, page_seen, seen_where, shown_at, is_programs, is_shared, may_write, EntryRow}
-use Rattle.lib_os.specs.Rows.{Agree, AgreeWhereShared, IsNamed, AreNamed, AreBeside, AreUsers, IsUsers, AreWhole, IsPage, MayBeHad, ShowsBy, is_descriptor}
+use Rattle.lib_os.specs.Rows.{Agree, AgreeWhereShared, IsNamed, AreNamed, AreBeside, AreUsers, IsUsers, AreWhole, IsPage, MayBeHad, ShowsBy, is_of_descriptor, is_pipe_page}
 use Rattle.lib_os.specs.StandsFor.{StandsFor, things_in}
 use Rattle.lib_os.proofs.Logical.{programs_no_descriptor}
 use Rattle.lib_os.proofs.SlotsStand.{page_alike, option_map_alike}
@@ -75,7 +77,9 @@ pub named_bytes : {names : Names} {pages after shared : ℕ → List ℕ} {thing
 named_bytes {names = names} {shared = shared} {things = things} {f = f} same was = record {
   home = was.home;
   kind = was.kind;
-  shows = subst (λ (l : List ℕ). ShowsBy things (names.name f) f (names.is_object (names.name f)) (shared (names.name f)) l) same was.shows;
+  of_pipe = was.of_pipe;
+  shows = subst (λ (l : List ℕ). ShowsBy things (names.name f) f (names.is_object (names.name f)) (names.is_pipe (names.name f)) (shared (names.name f)) l)
+      same was.shows;
   old = was.old;
 }
 
@@ -88,12 +92,18 @@ page_kind {p = p} inside was = was.kind ∙ programs_no_descriptor p inside
 pub page_shows : {names : Names} {pages shared : ℕ → List ℕ} {things : Things} {next p f : ℕ} → is_programs p ≡ true →
     IsNamed names pages shared things next p f → shared (names.name f) ≡ pages f
 page_shows {names = names} {pages = pages} {shared = shared} {things = things} {f = f} inside was =
-    subst (λ (c : Bool). ShowsBy things (names.name f) f c (shared (names.name f)) (pages f)) (page_kind inside was) was.shows
+    subst (λ (c : Bool). ShowsBy things (names.name f) f c (names.is_pipe (names.name f)) (shared (names.name f)) (pages f)) (page_kind inside was) was.shows
 
 -- a name keeps its frame where it stands at another page of the same kind
-pub named_at : {names : Names} {pages shared : ℕ → List ℕ} {things : Things} {next p q f : ℕ} → is_descriptor q ≡ is_descriptor p →
-    IsNamed names pages shared things next p f → IsNamed names pages shared things next q f
-named_at same was = record { home = was.home; kind = was.kind ∙ sym same; shows = was.shows; old = was.old }
+pub named_at : {names : Names} {pages shared : ℕ → List ℕ} {things : Things} {next p q f : ℕ} → is_of_descriptor q ≡ is_of_descriptor p →
+    is_pipe_page q ≡ is_pipe_page p → IsNamed names pages shared things next p f → IsNamed names pages shared things next q f
+named_at same of_pipe was =
+    record { home = was.home; kind = was.kind ∙ sym same; of_pipe = was.of_pipe ∙ sym of_pipe; shows = was.shows; old = was.old }
+
+-- no page of a program is that of a pipe
+pub programs_no_pipe : (p : ℕ) → is_programs p ≡ true → is_pipe_page p ≡ false
+unfolding in_fence
+programs_no_pipe p inside = grind (arith, nat_tests)
 
 -- ---- all of it
 

@@ -33,6 +33,7 @@ use Rattle.lib_os.specs.UserCalls.{CallStep, gone, by_access, accessing}
 use Rattle.lib_os.proofs.BytesRead.{lasting_reads, lasting_writes}
 use Rattle.lib_os.proofs.EntryWords.{row_entry, row_missing}
 use Rattle.lib_os.proofs.EndsStand.{ended_stands}
+use Rattle.lib_os.proofs.PipesStand.{is_calm}
 use Rattle.lib_os.proofs.Removing.{destroyed_gone}
 use Rattle.lib_os.proofs.Slots.{slot_put}
 use Rattle.lib_os.proofs.SlotsStand.{born_at, born_live}
@@ -144,9 +145,9 @@ module _ {names : Names} {s : KernelState} {a : AbstractState} (h : StandsFor na
   same_line va ip = ap (λ (id : ℕ). line_text id (UserFault va ip)) (born_at h n b is).id
 
   -- and it is gone in both systems
-  pub fault_ended : borne_in (place_of (slot_at s n)) ≡ None → (va ip : ℕ) → IsInOrder (without_environment s n) →
+  pub fault_ended : borne_in (place_of (slot_at s n)) ≡ None → is_calm (place_of (slot_at s n)) ≡ true → s.last ≡ Some n → (va ip : ℕ) → IsInOrder (without_environment s n) →
       StandsFor names (without_environment s n) (ends_with a n b (line.UserFault va ip))
-  fault_ended unborne va ip order =
+  fault_ended unborne calm last va ip order =
       let used = directory_is (s.spaces.uses (slot_at s n).directory) (h.in_order.spaces.in_use n (born_live (born_at h n b is))) in
-      printed_stands (ended_stands h n b is unborne (destroyed_gone s.spaces (slot_at s n).directory h.in_order.frames used) order)
+      printed_stands (ended_stands h n b is unborne calm last (destroyed_gone s.spaces (slot_at s n).directory h.in_order.frames used) order)
       (line_text b.id (line.UserFault va ip))

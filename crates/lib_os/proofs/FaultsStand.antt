@@ -34,8 +34,9 @@ use Rattle.lib_os.specs.LibraryPages.{IsOwnWritable, HasFrame, frame_place, has_
 use Rattle.lib_os.specs.LibrarySteps.{copies_left, copy_steps, hidden_left, is_to_copy, left_at}
 use Rattle.lib_os.specs.Places.{handler_step_in, is_handlers, place_in_words, place_of}
 use Rattle.lib_os.specs.Rows.{EntryRow, IsPage, IsUsers, Names, Rows, descriptor_seen, is_programs, lasting, logical, page_seen, rows_of}
-use Rattle.lib_os.specs.Rows.{is_shared, seen_where, shown_at}
-use Rattle.lib_os.specs.StandsFor.{StandsFor, StandsForBorn, StandsAt, upcall_at, view_of, borne_in}
+use Rattle.lib_os.specs.Rows.{is_shared, pipe_page, seen_where, shown_at}
+use Rattle.lib_os.specs.PipeEnds.{is_made}
+use Rattle.lib_os.specs.StandsFor.{StandsFor, StandsForBorn, StandsAt, seen_unless, upcall_at, view_of, borne_in}
 use Rattle.lib_os.specs.StandsInHandler.{AreSmall, CopiesOrEnds, IsAtGuest, IsToCopy, copies, ends}
 use Rattle.lib_os.specs.StandsInHandler.{IsStoppedAt, marked, StandsBeneath, at_program, is_refused_by, is_write}
 use Rattle.lib_os.proofs.Beneath.{beneath_moved}
@@ -44,12 +45,13 @@ use Rattle.lib_os.proofs.EntriesCount.{own_lacked}
 use Rattle.lib_os.proofs.EntriesStand.{shown_same}
 use Rattle.lib_os.proofs.EntryWords.{row_entry}
 use Rattle.lib_os.proofs.Fences.{inside_below, inside_number}
-use Rattle.lib_os.proofs.LaidStand.{Laid, bytes_laid, laid_beside, laid_devices, laid_others, laid_rows, overlaid_at}
+use Rattle.lib_os.proofs.LaidStand.{Laid, bytes_laid, laid_beside, laid_devices, laid_locks, laid_others, laid_rows, overlaid_at}
 use Rattle.lib_os.proofs.Logical.{is_plain, is_remapped, plain_unborne, logical_beside}
 use Rattle.lib_os.proofs.PageBytes.{page_overlaid, words_bytes}
 use Rattle.lib_os.proofs.Serving.{library_moved, plain_copy, plain_upcall}
 use Rattle.lib_os.proofs.SlotsStand.{SameDevices, born_at, descriptors_off, library_alike, stopped_kept}
-use Rattle.lib_os.proofs.StatesStand.{clients_live, own_moves, plain_alike}
+use Rattle.lib_os.proofs.PipesStand.{PlacesAlike, calm_places, descriptors_turned, ends_moved, is_calm}
+use Rattle.lib_os.proofs.StatesStand.{clients_live, ends_at, others_counts, own_moves, plain_alike}
 use Rattle.lib_os.proofs.Touching.{touched_quiet}
 use Rattle.lib_os.proofs.Working.{words_work}
 use Rattle.lib_os.proofs.WordsTell.{is_in_handler, outside_stack}
@@ -110,7 +112,7 @@ module _ {names : Names} {s : KernelState} {a : AbstractState} (h : StandsFor na
     where
       by_step : (c : Bool) → is_remapped (place_of (slot_at s n)) (page_number UXSTACK) ≡ c →
           is_remapped (place_of (slot_at s n)) (page_number UXSTACK) ≡ false
-      by_step true twice = let below = (remapped names s a n b h at (page_number UXSTACK) twice).below in absurd (omega (arith, below))
+      by_step true twice = let below = (remapped names s a n b h at (page_number UXSTACK) refl twice).below in absurd (omega (arith, below))
       by_step false other = other
 
   stack_user : IsUsers stack_page.entry.perm
@@ -180,6 +182,10 @@ counted_stands h in_order = record {
   users = h.users;
   whole = h.whole;
   beside = h.beside;
+  ends = h.ends;
+  locks = h.locks;
+  runs = h.runs;
+  old = h.old;
   free_slots = h.free_slots;
   first = h.first;
   server = h.server;
@@ -214,7 +220,8 @@ module _ {names : Names} {s : KernelState} {a : AbstractState} (h : StandsFor na
 -- ---- one whose handler does not run, and whose entries count as they stand: it is at its program, or in a service
 
 module _ {names : Names} {s : KernelState} {a : AbstractState} (h : StandsFor names s a) (n : ℕ) (b : Born) (at : a.slots n ≡ born b)
-    (there : Place) (stands : place_of (slot_at s n) ≡ there) (apart : is_in_handler there ≡ false) (counts : is_plain there ≡ true) where
+    (there : Place) (stands : place_of (slot_at s n) ≡ there) (apart : is_in_handler there ≡ false) (counts : is_plain there ≡ true)
+    (calm : is_calm there ≡ true) where
   abbrev k : Slot
   k = slot_at s n
 
@@ -348,7 +355,9 @@ module _ {names : Names} {s : KernelState} {a : AbstractState} (h : StandsFor na
             env_type = own.env_type;
             runs = own.runs;
             upcall = upcall_is ∙ sym (ap upcall_at entered);
-            descriptors = λ fd. own.descriptors fd ∙ sym (descriptors_kept fd);
+            descriptors = descriptors_turned names sp d (place_of k) (place_of (entered_slot k)) b.descriptors (ap is_calm stands ∙ calm)
+                (ap is_calm entered)
+                (λ fd still. own.descriptors fd still ∙ ap (λ (o : Option ℕ). seen_unless (is_made (place_of k) fd) o) (sym (descriptors_kept fd)));
             memory = λ q. own.memory q ∙ sym (seen_kept q);
             library = library_alike (place_of (entered_slot k)) k.extra (rows_of s.spaces d) (rows_of sp d) row_kept
                 (library_moved (place_of k) (place_of (entered_slot k)) k.extra k.extra (rows_of s.spaces d)
@@ -368,11 +377,14 @@ module _ {names : Names} {s : KernelState} {a : AbstractState} (h : StandsFor na
             });
           }
 
-      handed_stands : IsInOrder after → StandsFor names after (with_born a n (record b { phase = phase }))
-      handed_stands in_order =
+      alike : PlacesAlike (place_of k) (place_of (entered_slot k))
+      alike = calm_places (ap is_calm stands ∙ calm) (ap is_calm (entered_place k))
+
+      handed_stands : IsInOrder after → s.last ≡ Some n → StandsFor names after (with_born a n (record b { phase = phase }))
+      handed_stands in_order last =
           counted_stands
           (own_moves h n b at sp (entered_slot k) (record b { phase = phase }) a.shared a.next_name refl
-          (record { id = refl; env_type = refl; calm = λ runs. runs }) (plain_unborne (place_of k) plain) (ap borne_in (entered_place k))
+          (record { id = refl; env_type = refl; turns = refl; calm = λ runs. runs }) (plain_unborne (place_of k) plain) (ap borne_in (entered_place k))
           (laid_others h n b at plain (page_number UXSTACK) (stack_page h n b at).entry (stack_page h n b at).stands (stack_page h n b at).own_page
           (stack_page h n b at).writes bytes laid
           (own_lacked h n (page_number UXSTACK) (stack_page h n b at).entry (stack_counts h n b at) (λ same. absurd (omega (arith, same)))
@@ -380,15 +392,21 @@ module _ {names : Names} {s : KernelState} {a : AbstractState} (h : StandsFor na
           (laid_rows h n b at plain (page_number UXSTACK) (stack_page h n b at).entry (stack_page h n b at).stands (stack_page h n b at).own_page
           (stack_page h n b at).writes bytes laid is_page (entered_slot k) refl refl
           (plain_alike (place_of k) (place_of (entered_slot k)) plain (ap is_plain (entered_place k))))
-          (record { frames = in_order.frames; spaces = in_order.spaces })) in_order
+          (record { frames = in_order.frames; spaces = in_order.spaces }) (others_counts h n last sp)
+          (ends_moved alike (λ fd. refl) (λ fd name is. refl) (λ fd below. ap (λ (row : EntryRow). row (pipe_page fd)) row_kept) (λ fd x below is. refl)
+          (ends_at h n b at))
+          (laid_locks h n b at plain (page_number UXSTACK) (stack_page h n b at).entry (stack_page h n b at).stands (stack_page h n b at).own_page
+          (stack_page h n b at).writes bytes laid (entered_slot k) refl refl
+          (plain_alike (place_of k) (place_of (entered_slot k)) plain (ap is_plain (entered_place k))) alike.locked) (omega arith)
+          (λ fd name names_it. h.old n fd name b at names_it)) in_order
 
     same : with_born a n b ≡ a
     same = λ i. record a { slots = λ q. upd-stays a.slots n (born b) (sym at) q i }
 
     -- the page waits to be copied
     pub fault_copies : AreSmall k.registers → is_inside fault.va ≡ true → fault.error ≡ FEC_U + FEC_PR + FEC_WR →
-        IsToCopy (rows_of s.spaces d) fault.va → StandsBeneath (view_of s.spaces d) k b → IsInOrder after → StandsFor names after a
-    fault_copies small inside error waits beneath in_order =
+        IsToCopy (rows_of s.spaces d) fault.va → StandsBeneath (view_of s.spaces d) k b → IsInOrder after → s.last ≡ Some n → StandsFor names after a
+    fault_copies small inside error waits beneath in_order last =
         let below = inside_below fault.va inside in
         subst (λ (x : AbstractState). StandsFor names after x) same
         (handed_stands small (omega (arith, below)) (omega (arith, error)) b.phase (copies (record {
@@ -398,13 +416,14 @@ module _ {names : Names} {s : KernelState} {a : AbstractState} (h : StandsFor na
           error = error;
           inside = inside;
           at = subst (λ (row : EntryRow). IsToCopy row fault.va) (sym row_kept) waits;
-        })) in_order)
+        })) in_order last)
 
     -- or it has refused the access, before which a service stands
     pub fault_stops : AreSmall k.registers → is_inside fault.va ≡ true → fault.error < 2 ^ 32 → IsRefusal (rows_of s.spaces d) fault →
         (eax : ℕ) → b.program ≡ guest (record k.registers { eax = eax }) → k.rendezvous.receiving ≡ false → b.blocked ≡ false →
-        IsStoppedAt (is_write fault.error) (view_of s.spaces d) b fault.va k.registers.eip → IsInOrder after → StandsFor names after a
-    fault_stops small inside error refusal eax program silent awake stopped in_order =
+        IsStoppedAt (is_write fault.error) (view_of s.spaces d) b fault.va k.registers.eip → IsInOrder after → s.last ≡ Some n →
+        StandsFor names after a
+    fault_stops small inside error refusal eax program silent awake stopped in_order last =
         let below = inside_below fault.va inside in
         let refused : IsRefusal (rows_of sp d) fault = subst (λ (row : EntryRow). IsRefusal row fault) (sym row_kept) refusal in
         subst (λ (x : AbstractState). StandsFor names after x) same
@@ -419,12 +438,12 @@ module _ {names : Names} {s : KernelState} {a : AbstractState} (h : StandsFor na
           refused = refused.refused;
           present = refused.present;
           at = tt;
-        })) in_order)
+        })) in_order last)
 
     -- or that of the program, which is marked
     pub fault_ends : IsAtGuest k b → AreSmall k.registers → is_inside fault.va ≡ true → fault.error < 2 ^ 32 → IsRefusal (rows_of s.spaces d) fault →
-        IsInOrder after → StandsFor names after (with_born a n (record b { phase = faulted fault.va k.registers.eip }))
-    fault_ends guest_is small inside error refusal in_order =
+        IsInOrder after → s.last ≡ Some n → StandsFor names after (with_born a n (record b { phase = faulted fault.va k.registers.eip }))
+    fault_ends guest_is small inside error refusal in_order last =
         let below = inside_below fault.va inside in
         let refused : IsRefusal (rows_of sp d) fault = subst (λ (row : EntryRow). IsRefusal row fault) (sym row_kept) refusal in
         handed_stands small (omega (arith, below)) error (faulted fault.va k.registers.eip) (ends (record {
@@ -437,7 +456,7 @@ module _ {names : Names} {s : KernelState} {a : AbstractState} (h : StandsFor na
           refused = refused.refused;
           present = refused.present;
           at = tt;
-        })) in_order
+        })) in_order last
 
     -- as many pages wait as before
     pub fault_copies_left : copies_left (rows_of after.spaces d) ≡ copies_left (rows_of s.spaces d)

@@ -39,6 +39,7 @@ use Rattle.lib_os.proofs.Logical.{is_plain, logical_plain}
 use Rattle.lib_os.proofs.Numbered.{number_of}
 use Rattle.lib_os.proofs.PageBytes.{bytes_drop, bytes_take}
 use Rattle.lib_os.proofs.PageWords.{load_page_word, page_byte, page_reached}
+use Rattle.lib_os.proofs.PipesStand.{is_calm_step}
 use Rattle.lib_os.proofs.Serving.{IsServed, served}
 use Rattle.lib_os.proofs.StatesStand.{clients_live}
 use Rattle.lib_os.proofs.Touching.{touched_quiet}
@@ -56,7 +57,7 @@ module _ (s : KernelState) (n va : ℕ) (row : Entry) (stands : rows_of s.spaces
       let e = row_entry s.spaces (slot_at s n).directory (page_number va) row stands in
       (uses.within (slot_at s n).directory (page_number va) e.0 e.1).1
 
-  load_page_byte : load_byte s n va ≡ read_at s n va (slice_index (s.spaces.pages row.frame) (page_offset va))
+  pub load_page_byte : load_byte s n va ≡ read_at s n va (slice_index (s.spaces.pages row.frame) (page_offset va))
   unfolding load_byte
   load_page_byte =
       let quiet = touched_quiet s.spaces (slot_at s n).directory va Read in
@@ -244,11 +245,12 @@ module _ {names : Names} {s : KernelState} {a : AbstractState} (h : StandsFor na
           let fewer = has.fewer in
           sym (has.kept.same (done - done % 4 + i) (omega (arith, within, four, fewer, lt)))
 
-  loads_goes : keeps_request from ≡ true → (va : ℕ) → IsInOrder (loaded s n va) → (to : Step) → keeps_request to ≡ true →
+  loads_goes : keeps_request from ≡ true → is_calm_step from ≡ true → (va : ℕ) → IsInOrder (loaded s n va) → (to : Step) →
+      keeps_request to ≡ true → is_calm_step to ≡ true →
       StandsAtStep space (record (slot_at s n) { extra = words_at (number_of call) to }) v.b call to →
       StandsFor names (with_extra (loaded s n va) n (words_at (number_of call) to)) a
-  loads_goes held va order to keeps so =
-      read_goes_on h n call from v (handing_unborne call has.hands from) va order to (handing_unborne call has.hands to)
+  loads_goes held calm va order to keeps calm_to so =
+      read_goes_on h n call from v (handing_unborne call has.hands from) calm va order to (handing_unborne call has.hands to) calm_to
       (handing_held call has.hands from held ∙ sym (handing_held call has.hands to keeps)) so
 
 -- ---- it loads the next bytes
@@ -293,7 +295,7 @@ module _ {names : Names} {s : KernelState} {a : AbstractState} (h : StandsFor na
         StandsFor names (with_extra (loaded s n va) n (words_at (number_of call) (step.PuttingBytes done count (word_at (slice_index loading_page) done)))) a
     loads_word four =
         let to : Step = step.PuttingBytes done count (word_at (slice_index loading_page) done) in
-        loads_goes h n call from done count v has refl va order to refl (record {
+        loads_goes h n call from done count v has refl refl va order to refl refl (record {
           has = bytes_with (view_of s.spaces (slot_at s n).directory) (slot_at s n) v.b (words_at (number_of call) to) call done count has;
           allowed = it.allowed;
           word_is = word_taken h n call from done count v has four;
@@ -303,7 +305,7 @@ module _ {names : Names} {s : KernelState} {a : AbstractState} (h : StandsFor na
         StandsFor names (with_extra (loaded s n va) n (words_at (number_of call) (step.PuttingBytes done count (slice_index loading_page done)))) a
     loads_byte one =
         let to : Step = step.PuttingBytes done count (slice_index loading_page done) in
-        loads_goes h n call from done count v has refl va order to refl (record {
+        loads_goes h n call from done count v has refl refl va order to refl refl (record {
           has = bytes_with (view_of s.spaces (slot_at s n).directory) (slot_at s n) v.b (words_at (number_of call) to) call done count has;
           allowed = it.allowed;
           word_is = byte_taken h n call from done count v has one;
@@ -315,7 +317,7 @@ module _ {names : Names} {s : KernelState} {a : AbstractState} (h : StandsFor na
         (words_at (number_of call) (step.LoadingRest done count (word_at (slice_index loading_page) (done - done % 4))))) a
     loads_first four apart =
         let to : Step = step.LoadingRest done count (word_at (slice_index loading_page) (done - done % 4)) in
-        loads_goes h n call from done count v has refl va order to refl (record {
+        loads_goes h n call from done count v has refl refl va order to refl refl (record {
           has = bytes_with (view_of s.spaces (slot_at s n).directory) (slot_at s n) v.b (words_at (number_of call) to) call done count has;
           allowed = it.allowed;
           whole = four;
@@ -367,7 +369,7 @@ module _ {names : Names} {s : KernelState} {a : AbstractState} (h : StandsFor na
       let word_is : word ≡ word_at (slice_index rest_page) done =
       ap (λ (f : ℕ). joined (done % 4) f (word_at (slice_index rest_page) (done - done % 4 + 4))) first_there
       ∙ joined_is rest_page (whole h n call at done count w so).small done in
-      loads_goes h n call at done count w so refl va order to refl (record {
+      loads_goes h n call at done count w so refl refl va order to refl refl (record {
         has = bytes_with (view_of s.spaces (slot_at s n).directory) (slot_at s n) w.b (words_at (number_of call) to) call done count so;
         allowed = rest_it.allowed;
         word_is = subst (λ (x : ℕ). take (put_at_once call done count) (to_le_bytes w32 x)

@@ -29,6 +29,7 @@ use Rattle.lib_os.proofs.DescriptorLooks.{read_goes_on}
 use Rattle.lib_os.proofs.EntryWords.{region_told}
 use Rattle.lib_os.proofs.Loading.{loaded}
 use Rattle.lib_os.proofs.Numbered.{number_of}
+use Rattle.lib_os.proofs.PipesStand.{is_calm_step}
 use Rattle.lib_os.proofs.Serving.{IsServed, holds_page, served}
 use Rattle.lib_os.proofs.WindowWords.{read_at}
 
@@ -51,9 +52,10 @@ bytes_with v k b words s done count h = record {
   hands = h.hands;
   regs = h.regs;
   program = h.program;
+  eax = h.eax;
   registers = h.registers;
   bytes = h.bytes;
-  phase = h.phase;
+  hands_at = h.hands_at;
   many = h.many;
   fewer = h.fewer;
   most = h.most;
@@ -87,12 +89,12 @@ module _ (s : KernelState) (n : ℕ) (call : Service) (done count : ℕ) where
         (sym (next_small (buffer_of call + done) inside)) (region_given h n v.b v.is (buffer_of call + done) inside)
 
     module _ (order : IsInOrder (loaded s n (buffer_region_va call done))) where
-      region_goes : (to : Step) → keeps_request to ≡ true →
+      region_goes : (to : Step) → keeps_request to ≡ true → is_calm_step to ≡ true →
           StandsAtStep space (record (slot_at s n) { extra = words_at (number_of call) to }) v.b call to →
           StandsFor names (with_extra (loaded s n (buffer_region_va call done)) n (words_at (number_of call) to)) a
-      region_goes to keeps so =
-          read_goes_on h n call (step.FileRegion done count) v (handing_unborne call it.hands (step.FileRegion done count)) (buffer_region_va call done)
-          order to (handing_unborne call it.hands to)
+      region_goes to keeps calm so =
+          read_goes_on h n call (step.FileRegion done count) v (handing_unborne call it.hands (step.FileRegion done count)) refl
+          (buffer_region_va call done) order to (handing_unborne call it.hands to) calm
           (handing_held call it.hands (step.FileRegion done count) refl ∙ sym (handing_held call it.hands to keeps)) so
 
       -- it has one: the page's entry is looked at
@@ -101,7 +103,7 @@ module _ (s : KernelState) (n : ℕ) (call : Service) (done count : ℕ) where
       file_region_found told =
           let there : is_some (s.spaces.regions (slot_at s n).directory (region_index (buffer_of call + done))) ≡ true =
           sym (region_told (s.spaces.regions (slot_at s n).directory (region_index (buffer_of call + done)))) ∙ told in
-          region_goes (step.FileEntry done count) refl
+          region_goes (step.FileEntry done count) refl refl
           (bytes_with space (slot_at s n) v.b (words_at (number_of call) (step.FileEntry done count)) call done count it, there)
 
       -- it has none, so that no page is there
@@ -112,7 +114,7 @@ module _ (s : KernelState) (n : ℕ) (call : Service) (done count : ℕ) where
           sym (region_told (s.spaces.regions (slot_at s n).directory (region_index (buffer_of call + done)))) ∙ told in
           let refused : refuses_next space.row call done ≡ true =
           ap (is_refused_by (writes_buffer call)) (table_none h n v.b v.is (buffer_of call + done) inside none) in
-          region_goes (step.FileFaulting done count) refl
+          region_goes (step.FileFaulting done count) refl refl
           (bytes_with space (slot_at s n) v.b (words_at (number_of call) (step.FileFaulting done count)) call done count it, refused)
 
   -- ---- whether the page allows the byte
@@ -138,19 +140,19 @@ module _ (s : KernelState) (n : ℕ) (call : Service) (done count : ℕ) where
     refusal_is = entry_told h n w.b w.is (buffer_of call + done) entry_inside true
 
     module _ (order : IsInOrder (loaded s n (buffer_entry_va call done))) where
-      entry_goes : (to : Step) → keeps_request to ≡ true →
+      entry_goes : (to : Step) → keeps_request to ≡ true → is_calm_step to ≡ true →
           StandsAtStep space (record (slot_at s n) { extra = words_at (number_of call) to }) w.b call to →
           StandsFor names (with_extra (loaded s n (buffer_entry_va call done)) n (words_at (number_of call) to)) a
-      entry_goes to keeps so =
-          read_goes_on h n call (step.FileEntry done count) w (handing_unborne call has.hands (step.FileEntry done count)) (buffer_entry_va call done)
-          order to (handing_unborne call has.hands to)
+      entry_goes to keeps calm so =
+          read_goes_on h n call (step.FileEntry done count) w (handing_unborne call has.hands (step.FileEntry done count)) refl
+          (buffer_entry_va call done) order to (handing_unborne call has.hands to) calm
           (handing_held call has.hands (step.FileEntry done count) refl ∙ sym (handing_held call has.hands to keeps)) so
 
       -- it does: the bytes are loaded
       pub file_entry_allows : tells_allowed true (buffer_entry_word s n call done) ≡ true →
           StandsFor names (with_extra (loaded s n (buffer_entry_va call done)) n (words_at (number_of call) (step.LoadingBytes done count))) a
       file_entry_allows told =
-          entry_goes (step.LoadingBytes done count) refl (record {
+          entry_goes (step.LoadingBytes done count) refl refl (record {
             has = bytes_with space (slot_at s n) w.b (words_at (number_of call) (step.LoadingBytes done count)) call done count has;
             allowed = refusal_is ∙ ap not told;
           })
@@ -159,7 +161,7 @@ module _ (s : KernelState) (n : ℕ) (call : Service) (done count : ℕ) where
       pub file_entry_refuses : tells_allowed true (buffer_entry_word s n call done) ≡ false →
           StandsFor names (with_extra (loaded s n (buffer_entry_va call done)) n (words_at (number_of call) (step.FileFaulting done count))) a
       file_entry_refuses told =
-          entry_goes (step.FileFaulting done count) refl (
+          entry_goes (step.FileFaulting done count) refl refl (
             bytes_with space (slot_at s n) w.b (words_at (number_of call) (step.FileFaulting done count)) call done count has,
             ap (λ (t : Bool). is_refused_by t (space.row (next_page call done))) (handing_writes call has.hands) ∙ refusal_is ∙ ap not told,
           )

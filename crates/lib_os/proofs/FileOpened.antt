@@ -27,14 +27,16 @@ use Rattle.lib_os.specs.Rows.{Names}
 use Rattle.lib_os.specs.StandsFor.{IsOfFile, StandsFor, borne_in, view_of}
 use Rattle.lib_os.specs.StandsInHandler.{wanted_of}
 use Rattle.lib_os.specs.UserCalls.{load}
-use Rattle.lib_os.proofs.DescriptorLooks.{read_goes_on}
+use Rattle.lib_os.proofs.DescriptorLooks.{read_goes_on, seen_calm}
 use Rattle.lib_os.proofs.DeviceLooks.{NamesFile, device_answers, device_file, device_goes_on, device_is_file, device_va, device_word, look_answers}
 use Rattle.lib_os.proofs.DeviceLooks.{names_file, reading_device, word_there}
 use Rattle.lib_os.proofs.FileAsks.{of_file_moved}
 use Rattle.lib_os.proofs.FileReads.{mode_va, told_at, told_word}
 use Rattle.lib_os.proofs.GoingOn.{in_with_words}
 use Rattle.lib_os.proofs.Loading.{loaded}
+use Rattle.lib_os.proofs.Logical.{is_making_pipe}
 use Rattle.lib_os.proofs.Numbered.{number_of}
+use Rattle.lib_os.proofs.PipesStand.{is_calm}
 use Rattle.lib_os.proofs.Serving.{IsServed, served}
 use Rattle.lib_os.proofs.WindowWords.{read_at}
 
@@ -70,7 +72,7 @@ module _ (s : KernelState) (n fd : ℕ) {names : Names} {a : AbstractState} (h :
         StandsFor names (with_extra (loaded s n (device_va fd)) n (words_at (number_of (service.Read fd va len)) step.ReadingMode)) a
     read_finds_file =
         let reading = reading_device s n read fd refl stands h in
-        device_goes_on s n read fd refl stands h order step.ReadingMode refl (record {
+        device_goes_on s n read fd refl stands h order step.ReadingMode refl refl (record {
           is_in = in_with_words (words_at (number_of read) step.ReadingMode) reading.is_in;
           below = reading.below;
           file = device_is_file s n read fd refl stands h word;
@@ -90,7 +92,7 @@ module _ (s : KernelState) (n fd : ℕ) {names : Names} {a : AbstractState} (h :
         StandsFor names (with_extra (loaded s n (device_va fd)) n (words_at (number_of (service.Stat fd va)) step.TakingPage)) a
     stat_finds_file inside =
         let reading = reading_device s n stat fd refl stands h in
-        device_goes_on s n stat fd refl stands h order step.TakingPage refl (record {
+        device_goes_on s n stat fd refl stands h order step.TakingPage refl refl (record {
           stage = entered;
           of_file = record {
             is_in = in_with_words (words_at (number_of stat) step.TakingPage) reading.is_in;
@@ -122,11 +124,12 @@ module _ (s : KernelState) (n fd va len : ℕ) (stands : place_of (slot_at s n) 
 
   pub read_mode_gives : load s n (mode_va fd) ≡ read_at s n (mode_va fd) (told_word s n fd FD_MODE)
   read_mode_gives =
-      word_there h n v.b v.is (ap borne_in stands) fd it.below it.file.entry it.file.stands FD_MODE refl (omega arith)
+      word_there h n v.b v.is (ap borne_in stands) (ap is_making_pipe stands) (seen_calm h n v.b v.is (ap is_calm stands)) fd it.below
+      it.file.entry it.file.stands FD_MODE refl (omega arith)
       ∙ ap (read_at s n (mode_va fd)) (sym mode_is)
 
   named : NamesFile s a v.b fd it.file.entry
-  named = names_file h n v.b v.is (ap borne_in stands) fd it.below it.file
+  named = names_file h n v.b v.is (ap borne_in stands) (ap is_making_pipe stands) (seen_calm h n v.b v.is (ap is_calm stands)) fd it.below it.file
 
   object : object_of a v.b fd ≡ Some (file named.f)
   object = ap (option_map a.objects) named.named ∙ ap (λ (o : Object). Some o) named.is
@@ -134,19 +137,19 @@ module _ (s : KernelState) (n fd va len : ℕ) (stands : place_of (slot_at s n) 
   module _ (order : IsInOrder (loaded s n (mode_va fd))) where
     pub read_mode_refuses : told_word s n fd FD_MODE ≡ 1 → GoesOn n (service_answered (loaded s n (mode_va fd)) n (negated E_INVAL)) a []
     read_mode_refuses one =
-        look_answers h n call step.ReadingMode v refl refl (mode_va fd) order it.is_in (negated E_INVAL)
+        look_answers h n call step.ReadingMode v refl refl refl (mode_va fd) order it.is_in (negated E_INVAL)
         (read_for_writing fd va len named.f (sym named.told.mode ∙ sym mode_is ∙ one) a n v.b (slot_at s n).registers object)
 
     pub read_buffer_outside : told_word s n fd FD_MODE ≢ 1 → is_buffer va (wanted_of len) ≡ false →
         GoesOn n (service_answered (loaded s n (mode_va fd)) n (negated E_INVAL)) a []
     read_buffer_outside mode outside =
-        look_answers h n call step.ReadingMode v refl refl (mode_va fd) order it.is_in (negated E_INVAL)
+        look_answers h n call step.ReadingMode v refl refl refl (mode_va fd) order it.is_in (negated E_INVAL)
         (read_outside fd va len named.f (λ one. mode (mode_is ∙ named.told.mode ∙ one)) outside a n v.b (slot_at s n).registers object)
 
     pub read_mode_goes_on : told_word s n fd FD_MODE ≢ 1 → is_buffer va (wanted_of len) ≡ true →
         StandsFor names (with_extra (loaded s n (mode_va fd)) n (words_at (number_of (service.Read fd va len)) step.TakingPage)) a
     read_mode_goes_on mode inside =
-        read_goes_on h n call step.ReadingMode v refl (mode_va fd) order step.TakingPage refl refl (record {
+        read_goes_on h n call step.ReadingMode v refl refl (mode_va fd) order step.TakingPage refl refl refl (record {
           stage = entered;
           of_file = of_file_moved space (slot_at s n) v.b (words_at (number_of call) step.TakingPage) call fd it;
           allowed = ((λ one. mode (mode_is ∙ one)), inside);

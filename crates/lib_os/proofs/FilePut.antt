@@ -1,6 +1,6 @@
 -- The bytes of a file that read and stat put into their buffer, a word or a byte at once, where the kernel lets them: the state stands for that of
 -- the abstract system in which they are stored, and the service for its next step; behind the last of them the abstract system has answered.
-use Rattle.std.proofs.Common.{◌≡◌, ◌∙◌, ◌+◌, ◌-◌, ◌%◌, ◌^◌, ◌<◌, ◌≤◌, ℕ, zero, suc, Bool, true, false, List, [], ◌∷◌, length}
+use Rattle.std.proofs.Common.{◌≡◌, ◌∙◌, ◌+◌, ◌-◌, ◌%◌, ◌^◌, ◌<◌, ◌≤◌, ℕ, suc, Bool, true, false, List, [], ◌∷◌, length}
 use Rattle.std.proofs.Common.{refl, sym, ap, subst, arith}
 use Rattle.std.proofs.lemmas.Bool.{false≢true}
 use Rattle.std.proofs.lemmas.List.{drop-drop, length-drop, length-take-le}
@@ -32,9 +32,8 @@ use Rattle.lib_os.specs.LibraryCall.{library_step}
 use Rattle.lib_os.specs.LibraryPages.{View, has_copy, has_working, keeps_request}
 use Rattle.lib_os.specs.Places.{place_of, words_at}
 use Rattle.lib_os.specs.Rows.{AreBytes, Names, Rows, lasting, rows_of}
-use Rattle.lib_os.specs.StandsFor.{IsStatusFor, StandsAt, StandsAtStep, StandsFor, StandsForBorn, borne_in, upcall_at, view_of}
-use Rattle.lib_os.specs.StandsInHandler.{HasBytes, IsPuttingBytes, answer_behind, buffer_of, hands_back, put_at_once}
-use Rattle.lib_os.specs.StandsInHandler.{stage_behind}
+use Rattle.lib_os.specs.StandsFor.{IsStatusFor, StandsAt, StandsAtStep, StandsFor, StandsForBorn, borne_in, goes_back, upcall_at, view_of}
+use Rattle.lib_os.specs.StandsInHandler.{HandsAt, HasBytes, IsPuttingBytes, answer_behind, behind, buffer_of, by_reply, hands_back, put_at_once}
 use Rattle.lib_os.specs.UserCalls.{accessing, giving, store, store_byte, with_bytes_put, with_user_byte, with_user_word}
 use Rattle.lib_os.proofs.Beneath.{bytes_inside, handing_plain, handing_unborne}
 use Rattle.lib_os.proofs.BufferAccesses.{IsMoved, entry_lets, moved_is, reached_order, stage_stands}
@@ -44,11 +43,12 @@ use Rattle.lib_os.proofs.BytesRead.{lasting_reads, lasting_writes, user_entry_wr
 use Rattle.lib_os.proofs.EntryWords.{row_entry}
 use Rattle.lib_os.proofs.Fences.{buffer_below, buffer_each, inside_number}
 use Rattle.lib_os.proofs.FileLooks.{handing_held}
-use Rattle.lib_os.proofs.Logical.{inside_programs, is_plain}
+use Rattle.lib_os.proofs.Logical.{inside_programs, is_making_pipe, is_plain}
 use Rattle.lib_os.proofs.Numbered.{named_at, number_of}
 use Rattle.lib_os.proofs.PageBytes.{bytes_drop, bytes_take}
+use Rattle.lib_os.proofs.PipesStand.{calm_places, calm_unmade, descriptors_turned, is_calm, is_calm_step}
 use Rattle.lib_os.proofs.Serving.{IsServed, holds_page, library_moved, plain_working, served, service_step}
-use Rattle.lib_os.proofs.SlotsStand.{born_at}
+use Rattle.lib_os.proofs.SlotsStand.{born_at, is_piped}
 use Rattle.lib_os.proofs.StatesStand.{quiet_stands, slot_changed}
 use Rattle.lib_os.proofs.Touching.{touched_quiet}
 use Rattle.lib_os.proofs.WordsTell.{is_in_handler, outside_stack, place_at}
@@ -56,7 +56,9 @@ use Rattle.lib_os.proofs.WordsTell.{is_in_handler, outside_stack, place_at}
 -- ---- bytes are put at an address, and the page there may be written
 
 module _ {names : Names} {s : KernelState} {a : AbstractState} (h : StandsFor names s a) (n : ℕ) (b : Born) (is : a.slots n ≡ born b)
-    (outside : is_in_handler (place_of (slot_at s n)) ≡ false) (unborne : borne_in (place_of (slot_at s n)) ≡ None) (at : ℕ) (bytes : List ℕ)
+    (outside : is_in_handler (place_of (slot_at s n)) ≡ false) (unborne : borne_in (place_of (slot_at s n)) ≡ None)
+    (unmade : is_making_pipe (place_of (slot_at s n)) ≡ false) (off : is_piped (place_of (slot_at s n)) ≡ false)
+    (at : ℕ) (bytes : List ℕ)
     (some : 0 < length bytes) (inside : is_buffer at (length bytes) ≡ true) (small : AreBytes bytes)
     (on : is_allowed s.spaces (slot_at s n).directory at Write ≡ true) where
   abbrev home : ℕ
@@ -120,11 +122,12 @@ module _ {names : Names} {s : KernelState} {a : AbstractState} (h : StandsFor na
   abbrev pub file_putting : KernelState
   file_putting = with_spaces s file_put_spaces
 
-  pub file_put : IsPut names touched_state file_put_spaces a (all_stored a n at first_bytes) n b
-  file_put = put_stands first_bytes touched_state a touched_stands n b is outside unborne (page_number at) at (bytes_take at_once bytes small) touched_lets
+  pub file_put : s.last ≡ Some n → IsPut names touched_state file_put_spaces a (all_stored a n at first_bytes) n b
+  file_put last = put_stands first_bytes touched_state a touched_stands n b is outside unborne unmade off last (page_number at) at (bytes_take at_once
+      bytes small) touched_lets
 
-  pub file_put_row : rows_of file_put_spaces home ≡ rows_of s.spaces home
-  file_put_row = ap (λ (rows : Rows). rows home) (file_put.rows ∙ (touched_quiet s.spaces home at Write).rows)
+  pub file_put_row : s.last ≡ Some n → rows_of file_put_spaces home ≡ rows_of s.spaces home
+  file_put_row last = ap (λ (rows : Rows). rows home) ((file_put last).rows ∙ (touched_quiet s.spaces home at Write).rows)
 
   -- a word, where four bytes are put
   pub file_word_put : (word : ℕ) → to_le_bytes w32 word ≡ take (moved_at_once at (length bytes)) bytes → store s n at word ≡ giving file_putting tt
@@ -144,49 +147,66 @@ module _ {names : Names} {s : KernelState} {a : AbstractState} (h : StandsFor na
 
 -- ---- the stages
 
--- behind the first bytes it is at the stage that tells those that are left
-stage_some : (va : ℕ) (bytes : List ℕ) (answer done : ℕ) → 0 < done → stage_behind va bytes answer done ≡ delivering (va + done) (drop done bytes) answer
-stage_some va bytes answer zero some = absurd (omega (arith, some))
-stage_some va bytes answer (suc n) some = refl
-
 -- a stage tells the bytes that are left
 bytes_at : Phase → List ℕ
 bytes_at (in_service s (replied bytes answer)) = bytes
 bytes_at (in_service s (delivering at bytes answer)) = bytes
 bytes_at _ = []
 
-left_at_stage : (s : Service) (va : ℕ) (bytes : List ℕ) (answer done : ℕ) → bytes_at (in_service s (stage_behind va bytes answer done)) ≡ drop done bytes
+left_at_stage : {s : Service} (bytes : List ℕ) (answer done : ℕ) (q : Phase) → HandsAt s bytes answer done q → bytes_at q ≡ drop done bytes
 unfolding bytes_at
-left_at_stage s va bytes answer zero = refl
-left_at_stage s va bytes answer (suc n) = refl
+left_at_stage bytes answer _ _ by_reply = refl
+left_at_stage bytes answer _ _ (behind done) = refl
 
 -- what the abstract system does at it
-handing_step : (a : AbstractState) (n : ℕ) (b : Born) (regs : Regs) (call : Service) → hands_back call ≡ true → (bytes : List ℕ) (answer done : ℕ) →
-    0 < length (drop done bytes) →
-    library_step a n b regs call (stage_behind (buffer_of call) bytes answer done)
-    ≡ Some (bytes_delivered a n b regs call (buffer_of call + done) (drop done bytes) answer)
+replied_step : (a : AbstractState) (n : ℕ) (b : Born) (regs : Regs) (call : Service) → hands_back call ≡ true → (bytes : List ℕ) (answer : ℕ) →
+    0 < length bytes →
+    library_step a n b regs call (replied bytes answer) ≡ Some (bytes_delivered a n b regs call (buffer_of call + 0) bytes answer)
 unfolding library_step
-handing_step a n b regs (service.Read fd va len) hands [] answer zero some = absurd (omega (arith, some))
-handing_step a n b regs (service.Read fd va len) hands (byte ∷ rest) answer zero some =
+replied_step a n b regs (service.Read fd va len) hands [] answer some = absurd (omega (arith, some))
+replied_step a n b regs (service.Read fd va len) hands (byte ∷ rest) answer some =
     let none : va ≡ va + 0 = omega arith in
     ap (λ (at : ℕ). Some (bytes_delivered a n b regs (service.Read fd va len) at (byte ∷ rest) answer)) none
-handing_step a n b regs (service.Read fd va len) hands bytes answer (suc m) some = refl
-handing_step a n b regs (service.Stat fd va) hands [] answer zero some = absurd (omega (arith, some))
-handing_step a n b regs (service.Stat fd va) hands (byte ∷ rest) answer zero some =
+replied_step a n b regs (service.Stat fd va) hands [] answer some = absurd (omega (arith, some))
+replied_step a n b regs (service.Stat fd va) hands (byte ∷ rest) answer some =
     let none : va ≡ va + 0 = omega arith in
     ap (λ (at : ℕ). Some (bytes_delivered a n b regs (service.Stat fd va) at (byte ∷ rest) answer)) none
-handing_step a n b regs (service.Stat fd va) hands bytes answer (suc m) some = refl
-handing_step a n b regs _ hands bytes answer done some = absurd (false≢true hands)
+replied_step a n b regs _ hands bytes answer some = absurd (false≢true hands)
+
+behind_step : (a : AbstractState) (n : ℕ) (b : Born) (regs : Regs) (call : Service) → hands_back call ≡ true → (at : ℕ) (bytes : List ℕ) (answer : ℕ) →
+    library_step a n b regs call (delivering at bytes answer) ≡ Some (bytes_delivered a n b regs call at bytes answer)
+unfolding library_step
+behind_step a n b regs (service.Read fd va len) hands at bytes answer = refl
+behind_step a n b regs (service.Stat fd va) hands at bytes answer = refl
+behind_step a n b regs _ hands at bytes answer = absurd (false≢true hands)
+
+handing_step : (a : AbstractState) (n : ℕ) (b : Born) (regs : Regs) (call : Service) → a.slots n ≡ born b → b.program ≡ guest regs → b.blocked ≡ false →
+    hands_back call ≡ true → (bytes : List ℕ) (answer done : ℕ) (q : Phase) → b.phase ≡ q → 0 < length (drop done bytes) →
+    HandsAt call bytes answer done q →
+    abs_step a n ≡ Some (bytes_delivered a n b regs call (buffer_of call + done) (drop done bytes) answer)
+handing_step a n b regs call is program awake hands bytes answer _ _ phase some by_reply =
+    service_step a n b regs call (replied bytes answer) is program phase awake ∙ replied_step a n b regs call hands bytes answer some
+handing_step a n b regs call is program awake hands bytes answer _ _ phase some (behind done) =
+    service_step a n b regs call (delivering (buffer_of call + done) (drop done bytes) answer) is program phase awake
+    ∙ behind_step a n b regs call hands (buffer_of call + done) (drop done bytes) answer
 
 -- ---- all bytes are put: it is about to give its page back, and the abstract system has answered
 
+-- who has bytes goes back to its program behind them
+handing_goes : (s : Service) → hands_back s ≡ true → goes_back s ≡ true
+handing_goes (service.Read fd va len) hands = refl
+handing_goes (service.Stat fd va) hands = refl
+handing_goes _ hands = absurd (false≢true hands)
+
 returning_stands : {names : Names} {s : KernelState} {a : AbstractState} → StandsFor names s a → (n : ℕ) (b : Born) → a.slots n ≡ born b →
     (call : Service) → hands_back call ≡ true → (from : Step) → keeps_request from ≡ true → place_of (slot_at s n) ≡ place.InService call from →
-    (regs : Regs) (answer : ℕ) → (slot_at s n).registers ≡ record regs { eax = 0 } → (slot_at s n).rendezvous.receiving ≡ false → b.blocked ≡ false →
+    (calm : is_calm_step from ≡ true) (regs : Regs) (answer eax : ℕ) → (slot_at s n).registers ≡ record regs { eax = eax } →
+    (slot_at s n).rendezvous.receiving ≡ false → b.blocked ≡ false →
     StandsFor names (with_extra s n (words_at (number_of call) (step.Returning answer))) (answered a n b regs answer)
-returning_stands {names = names} {s = s} {a = a} h n b is call hands from keeps stands regs answer registers silent awake =
-    slot_changed h n b is k after refl (record { id = refl; env_type = refl; calm = λ runs. runs })
+returning_stands {names = names} {s = s} {a = a} h n b is call hands from keeps stands calm regs answer eax registers silent awake =
+    slot_changed h n b is k after refl (record { id = refl; env_type = refl; turns = refl; calm = λ runs. runs })
     (ap is_plain stands ∙ handing_plain call hands from) (ap is_plain there ∙ handing_plain call hands (step.Returning answer)) mine
+    (calm_places calm_here calm_there) (λ fd. refl)
   where
     k : Slot
     k = record (slot_at s n) { extra = words_at (number_of call) (step.Returning answer) }
@@ -200,6 +220,12 @@ returning_stands {names = names} {s = s} {a = a} h n b is call hands from keeps 
         (outside_stack (slot_at s n).registers (slot_at s n).extra (place.InService call from) stands refl)
         ∙ ap (λ (x : Service). place.InService x (step.Returning answer)) (named_at (slot_at s n) call from stands)
 
+    calm_here : is_calm (place_of (slot_at s n)) ≡ true
+    calm_here = ap is_calm stands ∙ calm
+
+    calm_there : is_calm (place_of k) ≡ true
+    calm_there = ap is_calm there
+
     mine : StandsForBorn names s.spaces k after
     mine =
         let own = born_at h n b is in
@@ -210,7 +236,8 @@ returning_stands {names = names} {s = s} {a = a} h n b is call hands from keeps 
           env_type = own.env_type;
           runs = subst (λ (blocked : Bool). IsStatusFor (slot_at s n).status blocked) awake own.runs;
           upcall = own.upcall ∙ ap upcall_at stands ∙ sym (ap upcall_at there);
-          descriptors = own.descriptors;
+          descriptors = descriptors_turned names s.spaces k.directory (place_of (slot_at s n)) (place_of k) b.descriptors calm_here calm_there
+              own.descriptors;
           memory = own.memory;
           library = library_moved (place_of (slot_at s n)) (place_of k) (slot_at s n).extra k.extra (rows_of s.spaces k.directory)
               (ap has_copy stands ∙ sym (ap has_copy there))
@@ -223,7 +250,7 @@ returning_stands {names = names} {s = s} {a = a} h n b is call hands from keeps 
           stack = own.stack;
           flags = own.flags;
           at = subst (λ (p : Place). StandsAt p (view_of s.spaces k.directory) k after) (sym there) (record {
-            hands = hands;
+            goes = handing_goes call hands;
             program = sym (λ i. guest (record (registers i) { eax = answer }));
             phase = refl;
             silent = silent;
@@ -308,6 +335,15 @@ module _ {names : Names} {s : KernelState} {a : AbstractState} (h : StandsFor na
   pub none_borne : borne_in (place_of k) ≡ None
   none_borne = ap borne_in stands ∙ handing_unborne call has.hands from
 
+  pub calm_here : is_calm (place_of k) ≡ true
+  calm_here = ap is_calm stands
+
+  pub none_made : is_making_pipe (place_of k) ≡ false
+  none_made = calm_unmade (place_of k) calm_here
+
+  pub not_piped : is_piped (place_of k) ≡ false
+  not_piped = ap is_piped stands
+
   -- the abstract system after it
   abbrev pub file_delivered : AbstractState
   file_delivered =
@@ -322,8 +358,7 @@ module _ {names : Names} {s : KernelState} {a : AbstractState} (h : StandsFor na
 
   pub file_put_step : abs_step a n ≡ Some file_delivered
   file_put_step =
-      service_step a n b has.regs call (stage_behind (buffer_of call) has.bytes answer done) put_service.is has.program has.phase has.awake
-      ∙ handing_step a n b has.regs call has.hands has.bytes answer done rest_long.1
+      handing_step a n b has.regs call put_service.is has.program has.awake has.hands has.bytes answer done b.phase refl rest_long.1 has.hands_at
       ∙ ap (λ (x : AbstractState). Some x) delivered_is
 
   -- where the kernel lets it
@@ -331,61 +366,28 @@ module _ {names : Names} {s : KernelState} {a : AbstractState} (h : StandsFor na
     -- the state behind it
     abbrev pub file_after : KernelState
     file_after =
-        file_putting h n put_service.b put_service.is outside_here none_borne (buffer_of call + done) (drop done put_has.has.bytes) rest_long.1 rest_inside
+        file_putting h n put_service.b put_service.is outside_here none_borne none_made not_piped (buffer_of call + done) (drop done
+        put_has.has.bytes) rest_long.1 rest_inside
         rest_small on
 
     abbrev after : AbstractState
     after = all_stored a n at (take moved rest)
 
     abbrev sp : SpacesState
-    sp = file_put_spaces h n b put_service.is outside_here none_borne at rest rest_long.1 rest_inside rest_small on
-
-    put : IsPut names (with_spaces s (touched s.spaces d at Write)) sp a after n b
-    put = file_put h n b put_service.is outside_here none_borne at rest rest_long.1 rest_inside rest_small on
-
-    row_kept : rows_of sp d ≡ rows_of s.spaces d
-    row_kept = file_put_row h n b put_service.is outside_here none_borne at rest rest_long.1 rest_inside rest_small on
+    sp = file_put_spaces h n b put_service.is outside_here none_borne none_made not_piped at rest rest_long.1 rest_inside rest_small on
 
     -- a word, where four bytes are put, and else a byte
     pub file_word : put_at_once call done count ≡ 4 → store s n (buffer_of call + done) word ≡ giving file_after tt
     file_word four =
-        file_word_put h n b put_service.is outside_here none_borne at rest rest_long.1 rest_inside rest_small on word
+        file_word_put h n b put_service.is outside_here none_borne none_made not_piped at rest rest_long.1 rest_inside rest_small on word
         (subst (λ (m : ℕ). take m (to_le_bytes w32 word) ≡ take m rest) four put_has.word_is
         ∙ ap (λ (m : ℕ). take m rest) (sym (sym put_moved ∙ four)))
 
     pub file_byte : put_at_once call done count ≡ 1 → store_byte s n (buffer_of call + done) (word % 256) ≡ giving file_after tt
     file_byte one =
-        file_byte_put h n b put_service.is outside_here none_borne at rest rest_long.1 rest_inside rest_small on (word % 256)
+        file_byte_put h n b put_service.is outside_here none_borne none_made not_piped at rest rest_long.1 rest_inside rest_small on (word % 256)
         (subst (λ (m : ℕ). take m (to_le_bytes w32 word) ≡ take m rest) one put_has.word_is
         ∙ ap (λ (m : ℕ). take m rest) (sym (sym put_moved ∙ one)))
-
-    -- with these left, for the environment as it is then
-    abbrev with_left : List ℕ → Option Born → AbstractState
-    with_left more it = delivered_so_far after n has.regs call ((at + moved) % 2 ^ 32) answer more it
-
-    abbrev others : List ℕ
-    others = drop moved rest
-
-    so_far : (more : List ℕ) → with_left more (born_in (after.slots n)) ≡ with_left more (Some put.it)
-    so_far more = ap (λ (slot : AbstractSlot). with_left more (born_in slot)) put.there
-
-    -- nothing is printed
-    pub file_console : file_delivered.console ≡ a.console
-    file_console = ap (λ (x : AbstractState). x.console) (so_far others) ∙ by_rest others ∙ put.console
-      where
-        by_rest : (more : List ℕ) → (with_left more (Some put.it)).console ≡ after.console
-        by_rest [] = refl
-        by_rest (byte ∷ more) = refl
-
-    -- its page has the bytes still
-    mine : IsPuttingBytes (view_of sp d) k put.it call done count word
-    mine = subst (λ (p : Place). StandsAt p (view_of sp d) k put.it) stands (born_at put.stands n put.it put.there).at
-
-    same_left : drop done mine.has.bytes ≡ rest
-    same_left =
-        sym (left_at_stage call (buffer_of call) mine.has.bytes answer done)
-        ∙ ap bytes_at (sym mine.has.phase ∙ put.phase ∙ has.phase)
-        ∙ left_at_stage call (buffer_of call) has.bytes answer done
 
     -- how many are put then
     pub behind_is : (done + put_at_once call done count ≤ count) × ((done + put_at_once call done count) % 2 ^ 32 ≡ done + put_at_once call done count)
@@ -397,74 +399,109 @@ module _ {names : Names} {s : KernelState} {a : AbstractState} (h : StandsFor na
         let most = has.most in
         (omega (arith, within, same, long, fewer), omega (arith, within, same, long, fewer, most))
 
-    -- no byte is left, and the abstract system has answered
-    pub file_answers : count ≤ done + put_at_once call done count →
-        StandsFor names (with_extra file_after n (words_at (number_of call) (step.Returning (answer_behind call count)))) file_delivered
-    file_answers past = by_rest others refl
-      where
-        by_rest : (more : List ℕ) → others ≡ more →
-            StandsFor names (with_extra file_after n (words_at (number_of call) (step.Returning (answer_behind call count)))) file_delivered
-        by_rest [] none =
-            subst (λ (x : AbstractState). StandsFor names (with_extra file_after n (words_at (number_of call) (step.Returning (answer_behind call count)))) x)
-            (sym (so_far others ∙ ap (λ (more : List ℕ). with_left more (Some put.it)) none))
-            (returning_stands put.stands n put.it put.there call has.hands from refl stands has.regs answer has.registers has.silent
-            (put.blocked ∙ has.awake))
-        by_rest (byte ∷ more) left =
-            let long = length-drop moved rest in
-            let some : length others ≡ suc (length more) = ap (λ (l : List ℕ). length l) left in
-            let same = put_moved in
-            let whole = rest_long.0 in
-            absurd (omega (arith, past, long, some, same, whole))
+    -- in its turn
+    module _ (last : s.last ≡ Some n) where
+      put : IsPut names (with_spaces s (touched s.spaces d at Write)) sp a after n b
+      put = file_put h n b put_service.is outside_here none_borne none_made not_piped at rest rest_long.1 rest_inside rest_small on last
 
-    -- some are, and it stands before them at another step
-    pub file_goes_on : (to : Step) → keeps_request to ≡ true → done + put_at_once call done count < count →
-        ((w : View) (c : Born) → w.row ≡ rows_of s.spaces (slot_at s n).directory →
-        HasBytes w (record (slot_at s n) { extra = words_at (number_of call) to }) c call (done + put_at_once call done count) count →
-        StandsAtStep w (record (slot_at s n) { extra = words_at (number_of call) to }) c call to) →
-        StandsFor names (with_extra file_after n (words_at (number_of call) to)) file_delivered
-    file_goes_on to keeps more_left so = by_rest others refl
-      where
-        by_rest : (more : List ℕ) → others ≡ more → StandsFor names (with_extra file_after n (words_at (number_of call) to)) file_delivered
-        by_rest [] none =
-            let long = length-drop moved rest in
-            let nothing : length others ≡ 0 = ap (λ (l : List ℕ). length l) none in
-            let same = put_moved in
-            let whole = rest_long.0 in
-            absurd (omega (arith, more_left, long, nothing, same, whole))
-        by_rest (byte ∷ more) left =
-            let within = lies_here.within in
-            let end = below_here in
-            let same = put_moved in
-            let positive = lies_here.some in
-            let next : (at + moved) % 2 ^ 32 ≡ at + moved = omega (arith, within, end) in
-            let c : Born = record put.it { phase = in_service call (delivering (at + moved) others answer) } in
-            let behind : ℕ = done + put_at_once call done count in
-            let place_is : at + moved ≡ buffer_of call + behind = omega (arith, same) in
-            let bytes_are : others ≡ drop behind mine.has.bytes =
-            ap (λ (l : List ℕ). drop moved l) (sym same_left) ∙ drop-drop moved done mine.has.bytes
-            ∙ ap (λ (m : ℕ). drop (done + m) mine.has.bytes) (sym put_moved) in
-            subst (λ (x : AbstractState). StandsFor names (with_extra file_after n (words_at (number_of call) to)) x)
-            ((λ i. at_stage after n put.it call (delivering (sym next i) (left i) answer))
-            ∙ sym (so_far others ∙ ap (λ (l : List ℕ). with_left l (Some put.it)) left))
-            (stage_stands put.stands n (number_of call) put.it put.there (outside_stack k.registers k.extra (place.InService call from) stands refl)
-            none_borne call to (delivering (at + moved) others answer)
-            (ap holds_page stands ∙ handing_held call has.hands from refl ∙ sym (handing_held call has.hands to keeps))
-            (handing_unborne call has.hands to) (named_at k call from stands)
-            (so (view_of sp d) c row_kept (record {
-              hands = has.hands;
-              regs = has.regs;
-              program = put.program ∙ has.program;
-              registers = has.registers;
-              bytes = mine.has.bytes;
-              phase = ap (λ (stage : Stage). in_service call stage)
-                  ((λ i. delivering (place_is i) (bytes_are i) answer)
-                  ∙ sym (stage_some (buffer_of call) mine.has.bytes answer behind (omega (arith, same, positive))));
-              many = mine.has.many;
-              fewer = more_left;
-              most = has.most;
-              inside = has.inside;
-              small = mine.has.small;
-              kept = mine.has.kept;
-              silent = has.silent;
-              awake = put.blocked ∙ has.awake;
-            })))
+      row_kept : rows_of sp d ≡ rows_of s.spaces d
+      row_kept = file_put_row h n b put_service.is outside_here none_borne none_made not_piped at rest rest_long.1 rest_inside rest_small on last
+
+      -- with these left, for the environment as it is then
+      abbrev with_left : List ℕ → Option Born → AbstractState
+      with_left more it = delivered_so_far after n has.regs call ((at + moved) % 2 ^ 32) answer more it
+
+      abbrev others : List ℕ
+      others = drop moved rest
+
+      so_far : (more : List ℕ) → with_left more (born_in (after.slots n)) ≡ with_left more (Some put.it)
+      so_far more = ap (λ (slot : AbstractSlot). with_left more (born_in slot)) put.there
+
+      -- nothing is printed
+      pub file_console : file_delivered.console ≡ a.console
+      file_console = ap (λ (x : AbstractState). x.console) (so_far others) ∙ by_rest others ∙ put.console
+        where
+          by_rest : (more : List ℕ) → (with_left more (Some put.it)).console ≡ after.console
+          by_rest [] = refl
+          by_rest (byte ∷ more) = refl
+
+      -- its page has the bytes still
+      mine : IsPuttingBytes (view_of sp d) k put.it call done count word
+      mine = subst (λ (p : Place). StandsAt p (view_of sp d) k put.it) stands (born_at put.stands n put.it put.there).at
+
+      same_left : drop done mine.has.bytes ≡ rest
+      same_left =
+          sym (left_at_stage mine.has.bytes answer done put.it.phase mine.has.hands_at)
+          ∙ ap bytes_at put.phase
+          ∙ left_at_stage has.bytes answer done b.phase has.hands_at
+
+      -- no byte is left, and the abstract system has answered
+      pub file_answers : count ≤ done + put_at_once call done count →
+          StandsFor names (with_extra file_after n (words_at (number_of call) (step.Returning (answer_behind call count)))) file_delivered
+      file_answers past = by_rest others refl
+        where
+          by_rest : (more : List ℕ) → others ≡ more →
+              StandsFor names (with_extra file_after n (words_at (number_of call) (step.Returning (answer_behind call count)))) file_delivered
+          by_rest [] none =
+              subst (λ (x : AbstractState). StandsFor names (with_extra file_after n (words_at (number_of call) (step.Returning (answer_behind call count)))) x)
+              (sym (so_far others ∙ ap (λ (more : List ℕ). with_left more (Some put.it)) none))
+              (returning_stands put.stands n put.it put.there call has.hands from refl stands refl has.regs answer has.eax has.registers has.silent
+              (put.blocked ∙ has.awake))
+          by_rest (byte ∷ more) left =
+              let long = length-drop moved rest in
+              let some : length others ≡ suc (length more) = ap (λ (l : List ℕ). length l) left in
+              let same = put_moved in
+              let whole = rest_long.0 in
+              absurd (omega (arith, past, long, some, same, whole))
+
+      -- some are, and it stands before them at another step
+      pub file_goes_on : (to : Step) → keeps_request to ≡ true → is_calm_step to ≡ true → done + put_at_once call done count < count →
+          ((w : View) (c : Born) → w.row ≡ rows_of s.spaces (slot_at s n).directory →
+          HasBytes w (record (slot_at s n) { extra = words_at (number_of call) to }) c call (done + put_at_once call done count) count →
+          StandsAtStep w (record (slot_at s n) { extra = words_at (number_of call) to }) c call to) →
+          StandsFor names (with_extra file_after n (words_at (number_of call) to)) file_delivered
+      file_goes_on to keeps calm_after more_left so = by_rest others refl
+        where
+          by_rest : (more : List ℕ) → others ≡ more → StandsFor names (with_extra file_after n (words_at (number_of call) to)) file_delivered
+          by_rest [] none =
+              let long = length-drop moved rest in
+              let nothing : length others ≡ 0 = ap (λ (l : List ℕ). length l) none in
+              let same = put_moved in
+              let whole = rest_long.0 in
+              absurd (omega (arith, more_left, long, nothing, same, whole))
+          by_rest (byte ∷ more) left =
+              let within = lies_here.within in
+              let end = below_here in
+              let same = put_moved in
+              let next : (at + moved) % 2 ^ 32 ≡ at + moved = omega (arith, within, end) in
+              let c : Born = record put.it { phase = in_service call (delivering (at + moved) others answer) } in
+              let behind_it : ℕ = done + put_at_once call done count in
+              let place_is : at + moved ≡ buffer_of call + behind_it = omega (arith, same) in
+              let bytes_are : others ≡ drop behind_it mine.has.bytes =
+              ap (λ (l : List ℕ). drop moved l) (sym same_left) ∙ drop-drop moved done mine.has.bytes
+              ∙ ap (λ (m : ℕ). drop (done + m) mine.has.bytes) (sym put_moved) in
+              subst (λ (x : AbstractState). StandsFor names (with_extra file_after n (words_at (number_of call) to)) x)
+              ((λ i. at_stage after n put.it call (delivering (sym next i) (left i) answer))
+              ∙ sym (so_far others ∙ ap (λ (l : List ℕ). with_left l (Some put.it)) left))
+              (stage_stands put.stands n (number_of call) put.it put.there (outside_stack k.registers k.extra (place.InService call from) stands refl)
+              none_borne calm_here call to (delivering (at + moved) others answer)
+              (ap holds_page stands ∙ handing_held call has.hands from refl ∙ sym (handing_held call has.hands to keeps))
+              (handing_unborne call has.hands to) calm_after (named_at k call from stands)
+              (so (view_of sp d) c row_kept (record {
+                hands = has.hands;
+                regs = has.regs;
+                program = put.program ∙ has.program;
+                eax = has.eax;
+                registers = has.registers;
+                bytes = mine.has.bytes;
+                hands_at = subst (λ (stage : Stage). HandsAt call mine.has.bytes answer behind_it (in_service call stage))
+                    (λ i. delivering (sym place_is i) (sym bytes_are i) answer) (behind behind_it);
+                many = mine.has.many;
+                fewer = more_left;
+                most = has.most;
+                inside = has.inside;
+                small = mine.has.small;
+                kept = mine.has.kept;
+                silent = has.silent;
+                awake = put.blocked ∙ has.awake;
+              })))

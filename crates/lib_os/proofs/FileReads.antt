@@ -26,15 +26,17 @@ use Rattle.lib_os.specs.Places.{place_of, words_at}
 use Rattle.lib_os.specs.Rows.{Names, descriptor_page, rows_of}
 use Rattle.lib_os.specs.StandsFor.{AsksOfFile, IsOfFile, StandsFor, borne_in, view_of}
 use Rattle.lib_os.specs.UserCalls.{load}
-use Rattle.lib_os.proofs.DescriptorLooks.{descriptor_va, read_goes_on}
+use Rattle.lib_os.proofs.DescriptorLooks.{descriptor_va, read_goes_on, seen_calm}
 use Rattle.lib_os.proofs.DeviceLooks.{NamesFile, device_answers, device_file, device_goes_on, device_is_file, device_object, device_va, device_word}
 use Rattle.lib_os.proofs.DeviceLooks.{look_answers, names_file, reading_device, word_there}
 use Rattle.lib_os.proofs.FileAsks.{asks_of_file, asks_with_words, file_given, number_storing, of_file_holds, of_file_moved, of_file_with_page}
 use Rattle.lib_os.proofs.FileAsks.{reading_asks}
 use Rattle.lib_os.proofs.GoingOn.{in_with_words}
 use Rattle.lib_os.proofs.Loading.{loaded}
+use Rattle.lib_os.proofs.Logical.{is_making_pipe}
 use Rattle.lib_os.proofs.Numbered.{number_of}
 use Rattle.lib_os.proofs.RequestPages.{request_unborne}
+use Rattle.lib_os.proofs.PipesStand.{calm_unmade, is_calm}
 use Rattle.lib_os.proofs.Serving.{IsServed, served}
 use Rattle.lib_os.proofs.WindowWords.{read_at}
 
@@ -104,7 +106,7 @@ module _ (s : KernelState) (n fd : ℕ) {names : Names} {a : AbstractState} (h :
         StandsFor names (with_extra (loaded s n (device_va fd)) n (words_at (number_of (service.Seek fd offset)) step.TakingPage)) a
     seek_goes_on word near =
         let reading = reading_device s n seek fd refl stands h in
-        device_goes_on s n seek fd refl stands h order step.TakingPage refl (record {
+        device_goes_on s n seek fd refl stands h order step.TakingPage refl refl (record {
           stage = entered;
           of_file = record {
             is_in = in_with_words (words_at (number_of seek) step.TakingPage) reading.is_in;
@@ -129,7 +131,7 @@ module _ (s : KernelState) (n fd : ℕ) {names : Names} {a : AbstractState} (h :
         StandsFor names (with_extra (loaded s n (device_va fd)) n (words_at (number_of (service.SetSize fd size)) step.ReadingMode)) a
     set_size_goes_on word =
         let reading = reading_device s n set_size fd refl stands h in
-        device_goes_on s n set_size fd refl stands h order step.ReadingMode refl (record {
+        device_goes_on s n set_size fd refl stands h order step.ReadingMode refl refl (record {
           is_in = in_with_words (words_at (number_of set_size) step.ReadingMode) reading.is_in;
           below = reading.below;
           file = device_is_file s n set_size fd refl stands h word;
@@ -156,23 +158,24 @@ module _ (s : KernelState) (n fd size : ℕ) (stands : place_of (slot_at s n) �
 
   pub mode_gives : load s n (mode_va fd) ≡ read_at s n (mode_va fd) (told_word s n fd FD_MODE)
   mode_gives =
-      word_there h n v.b v.is (ap borne_in stands) fd it.below it.file.entry it.file.stands FD_MODE refl (omega arith)
+      word_there h n v.b v.is (ap borne_in stands) (ap is_making_pipe stands) (seen_calm h n v.b v.is (ap is_calm stands)) fd it.below
+      it.file.entry it.file.stands FD_MODE refl (omega arith)
       ∙ ap (read_at s n (mode_va fd)) (sym mode_is)
 
   named : NamesFile s a v.b fd it.file.entry
-  named = names_file h n v.b v.is (ap borne_in stands) fd it.below it.file
+  named = names_file h n v.b v.is (ap borne_in stands) (ap is_making_pipe stands) (seen_calm h n v.b v.is (ap is_calm stands)) fd it.below it.file
 
   pub mode_refuses : IsInOrder (loaded s n (mode_va fd)) → told_word s n fd FD_MODE ≡ 0 →
       GoesOn n (service_answered (loaded s n (mode_va fd)) n (negated E_INVAL)) a []
   mode_refuses order none =
-      look_answers h n call step.ReadingMode v refl refl (mode_va fd) order it.is_in (negated E_INVAL)
+      look_answers h n call step.ReadingMode v refl refl refl (mode_va fd) order it.is_in (negated E_INVAL)
       (set_size_for_reading fd size named.f (sym named.told.mode ∙ sym mode_is ∙ none) a n v.b (slot_at s n).registers
       (ap (option_map a.objects) named.named ∙ ap (λ (o : Object). Some o) named.is))
 
   pub mode_goes_on : IsInOrder (loaded s n (mode_va fd)) → told_word s n fd FD_MODE ≢ 0 →
       StandsFor names (with_extra (loaded s n (mode_va fd)) n (words_at (number_of (service.SetSize fd size)) step.TakingPage)) a
   mode_goes_on order some =
-      read_goes_on h n call step.ReadingMode v refl (mode_va fd) order step.TakingPage refl refl (record {
+      read_goes_on h n call step.ReadingMode v refl refl (mode_va fd) order step.TakingPage refl refl refl (record {
         stage = entered;
         of_file = of_file_moved space (slot_at s n) v.b (words_at (number_of call) step.TakingPage) call fd it;
         allowed = λ none. some (mode_is ∙ none);
@@ -203,7 +206,9 @@ module _ (s : KernelState) (n : ℕ) (call : Service) (is : asks_of_file call �
 
   pub number_gives : load s n (number_va (file_given call)) ≡ read_at s n (number_va (file_given call)) (told_word s n (file_given call) FD_FILE)
   number_gives =
-      word_there h n at_number.b at_number.is (ap borne_in stands ∙ unborne step.ReadingNumber) given asks.of_file.below asks.of_file.file.entry
+      word_there h n at_number.b at_number.is (ap borne_in stands ∙ unborne step.ReadingNumber)
+      (calm_unmade (place_of (slot_at s n)) (ap is_calm stands)) (seen_calm h n at_number.b at_number.is (ap is_calm stands)) given
+      asks.of_file.below asks.of_file.file.entry
       asks.of_file.file.stands FD_FILE refl (omega arith)
       ∙ ap (read_at s n (number_va given)) (sym number_is)
 
@@ -213,7 +218,7 @@ module _ (s : KernelState) (n : ℕ) (call : Service) (is : asks_of_file call �
   number_goes_on order =
       let to = step.StoringNumber (told_word s n given FD_FILE) in
       let words = words_at (number_of call) to in
-      read_goes_on h n call step.ReadingNumber at_number (unborne step.ReadingNumber) (number_va given) order to (unborne to)
+      read_goes_on h n call step.ReadingNumber at_number (unborne step.ReadingNumber) refl (number_va given) order to (unborne to) refl
       (of_file_holds call is step.ReadingNumber refl ∙ sym (of_file_holds call is to refl))
       (number_storing seen (record (slot_at s n) { extra = words }) at_number.b call is (told_word s n given FD_FILE)
       (record { asks = asks_with_words seen (slot_at s n) at_number.b words call given asks; number_is = number_is }))

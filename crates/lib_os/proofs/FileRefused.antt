@@ -1,7 +1,7 @@
 -- The bytes of a file that read and stat can't put into their buffer: where the page waits to be copied, the fault goes to the handler, which copies
 -- it, and where it refuses them, the service raises the fault that ends the environment.
 use Rattle.std.proofs.Common.{◌≡◌, ◌∙◌, ◌+◌, ◌%◌, ◌^◌, ◌<◌, ℕ, Bool, true, false, refl, sym, ap, subst, arith}
-use Rattle.std.specs.Prelude.{Err}
+use Rattle.std.specs.Prelude.{Err, Some}
 use Rattle.jos_base.specs.declared.memory.Access.TheVariants.{Write}
 use Rattle.jos_base.specs.declared.memory.PageFault.{PageFault}
 use Rattle.jos_base.specs.declared.numbers.TheConstants.{FEC_PR, FEC_U, FEC_WR}
@@ -62,7 +62,7 @@ module _ {names : Names} {s : KernelState} {a : AbstractState} (h : StandsFor na
 
   abbrev pub file_lost_after : KernelState
   file_lost_after =
-      handed_over h n v.b v.is (place.InService call (step.PuttingBytes done count word)) stands refl counts
+      handed_over h n v.b v.is (place.InService call (step.PuttingBytes done count word)) stands refl counts refl
       (record { va = buffer_of call + done; error = FEC_U + FEC_PR + FEC_WR })
 
   lost : IsLostWrite s.spaces d va
@@ -72,18 +72,18 @@ module _ {names : Names} {s : KernelState} {a : AbstractState} (h : StandsFor na
   raised = refused_is (reach_in s.spaces d va Write) (record { va = va; error = 0 }) off ∙ ap (λ (f : PageFault). Err f) lost.fault
 
   pub file_lost_word : (value : ℕ) → store s n (buffer_of call + done) value ≡ handing file_lost_after
-  file_lost_word value = store_faults h n v.b v.is there stands refl counts fault va value raised
+  file_lost_word value = store_faults h n v.b v.is there stands refl counts refl fault va value raised
 
   pub file_lost_byte : (byte : ℕ) → store_byte s n (buffer_of call + done) byte ≡ handing file_lost_after
-  file_lost_byte byte = store_byte_faults h n v.b v.is there stands refl counts fault va byte raised
+  file_lost_byte byte = store_byte_faults h n v.b v.is there stands refl counts refl fault va byte raised
 
-  pub file_lost_stands : AreSmall (slot_at s n).registers → IsInOrder file_lost_after → StandsFor names file_lost_after a
-  file_lost_stands small in_order =
-      fault_copies h n v.b v.is there stands refl counts fault small inside refl lost.page
-      (in_handing call done count word stands (put_has h n call done count word stands)) in_order
+  pub file_lost_stands : AreSmall (slot_at s n).registers → IsInOrder file_lost_after → s.last ≡ Some n → StandsFor names file_lost_after a
+  file_lost_stands small in_order last =
+      fault_copies h n v.b v.is there stands refl counts refl fault small inside refl lost.page
+      (in_handing call done count word stands (put_has h n call done count word stands)) in_order last
 
   pub file_lost_lowers : hidden_left file_lost_after n < hidden_left s n
-  file_lost_lowers = handing_lowers h n v.b v.is there stands refl counts fault call done count word refl inside lost.page
+  file_lost_lowers = handing_lowers h n v.b v.is there stands refl counts refl fault call done count word refl inside lost.page
 
 -- ---- the page refuses them
 
@@ -121,7 +121,7 @@ module _ {names : Names} {s : KernelState} {a : AbstractState} (h : StandsFor na
 
   abbrev pub file_stopped_after : KernelState
   file_stopped_after =
-      handed_over h n w.b w.is (place.InService call (step.FileFaulting done count)) stands refl plain
+      handed_over h n w.b w.is (place.InService call (step.FileFaulting done count)) stands refl plain refl
       (page_fault (page_at w.b (buffer_of call + done)) (buffer_of call + done) Write)
 
   forbids : page_allows (page_at w.b next) Write ≡ false
@@ -129,18 +129,18 @@ module _ {names : Names} {s : KernelState} {a : AbstractState} (h : StandsFor na
 
   pub file_stopped : (byte : ℕ) → store_byte s n (buffer_of call + done) byte ≡ handing file_stopped_after
   file_stopped byte =
-      store_byte_faults h n w.b w.is at stands refl plain stop_fault next byte (user_refuses names s a n w.b h w.is next next_inside Write forbids)
+      store_byte_faults h n w.b w.is at stands refl plain refl stop_fault next byte (user_refuses names s a n w.b h w.is next next_inside Write forbids)
 
   stopping : IsStopping true space (slot_at s n) w.b next
   stopping = stops_handing space (slot_at s n) w.b call done count has
 
-  pub file_stopped_stands : AreSmall (slot_at s n).registers → IsInOrder file_stopped_after → StandsFor names file_stopped_after a
-  file_stopped_stands small in_order =
-      fault_stops h n w.b w.is at stands refl plain stop_fault small next_inside (error_small true (page_at w.b next))
+  pub file_stopped_stands : AreSmall (slot_at s n).registers → IsInOrder file_stopped_after → s.last ≡ Some n → StandsFor names file_stopped_after a
+  file_stopped_stands small in_order last =
+      fault_stops h n w.b w.is at stands refl plain refl stop_fault small next_inside (error_small true (page_at w.b next))
       (user_refusal names s a n w.b h w.is next next_inside Write forbids) stopping.eax stopping.program stopping.silent stopping.awake
       (subst (λ (t : Bool). IsStoppedAt t space w.b next (slot_at s n).registers.eip) (sym (refused_error true (page_at w.b next)))
       (stopping.stopped (slot_at s n).registers.eip))
-      in_order
+      in_order last
 
   pub file_stopped_lowers : hidden_left file_stopped_after n < hidden_left s n
-  file_stopped_lowers = file_stop_lowers h n w.b w.is at stands refl plain stop_fault call done count refl
+  file_stopped_lowers = file_stop_lowers h n w.b w.is at stands refl plain refl stop_fault call done count refl

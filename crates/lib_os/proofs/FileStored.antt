@@ -36,9 +36,10 @@ use Rattle.lib_os.proofs.PageBytes.{word_bytes}
 use Rattle.lib_os.proofs.PageTaken.{working_no_descriptor, working_outside, working_page}
 use Rattle.lib_os.proofs.RequestPages.{in_moved, request_plain, request_unborne}
 use Rattle.lib_os.proofs.RequestsTold.{file_named_so}
+use Rattle.lib_os.proofs.PipesStand.{is_calm, is_calm_step}
 use Rattle.lib_os.proofs.Serving.{IsServed, holds_page, plain_working, served}
 use Rattle.lib_os.proofs.SlotsStand.{born_at, told_kept}
-use Rattle.lib_os.proofs.StatesStand.{clients_live}
+use Rattle.lib_os.proofs.StatesStand.{clients_live, others_counts}
 use Rattle.lib_os.proofs.WordsTell.{is_in_handler}
 use Rattle.jos_base.proofs.Maps.{upd-at}
 
@@ -72,7 +73,7 @@ put_word_before page o word q below =
 pub record IsStored (names : Names) (s : KernelState) (a : AbstractState) (n : ℕ) (call : Service) (o word : ℕ) (to : Step) : Type 0 where
   pub spaces : SpacesState
   pub step_is : store s n (UTEMP + o) word ≡ giving (with_spaces s spaces) tt
-  pub stands : IsInOrder (with_spaces s spaces) → StandsFor names (with_extra (with_spaces s spaces) n (words_at (number_of call) to)) a
+  pub stands : IsInOrder (with_spaces s spaces) → s.last ≡ Some n → StandsFor names (with_extra (with_spaces s spaces) n (words_at (number_of call) to)) a
 
 module _ {names : Names} {s : KernelState} {a : AbstractState} (h : StandsFor names s a) (n : ℕ) (call : Service) (is : asks_of_file call ≡ true)
     (from : Step) (stands : place_of (slot_at s n) ≡ place.InService call from) (keeps : keeps_asked from ≡ true) (o word : ℕ)
@@ -211,17 +212,18 @@ module _ {names : Names} {s : KernelState} {a : AbstractState} (h : StandsFor na
     number_still it had = subst (λ (told : ℕ × ℕ × ℕ). HasWordAt after REQUEST_FILE told.2) (told_still it) had
 
     -- at the next step of the service
-    store_goes_on : (so : StandsAtStep after (slot_at s n) at_step.b call from) (to : Step) → keeps_asked to ≡ true →
+    store_goes_on : s.last ≡ Some n → is_calm_step from ≡ true → (so : StandsAtStep after (slot_at s n) at_step.b call from) (to : Step) →
+        keeps_asked to ≡ true → is_calm_step to ≡ true →
         StandsAtStep after (record (slot_at s n) { extra = words_at (number_of call) to }) at_step.b call to →
         StandsFor names (with_extra (with_spaces s sp) n (words_at (number_of call) to)) a
-    store_goes_on so to keeps_too then_so =
+    store_goes_on last calm so to keeps_too calm_too then_so =
         let still : StandsFor names (with_spaces s sp) a =
         unseen_rewritten h n at_step.b at_step.is plain working_page working_outside working_no_descriptor page.entry page.stands page.own_page
-        page.writes now now_whole puts.rewritten order
+        page.writes now now_whole puts.rewritten order (others_counts h n last sp)
         (subst (λ (q : Place). StandsAt q after (slot_at s n) at_step.b) (sym stands) so) in
         words_stand still n (number_of call) at_step.b at_step.is (born_at still n at_step.b at_step.is) at_step.outside
-        (ap borne_in stands ∙ request_unborne call (of_file_with_page call is) from) call to
-        (ap holds_page stands ∙ held ∙ sym (of_file_holds call is to keeps_too)) (request_unborne call (of_file_with_page call is) to)
+        (ap borne_in stands ∙ request_unborne call (of_file_with_page call is) from) (ap is_calm stands ∙ calm) call to
+        (ap holds_page stands ∙ held ∙ sym (of_file_holds call is to keeps_too)) (request_unborne call (of_file_with_page call is) to) calm_too
         (named_at (slot_at s n) call from stands) then_so
 
 -- ---- the number of the file
@@ -242,7 +244,8 @@ module _ {names : Names} {s : KernelState} {a : AbstractState} (h : StandsFor na
 
   small : number < 2 ^ 32
   small =
-      let told = file_named_so h n v.b v.is (ap borne_in stands ∙ request_unborne call (of_file_with_page call is) (step.StoringNumber number)) fd it.asks in
+      let told = file_named_so h n v.b v.is (ap borne_in stands ∙ request_unborne call (of_file_with_page call is) (step.StoringNumber number))
+      (ap is_calm stands) fd it.asks in
       let below = told.told.below in
       let same = it.number_is in
       omega (arith, below, same)
@@ -255,15 +258,15 @@ module _ {names : Names} {s : KernelState} {a : AbstractState} (h : StandsFor na
       record {
         spaces = put.spaces;
         step_is = put.step_is;
-        stands = λ order.
+        stands = λ order last.
             let seen_after : View = view_of put.spaces (slot_at s n).directory in
             let asks = asks_still h n call is from stands refl REQUEST_FILE number (omega arith) order in
             let told = told_still h n call is from stands refl REQUEST_FILE number (omega arith) order it.asks in
-            store_goes_on h n call is from stands refl REQUEST_FILE number (omega arith) order
+            store_goes_on h n call is from stands refl REQUEST_FILE number (omega arith) order last refl
             (number_storing seen_after (slot_at s n) v.b call is number (record {
               asks = asks (slot_at s n).extra it.asks;
               number_is = it.number_is ∙ ap (λ (words : ℕ × ℕ × ℕ). words.2) told;
-            })) step.StoringCount refl
+            })) step.StoringCount refl refl
             (count_storing seen_after (record (slot_at s n) { extra = then_words }) v.b call is (record {
               asks = asks then_words it.asks;
               number_told = number_still h n call is from stands refl REQUEST_FILE number (omega arith) order it.asks
@@ -296,16 +299,16 @@ module _ {names : Names} {s : KernelState} {a : AbstractState} (h : StandsFor na
       record {
         spaces = put.spaces;
         step_is = put.step_is;
-        stands = λ order.
+        stands = λ order last.
             let seen_after : View = view_of put.spaces (slot_at s n).directory in
             let asks = asks_still h n call is from stands refl REQUEST_COUNT what (omega arith) order in
             let number_there = number_still h n call is from stands refl REQUEST_COUNT what (omega arith) order tells.asks
             (word_still h n call is from stands refl REQUEST_COUNT what (omega arith) REQUEST_FILE _ (omega arith) tells.number_told) in
-            store_goes_on h n call is from stands refl REQUEST_COUNT what (omega arith) order
+            store_goes_on h n call is from stands refl REQUEST_COUNT what (omega arith) order last refl
             (count_storing seen_after (slot_at s n) served_there.b call is (record {
               asks = asks (slot_at s n).extra tells.asks;
               number_told = number_there;
-            })) step.Identifying refl
+            })) step.Identifying refl refl
             (tells_identifying seen_after (record (slot_at s n) { extra = then_words }) served_there.b call is (record {
               asks = asks then_words tells.asks;
               number_told = number_there;

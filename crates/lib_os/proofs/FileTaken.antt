@@ -26,6 +26,7 @@ use Rattle.lib_os.proofs.FileAsks.{asks_at_once, asks_reading, at_once_of_file, 
 use Rattle.lib_os.proofs.Numbered.{named_at, number_of}
 use Rattle.lib_os.proofs.PagesStand.{Puts}
 use Rattle.lib_os.proofs.PageTaken.{take_asked, taken_own, taken_puts, taken_row, taken_tables, working_beside, working_page, working_perm, working_stands}
+use Rattle.lib_os.proofs.PipesStand.{is_calm}
 use Rattle.lib_os.proofs.Placing.{allocated_made}
 use Rattle.lib_os.proofs.RequestPages.{in_moved, request_unborne}
 use Rattle.lib_os.proofs.Serving.{IsServed, plain_working, served}
@@ -33,7 +34,8 @@ use Rattle.lib_os.proofs.WordsTell.{place_at}
 
 module _ {names : Names} {s : KernelState} {a : AbstractState} {sp : SpacesState} (h : StandsFor names s a) (n : ℕ) (call : Service)
     (is : asks_at_once call ≡ true) (stands : place_of (slot_at s n) ≡ place.InService call step.TakingPage)
-    (made : Made s.spaces sp (slot_at s n).directory working_page working_perm) (in_order : IsInOrder (with_spaces s sp)) where
+    (made : Made s.spaces sp (slot_at s n).directory working_page working_perm) (in_order : IsInOrder (with_spaces s sp))
+    (last : s.last ≡ Some n) where
   abbrev to : Step
   to = step.ReadingNumber
 
@@ -93,11 +95,11 @@ module _ {names : Names} {s : KernelState} {a : AbstractState} {sp : SpacesState
 
   pub file_page_stands : StandsFor names (with_extra (with_spaces s sp) n (words_at (number_of call) step.ReadingNumber)) a
   file_page_stands =
-      working_stands h n v.b v.is v.own v.outside (ap borne_in v.place ∙ unborne step.TakingPage) puts (slot_at s n).registers
+      working_stands h n v.b v.is v.own v.outside (ap borne_in v.place ∙ unborne step.TakingPage) (ap is_calm v.place) puts last (slot_at s n).registers
       (words_at (number_of call) to) (place.InService call to)
       (place_at (slot_at s n).registers (number_of call) to v.outside
       ∙ ap (λ (x : Service). place.InService x to) (named_at (slot_at s n) call step.TakingPage v.place))
-      refl (unborne to) refl refl (λ working. taken_own h n v.b v.is made)
+      refl (unborne to) refl refl refl (λ working. taken_own h n v.b v.is made)
       (λ none. absurd (let contradiction : true ≡ false = sym has ∙ none in cc)) (taken_tables h n v.b v.is made)
       (asks_reading (view_of sp home) moved v.b call (at_once_of_file call is) asks_still) (taken_row h n v.b v.is made) in_order
 
@@ -107,12 +109,12 @@ pub file_taking_keeps : (s : KernelState) (n : ℕ) (call : Service) → asks_at
     place_of (slot_at s n) ≡ place.InService call step.TakingPage →
     (made : PageMade s n UTEMP working_perm (take_asked s n)) → IsInOrder (with_spaces s made.spaces) →
     KeepsStanding progress.Hidden n s (with_extra (with_spaces s made.spaces) n (words_at (number_of call) step.ReadingNumber)) []
-file_taking_keeps s n call is stands made in_order a h quiet = (
+file_taking_keeps s n call is stands made in_order a h turn quiet = (
   refl,
   (
     h.0,
     file_page_stands h.1 n call is stands
         (allocated_made s.spaces made.spaces (slot_at s n).directory working_page working_perm made.frame h.1.in_order.frames in_order.frames refl made.is)
-        in_order,
+        in_order turn.last,
   ),
 )

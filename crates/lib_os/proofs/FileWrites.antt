@@ -27,13 +27,15 @@ use Rattle.lib_os.specs.Rows.{Names}
 use Rattle.lib_os.specs.StandsFor.{IsOfFile, StandsFor, borne_in, view_of}
 use Rattle.lib_os.specs.StandsInHandler.{in_file, wanted_from}
 use Rattle.lib_os.specs.UserCalls.{load}
-use Rattle.lib_os.proofs.DescriptorLooks.{read_goes_on}
+use Rattle.lib_os.proofs.DescriptorLooks.{read_goes_on, seen_calm}
 use Rattle.lib_os.proofs.DeviceLooks.{NamesFile, device_goes_on, device_is_file, device_va, device_word, look_answers, names_file, reading_device}
 use Rattle.lib_os.proofs.DeviceLooks.{word_there}
 use Rattle.lib_os.proofs.FileReads.{mode_va, told_at, told_word}
 use Rattle.lib_os.proofs.GoingOn.{in_with_words}
 use Rattle.lib_os.proofs.Loading.{loaded}
+use Rattle.lib_os.proofs.Logical.{is_making_pipe}
 use Rattle.lib_os.proofs.Numbered.{number_of}
+use Rattle.lib_os.proofs.PipesStand.{is_calm}
 use Rattle.lib_os.proofs.Serving.{IsServed, served}
 use Rattle.lib_os.proofs.WindowWords.{read_at}
 
@@ -61,7 +63,7 @@ pub write_file_goes_on : (s : KernelState) (n fd : ℕ) {names : Names} {a : Abs
 write_file_goes_on s n fd h order va len stands word =
     let call : Service = service.Write fd va len in
     let reading = reading_device s n call fd refl stands h in
-    device_goes_on s n call fd refl stands h order step.ReadingMode refl (record {
+    device_goes_on s n call fd refl stands h order step.ReadingMode refl refl (record {
       is_in = in_with_words (words_at (number_of call) step.ReadingMode) reading.is_in;
       below = reading.below;
       file = device_is_file s n call fd refl stands h word;
@@ -88,11 +90,12 @@ module _ (s : KernelState) (n fd va len : ℕ) (stands : place_of (slot_at s n) 
 
   pub write_mode_gives : load s n (mode_va fd) ≡ read_at s n (mode_va fd) (told_word s n fd FD_MODE)
   write_mode_gives =
-      word_there h n v.b v.is (ap borne_in stands) fd it.below it.file.entry it.file.stands FD_MODE refl (omega arith)
+      word_there h n v.b v.is (ap borne_in stands) (ap is_making_pipe stands) (seen_calm h n v.b v.is (ap is_calm stands)) fd it.below
+      it.file.entry it.file.stands FD_MODE refl (omega arith)
       ∙ ap (read_at s n (mode_va fd)) (sym mode_is)
 
   named : NamesFile s a v.b fd it.file.entry
-  named = names_file h n v.b v.is (ap borne_in stands) fd it.below it.file
+  named = names_file h n v.b v.is (ap borne_in stands) (ap is_making_pipe stands) (seen_calm h n v.b v.is (ap is_calm stands)) fd it.below it.file
 
   object : object_of a v.b fd ≡ Some (file named.f)
   object = ap (option_map a.objects) named.named ∙ ap (λ (o : Object). Some o) named.is
@@ -100,20 +103,20 @@ module _ (s : KernelState) (n fd va len : ℕ) (stands : place_of (slot_at s n) 
   pub write_mode_refuses : IsInOrder (loaded s n (mode_va fd)) → told_word s n fd FD_MODE ≡ 0 →
       GoesOn n (service_answered (loaded s n (mode_va fd)) n (negated E_INVAL)) a []
   write_mode_refuses order none =
-      look_answers h n call step.ReadingMode v refl refl (mode_va fd) order it.is_in (negated E_INVAL)
+      look_answers h n call step.ReadingMode v refl refl refl (mode_va fd) order it.is_in (negated E_INVAL)
       (write_for_reading a n v.b (slot_at s n).registers fd va len named.f object (sym named.told.mode ∙ sym mode_is ∙ none))
 
   pub write_buffer_refuses : IsInOrder (loaded s n (mode_va fd)) → told_word s n fd FD_MODE ≢ 0 →
       is_buffer va (wanted_from REQUEST_BYTES len) ≡ false → GoesOn n (service_answered (loaded s n (mode_va fd)) n (negated E_INVAL)) a []
   write_buffer_refuses order some outside =
-      look_answers h n call step.ReadingMode v refl refl (mode_va fd) order it.is_in (negated E_INVAL)
+      look_answers h n call step.ReadingMode v refl refl refl (mode_va fd) order it.is_in (negated E_INVAL)
       (write_outside a n v.b (slot_at s n).registers fd va len named.f object (λ none. some (mode_is ∙ named.told.mode ∙ none)) outside)
 
   pub write_mode_goes_on : IsInOrder (loaded s n (mode_va fd)) → told_word s n fd FD_MODE ≢ 0 →
       is_buffer va (wanted_from REQUEST_BYTES len) ≡ true →
       StandsFor names (with_extra (loaded s n (mode_va fd)) n (words_at (number_of (service.Write fd va len)) step.TakingRequest)) a
   write_mode_goes_on order some inside =
-      read_goes_on h n call step.ReadingMode v refl (mode_va fd) order step.TakingRequest refl refl (
+      read_goes_on h n call step.ReadingMode v refl refl (mode_va fd) order step.TakingRequest refl refl refl (
         in_with_words (words_at (number_of call) step.TakingRequest) it.is_in,
         record {
           below = it.below;

@@ -51,7 +51,7 @@ use Rattle.lib_os.specs.FileServices.{stat_object, stat_begun, stat_step}
 use Rattle.lib_os.specs.FileServices.{path_step, open_asked, open_step, remove_step, sync_step}
 use Rattle.lib_os.specs.LibraryCall.{library_step, at_once, only_at_once, fork_step, receive_step}
 use Rattle.lib_os.specs.AbstractFork.{begun_in, child_of}
-use Rattle.lib_os.specs.AbstractRun.{abs_step, program_step, slot_step}
+use Rattle.lib_os.specs.AbstractRun.{abs_step, pipe_of, program_step, slot_step}
 use Rattle.lib_os.specs.AbstractLaws.{IsNoFile, LeavesFiles, AsksOrLeaves, asks, leaves, ClientsLeaveFiles}
 use Rattle.jos_base.proofs.Maps.{upd-all, upd-other, upd-at}
 use Rattle.jos_base.proofs.Below.{some_below-at}
@@ -141,6 +141,8 @@ record Now (a : AbstractState) (n : ℕ) (slots : ℕ → AbstractSlot) (objects
   server_is : Asked a n server
   names : a.next_name ≤ next
   objects_are : (name : ℕ) → name < a.next_name → objects name ≡ a.objects name
+  ends_are : (name pipe : ℕ) → pipe_of (Some (objects name)) ≡ Some pipe →
+      (pipe_of (Some (a.objects name)) ≡ Some pipe) ⊎ ((a.next_name ≤ pipe) × (pipe < next))
   holders : (m : ℕ) → m < NENV → FitsIn a objects next (born_in (slots m))
   pages_are : (name : ℕ) → (name < a.next_name) ⊎ (next ≤ name) → a.shared name ≡ [] → shared name ≡ []
 
@@ -160,6 +162,7 @@ module _ (a : AbstractState) (n : ℕ) (small : n < NENV) where
     server_is = still refl;
     names = omega arith;
     objects_are = λ name below. refl;
+    ends_are = λ name pipe is. inl is;
     holders = λ m below. fits-before a a.objects a.next_name m below (born_in (a.slots m)) refl;
     pages_are = λ name old none. none;
   }
@@ -173,6 +176,7 @@ module _ (a : AbstractState) (n : ℕ) (small : n < NENV) where
     server_is = h.server_is;
     names = h.names;
     objects_are = h.objects_are;
+    ends_are = h.ends_are;
     holders = upd-all (λ (m : ℕ) (s : AbstractSlot). m < NENV → FitsIn a x.objects x.next_name (born_in s)) x.slots k slot
         (λ below. fits) (λ m ne. h.holders m);
     pages_are = h.pages_are;
@@ -199,6 +203,7 @@ module _ (a : AbstractState) (n : ℕ) (small : n < NENV) where
     server_is = h.server_is;
     names = h.names;
     objects_are = h.objects_are;
+    ends_are = h.ends_are;
     holders = h.holders;
     pages_are = λ other old none.
         still_none x.shared name other (page_offset va) byte (h.pages_are other old none);
@@ -288,6 +293,7 @@ module _ (a : AbstractState) (n : ℕ) (small : n < NENV) where
           server_is = still refl;
           names = omega arith;
           objects_are = λ name below. refl;
+          ends_are = λ name pipe is. inl is;
           holders = λ m below. fits-before a a.objects (a.next_name + 1) m below (born_in (a.slots m)) refl;
           pages_are = λ name old none. upd-other a.shared a.next_name zero_page name (apart name old) ∙ none;
         }
@@ -357,12 +363,31 @@ module _ (a : AbstractState) (n : ℕ) (small : n < NENV) where
         new k name is least below no_file =
             subst (λ (m : ℕ). (a.next_name ≤ m) × (m < next) × IsNoFile (objects m)) (same_Some k name is) (least, below, no_file)
 
+        ends_new : (name pipe : ℕ) → pipe_of (Some (objects name)) ≡ Some pipe →
+            (pipe_of (Some (a.objects name)) ≡ Some pipe) ⊎ ((a.next_name ≤ pipe) × (pipe < next))
+        ends_new =
+            upd-all (λ name (o : Object). (pipe : ℕ) → pipe_of (Some o) ≡ Some pipe →
+            (pipe_of (Some (a.objects name)) ≡ Some pipe) ⊎ ((a.next_name ≤ pipe) × (pipe < next))) ends (a.next_name + 2) (write_end a.next_name)
+            its_new
+            (λ name ne. upd-all (λ k (o : Object). (pipe : ℕ) → pipe_of (Some o) ≡ Some pipe →
+            (pipe_of (Some (a.objects k)) ≡ Some pipe) ⊎ ((a.next_name ≤ pipe) × (pipe < next))) a.objects (a.next_name + 1) (read_end a.next_name)
+            its_first (λ k other pipe is. inl is) name)
+          where
+            its_new : (pipe : ℕ) → Some a.next_name ≡ Some pipe →
+                (pipe_of (Some (a.objects (a.next_name + 2))) ≡ Some pipe) ⊎ ((a.next_name ≤ pipe) × (pipe < next))
+            its_new pipe is = let same : a.next_name ≡ pipe = same_Some a.next_name pipe is in inr (omega (arith, same), omega (arith, same))
+
+            its_first : (pipe : ℕ) → Some a.next_name ≡ Some pipe →
+                (pipe_of (Some (a.objects (a.next_name + 1))) ≡ Some pipe) ⊎ ((a.next_name ≤ pipe) × (pipe < next))
+            its_first pipe is = let same : a.next_name ≡ pipe = same_Some a.next_name pipe is in inr (omega (arith, same), omega (arith, same))
+
         piped_left : Left piped
         piped_left = record {
           files_are = refl;
           opened_are = refl;
           server_is = still refl;
           names = omega arith;
+          ends_are = ends_new;
           objects_are = λ name below.
               upd-other ends (a.next_name + 2) (write_end a.next_name) name (omega arith)
               ∙ upd-other a.objects (a.next_name + 1) (read_end a.next_name) name (omega arith);
@@ -407,6 +432,7 @@ module _ (a : AbstractState) (n : ℕ) (small : n < NENV) where
             server_is = asking request e refl;
             names = same_left.names;
             objects_are = same_left.objects_are;
+            ends_are = same_left.ends_are;
             holders = same_left.holders;
             pages_are = same_left.pages_are;
           }) mine
@@ -704,7 +730,7 @@ module _ (a : AbstractState) (n : ℕ) (small : n < NENV) where
   stated : (r : Option AbstractState) → LeftIf r → IfSome r Stated
   stated None h = record {}
   stated (Some x) h = (
-    record { files = h.files_are; opened = h.opened_are; names = h.names; objects = h.objects_are; held = held_after x h; pages = h.pages_are },
+    record { files = h.files_are; opened = h.opened_are; names = h.names; objects = h.objects_are; held = held_after x h; ends = h.ends_are; pages = h.pages_are },
     asked_after x h.server_is,
   )
 

@@ -5,13 +5,14 @@ use Rattle.std.proofs.Common.{Option, Some, None, is_some, refl, sym, ap, subst,
 use Rattle.std.proofs.lemmas.Bool.{false≢true}
 use Rattle.std.proofs.lemmas.Bool.Decides.{nat_tests}
 use Rattle.std.proofs.lemmas.Option.{none-some, same_Some}
+use Rattle.jos_base.specs.Counting.{page_count}
 use Rattle.jos_base.specs.declared.environment.EnvType.TheVariants.{User}
 use Rattle.jos_base.specs.declared.numbers.TheConstants.{FDTABLE, NENV, NPTENTRIES, PGSIZE, USTACKTOP}
 use Rattle.jos_base.specs.declared.registers.Regs.{Regs}
 use Rattle.jos_base.specs.Environments.{Slot, is_live as is_live_slot, is_running, next_id}
 use Rattle.jos_base.specs.KernelState.{KernelState, slot_at, with_extra, with_slot_at}
 use Rattle.jos_base.specs.Reach.{Entry}
-use Rattle.jos_base.specs.SpacesState.{SpacesState, Region, Use, directory, free as unused, page as as_page}
+use Rattle.jos_base.specs.SpacesState.{SpacesState, Region, Use, directory, free as unused, own_count, page as as_page}
 use Rattle.jos_base.specs.Words.{page_number, upd}
 use Rattle.lib_os.specs.declared.numbers.TheConstants.{DESCRIPTORS, SERVICE_FORK}
 use Rattle.lib_os.specs.declared.place.Place.{Place}
@@ -23,11 +24,12 @@ use Rattle.lib_os.specs.declared.service.Service.TheVariants as service
 use Rattle.lib_os.specs.AbstractFork.{begun_in, fork}
 use Rattle.lib_os.specs.AbstractState.{AbstractState, AbstractSlot, Born, unborn, born, bearing, in_service, is_live, with_slot}
 use Rattle.lib_os.specs.Answers.{at_stage}
-use Rattle.lib_os.specs.DescriptorPages.{lasting_words}
+use Rattle.lib_os.specs.DescriptorPages.{lasting_words, lock_of}
 use Rattle.lib_os.specs.InOrder.{IsInOrder, AreFree}
 use Rattle.lib_os.specs.LibraryPages.{has_working, region_index}
+use Rattle.lib_os.specs.PipeEnds.{EndsStandAt, LocksStand, locked_at}
 use Rattle.lib_os.specs.Places.{place_of, words_at}
-use Rattle.lib_os.specs.Rows.{Names, EntryRow, rows_of, counted, logical, logical_by, is_clients, is_descriptor, is_programs}
+use Rattle.lib_os.specs.Rows.{Names, EntryRow, rows_of, counted, logical, logical_by, is_clients, is_of_descriptor, is_programs, pipe_page}
 use Rattle.lib_os.specs.StandsFor.{StandsFor, StandsForSlot, StandsForBorn, StandsForUnborn, StandsAt, IsTabled, AreSlots, IsBorne}
 use Rattle.lib_os.specs.StandsFor.{IsBearing, view_of, borne_in, is_passed, things_in}
 use Rattle.lib_os.proofs.Bearing.{IsChild, child_borne}
@@ -37,10 +39,12 @@ use Rattle.lib_os.proofs.Fences.{fence_below}
 use Rattle.lib_os.proofs.Forked.{child_slot, space_begun, next_id_names, next_id_small}
 use Rattle.lib_os.proofs.Logical.{clients_so, logical_live, logical_some, logical_alike}
 use Rattle.lib_os.proofs.Numbered.{named_at}
+use Rattle.lib_os.proofs.PipesStand.{calm_locked, calm_places, descriptors_turned, ends_moved, ends_stay, is_calm, locks_kept}
 use Rattle.lib_os.proofs.Releasing.{row_entry}
 use Rattle.lib_os.proofs.Serving.{IsServed, served, library_moved, plain_copy, plain_upcall, words_of_none}
-use Rattle.lib_os.proofs.SlotsStand.{SeenAlike, slot_stands, born_stands, live_stands, ids_stand, born_live}
-use Rattle.lib_os.proofs.StatesStand.{slot_in_order, tabled_set, born_not_first, clients_live, server_alike, server_same}
+use Rattle.lib_os.proofs.SlotsStand.{CountsKept, SeenAlike, all_counts, but_pipes, slot_stands, born_stands, live_stands, ids_stand, born_live}
+use Rattle.lib_os.proofs.StatesStand.{Settles, slot_in_order, tabled_set, born_not_first, clients_live, ends_at, server_alike, server_same}
+use Rattle.lib_os.proofs.StatesStand.{old_gone, old_set, turns_set, turns_settle}
 use Rattle.lib_os.proofs.WordsTell.{handler_runs, is_in_handler, place_at}
 use Rattle.jos_base.proofs.Maps.{upd-at, upd-other, upd-all, upd-both}
 
@@ -80,9 +84,9 @@ guest_counts row p = refl
 -- ---- a child that has nothing yet
 
 -- no page of a descriptor is passed on
-none_handed : (id p : ℕ) → is_descriptor p ≡ true → is_passed (step.ForkRegion id (region_index USTACKTOP)) p ≡ true → ⊥
+none_handed : (id p : ℕ) → is_of_descriptor p ≡ true → is_passed (step.ForkRegion id (region_index USTACKTOP)) p ≡ true → ⊥
 none_handed id p is passed =
-    let below : p < page_number FDTABLE + DESCRIPTORS = grind (arith, nat_tests) in
+    let below : p < page_number FDTABLE + 2 * DESCRIPTORS = grind (arith, nat_tests) in
     let above : (region_index USTACKTOP + 1) * NPTENTRIES ≤ p = grind (arith, nat_tests) in
     omega (arith, below, above)
 
@@ -171,12 +175,21 @@ module _ {names : Names} {s : KernelState} {a : AbstractState} (h : StandsFor na
   unfolding rows_of
   rows_kept d = refl
 
-  page_kept : (d p : ℕ) (x : Entry) → rows_of s.spaces d p ≡ Some x → sp.pages x.frame ≡ s.spaces.pages x.frame
-  page_kept d p x is =
+  -- the child's is no page's
+  frame_apart : (d p : ℕ) (x : Entry) → rows_of s.spaces d p ≡ Some x → x.frame ≢ f
+  frame_apart d p x is same =
       let e = row_entry s.spaces d p x is in
-      upd-other s.spaces.pages f [] x.frame (λ same.
       let contradiction : ◌≡◌ {A = Use} as_page unused =
-      sym (h.in_order.frames.pages d p e.0 e.1) ∙ ap s.spaces.uses (e.2 ∙ same) ∙ frame_free in absurd cc)
+      sym (h.in_order.frames.pages d p e.0 e.1) ∙ ap s.spaces.uses (e.2 ∙ same) ∙ frame_free in absurd cc
+
+  page_kept : (d p : ℕ) (x : Entry) → rows_of s.spaces d p ≡ Some x → sp.pages x.frame ≡ s.spaces.pages x.frame
+  page_kept d p x is = upd-other s.spaces.pages f [] x.frame (frame_apart d p x is)
+
+  -- each page is mapped as often
+  mapped_as_often : (k : Slot) → CountsKept s.spaces sp k
+  mapped_as_often k piped runs =
+      all_counts (view_of s.spaces k.directory) (view_of sp k.directory) (λ p x is. ap (λ (u : Use). page_count s.spaces.entries x.frame + own_count u)
+      (upd-other s.spaces.uses f directory x.frame (frame_apart k.directory p x is)))
 
   seen : (d : ℕ) → SeenAlike names names s.spaces sp d
   seen d = record {
@@ -184,6 +197,7 @@ module _ {names : Names} {s : KernelState} {a : AbstractState} (h : StandsFor na
     bytes = λ p x is own_page. page_kept d p x is;
     named_so = λ p x is shared_page. refl;
     devices = λ p x descriptor is shared_page. ap lasting_words (page_kept d p x is);
+    pipes = λ p x pipes is shared_page. page_kept d p x is;
     regions = λ r. refl;
   }
 
@@ -262,7 +276,7 @@ module _ {names : Names} {s : KernelState} {a : AbstractState} (h : StandsFor na
 
   mine : StandsForBorn names sp parent bearer
   mine =
-      let own : StandsForBorn names sp (slot_at s n) b = born_stands (slot_at s n) b (seen (slot_at s n).directory) v.own in
+      let own : StandsForBorn names sp (slot_at s n) b = born_stands (slot_at s n) b (seen (slot_at s n).directory) (mapped_as_often (slot_at s n)) v.own in
       let plain : is_in_handler (place_of (slot_at s n)) ≡ false = handler_runs regs (slot_at s n).extra ∙ v.outside in
       let plain_after : is_in_handler (place_of parent) ≡ false = ap is_in_handler there in
       let bears : IsBearing parent bearer id = record {
@@ -278,7 +292,8 @@ module _ {names : Names} {s : KernelState} {a : AbstractState} (h : StandsFor na
         env_type = own.env_type;
         runs = own.runs;
         upcall = own.upcall ∙ plain_upcall (place_of (slot_at s n)) plain ∙ sym (plain_upcall (place_of parent) plain_after);
-        descriptors = own.descriptors;
+        descriptors = descriptors_turned names sp (slot_at s n).directory (place_of (slot_at s n)) (place_of parent) b.descriptors (ap is_calm stands)
+            (ap is_calm there) own.descriptors;
         memory = own.memory;
         library = library_moved (place_of (slot_at s n)) (place_of parent) (slot_at s n).extra parent.extra (rows_of sp (slot_at s n).directory)
             (plain_copy (place_of (slot_at s n)) plain ∙ sym (plain_copy (place_of parent) plain_after))
@@ -295,9 +310,18 @@ module _ {names : Names} {s : KernelState} {a : AbstractState} (h : StandsFor na
       upd-both (λ j (x : Slot) (y : AbstractSlot). StandsForSlot names sp x y) (upd s.environments.slots m child) (upd a.slots m (unborn id b.id))
       n parent (born bearer) mine
       (λ j ne. upd-both (λ j (x : Slot) (y : AbstractSlot). StandsForSlot names sp x y) s.environments.slots a.slots m child (unborn id b.id) its_own
-      (λ q other. slot_stands names names s.spaces sp (slot_at s q) (a.slots q) (h.slots q) (λ lives. seen (slot_at s q).directory)) j)
+      (λ q other. slot_stands names names s.spaces sp (slot_at s q) (a.slots q) (h.slots q) (λ lives. seen (slot_at s q).directory)
+      (mapped_as_often (slot_at s q))) j)
 
   -- ---- entries
+
+  child_counts : (p : ℕ) → logical sp slots_after m p ≡ None
+  child_counts p =
+      logical_live sp slots_after m (ap (λ (x : Slot). is_clients m x) child_here ∙ clients_so m child not_first refl) p
+      ∙ (λ i. counted (place_of (child_here i)) (rows_of sp (child_here i).directory) p)
+      ∙ ap (λ (at : Place). counted at (rows_of sp f) p) child_place
+      ∙ guest_counts (rows_of sp f) p
+      ∙ no_row p
 
   rows_count : (j p : ℕ) → logical sp slots_after j p ≡ logical s.spaces s.environments.slots j p
   rows_count j p = by_parent (j == n) refl
@@ -316,11 +340,7 @@ module _ {names : Names} {s : KernelState} {a : AbstractState} (h : StandsFor na
 
       its : logical sp slots_after m p ≡ logical s.spaces s.environments.slots m p
       its =
-          logical_live sp slots_after m (ap (λ (x : Slot). is_clients m x) child_here ∙ clients_so m child not_first refl) p
-          ∙ (λ i. counted (place_of (child_here i)) (rows_of sp (child_here i).directory) p)
-          ∙ ap (λ (at : Place). counted at (rows_of sp f) p) child_place
-          ∙ guest_counts (rows_of sp f) p
-          ∙ no_row p
+          child_counts p
           ∙ sym (ap (λ (c : Bool). logical_by c (counted (place_of (slot_at s m)) (rows_of s.spaces (slot_at s m).directory)) p) nobody_counts)
 
       by_child : j ≢ n → (c : Bool) → (j == m) ≡ c → logical sp slots_after j p ≡ logical s.spaces s.environments.slots j p
@@ -446,6 +466,63 @@ module _ {names : Names} {s : KernelState} {a : AbstractState} (h : StandsFor na
           (ap abstract_after names_it ∙ unborn_here ∙ ap (λ (x : Born). unborn id x.id) same)
       by_parent false test = by_child (grind (arith, nat_tests)) (q == m) refl
 
+  -- ---- ends of pipes, and locks
+
+  calm : is_calm (place_of (slot_at s n)) ≡ true
+  calm = ap is_calm stands
+
+  calm_after : is_calm (place_of parent) ≡ true
+  calm_after = ap is_calm there
+
+  ends : (j : ℕ) → EndsStandAt names a.objects (place_of (slots_after j)) (rows_of sp (slots_after j).directory) (abstract_after j)
+  ends =
+      upd-both (λ j (x : Slot) (y : AbstractSlot). EndsStandAt names a.objects (place_of x) (rows_of sp x.directory) y)
+      (upd s.environments.slots m child) (upd a.slots m (unborn id b.id)) n parent (born bearer)
+      (ends_moved (calm_places calm calm_after) (λ fd. refl) (λ fd name is. refl)
+      (λ fd below. ap (λ (row : EntryRow). row (pipe_page fd)) (rows_kept (slot_at s n).directory)) (λ fd x below is. refl) (ends_at h n b v.is))
+      (λ j ne. upd-both (λ j (x : Slot) (y : AbstractSlot). EndsStandAt names a.objects (place_of x) (rows_of sp x.directory) y)
+      s.environments.slots a.slots m child (unborn id b.id) tt
+      (λ q other. ends_stay names names s.spaces sp a.objects (slot_at s q) (a.slots q) (h.slots q)
+      (λ lives. but_pipes (seen (slot_at s q).directory)) (h.ends q)) j)
+
+  -- whoever has a page that counts is another than the child, and stands where the same lock is held
+  same_locked : (j p : ℕ) (x : Entry) → logical sp slots_after j p ≡ Some x → locked_at (place_of (slots_after j)) ≡ locked_at (place_of (slot_at s j))
+  same_locked j p x is = by_parent (j == n) refl
+    where
+      by_child : j ≢ n → (c : Bool) → (j == m) ≡ c → locked_at (place_of (slots_after j)) ≡ locked_at (place_of (slot_at s j))
+      by_child ne true test =
+          let same : m ≡ j = grind (arith, nat_tests) in
+          absurd (none-some x (sym (child_counts p) ∙ ap (λ (q : ℕ). logical sp slots_after q p) same ∙ is))
+      by_child ne false test = ap (λ (y : Slot). locked_at (place_of y)) (slots_else j ne (grind (arith, nat_tests)))
+
+      by_parent : (c : Bool) → (j == n) ≡ c → locked_at (place_of (slots_after j)) ≡ locked_at (place_of (slot_at s j))
+      by_parent true test =
+          let same : n ≡ j = grind (arith, nat_tests) in
+          subst (λ (q : ℕ). locked_at (place_of (slots_after q)) ≡ locked_at (place_of (slot_at s q))) same
+          (ap (λ (y : Slot). locked_at (place_of y)) parent_here ∙ calm_locked (place_of parent) calm_after
+          ∙ sym (calm_locked (place_of (slot_at s n)) calm))
+      by_parent false test = by_child (grind (arith, nat_tests)) (j == m) refl
+
+  locks : LocksStand sp.pages slots_after (logical sp slots_after)
+  locks = locks_kept (record {
+    back = λ j fd x below locked is. (sym (same_locked j (pipe_page fd) x is) ∙ locked, sym (rows_count j (pipe_page fd)) ∙ is);
+    forth = λ j fd x below locked is.
+        let there = rows_count j (pipe_page fd) ∙ is in (same_locked j (pipe_page fd) x there ∙ locked, there);
+    were = λ j fd x below is shared_page. record {
+      slot = j;
+      fd = fd;
+      below = below;
+      entry = x;
+      stands = sym (rows_count j (pipe_page fd)) ∙ is;
+      shared = shared_page;
+      same = refl;
+    };
+    bytes = λ j fd x below is shared_page.
+        let found = (logical_some s.spaces s.environments.slots j (pipe_page fd) x is).1 in
+        subst (λ (g : ℕ). lock_of (sp.pages g) ≡ lock_of (s.spaces.pages g)) found.frame
+        (ap (λ (page : List ℕ). lock_of page) (page_kept (slot_at s j).directory (pipe_page fd) found.entry found.stands));
+  }) h.locks
+
   -- ---- the whole
 
   module _ (order : IsInOrder mid) where
@@ -454,6 +531,14 @@ module _ {names : Names} {s : KernelState} {a : AbstractState} (h : StandsFor na
 
     turned : RowsStand names sp.pages a.shared (things_in (with_slot_at mid n parent) a) a.next_name (logical sp slots_after)
     turned = rows_turned (ap (λ (x : Slot). rows_of sp x.directory) server_here ∙ rows_kept (slot_at s 0).directory) rows
+
+    settles : Settles (slot_at mid n) parent
+    settles = record {
+      id = ap (λ (x : Slot). x.id) (sym caller_is);
+      env_type = ap (λ (x : Slot). x.env_type) (sym caller_is);
+      turns = ap (λ (x : Slot). x.runs) (sym caller_is);
+      calm = λ runs. ap (λ (x : Slot). is_running x.status) caller_is ∙ runs;
+    }
 
     stands_with : StandsFor names (with_slot_at mid n parent) forked
     stands_with = record {
@@ -464,6 +549,11 @@ module _ {names : Names} {s : KernelState} {a : AbstractState} (h : StandsFor na
       users = rows.users;
       whole = rows.whole;
       beside = turned.beside;
+      ends = ends;
+      locks = locks;
+      runs = turns_settle (upd s.environments.slots m child) n parent (turns_set s.environments.slots m child h.runs (omega arith)) settles;
+      old = old_set (old_gone h.old m (unborn id b.id) (λ c is. let contradiction : unborn id b.id ≡ born c = is in absurd cc)) n bearer
+          (λ fd name names_it. h.old n fd name b v.is names_it);
       free_slots = record { same = refl; within = listed.1 };
       first =
           upd-other (upd a.slots m (unborn id b.id)) n (born bearer) 0 (born_not_first h n b v.is)
@@ -474,11 +564,7 @@ module _ {names : Names} {s : KernelState} {a : AbstractState} (h : StandsFor na
       last = h.last;
       turns = h.turns;
       tabled = tabled_set (tabled_taken h.tabled m child names_it refl refl) n parent (ap (λ (x : Slot). is_live_slot x) caller_is ∙ live)
-          (record {
-            id = ap (λ (x : Slot). x.id) (sym caller_is);
-            env_type = ap (λ (x : Slot). x.env_type) (sym caller_is);
-            calm = λ runs. ap (λ (x : Slot). is_running x.status) caller_is ∙ runs;
-          });
+          settles;
       in_order = slot_in_order mid n parent (ap (λ (x : Slot). is_live_slot x) (sym caller_is)) (ap (λ (x : Slot). x.directory) (sym caller_is)) order;
     }
 

@@ -38,6 +38,7 @@ use Rattle.lib_os.proofs.Handled.{IsHandled, handled_part}
 use Rattle.lib_os.proofs.Children.{bears_none}
 use Rattle.lib_os.proofs.Logical.{is_plain}
 use Rattle.lib_os.proofs.Beneath.{StandsAgain, beneath_moved, stands_again}
+use Rattle.lib_os.proofs.PipesStand.{calm_places, descriptors_turned, is_calm}
 use Rattle.lib_os.proofs.Serving.{library_moved}
 use Rattle.lib_os.proofs.Working.{words_work}
 use Rattle.lib_os.proofs.SlotsStand.{born_at}
@@ -183,9 +184,10 @@ module _ {names : Names} {s : KernelState} {a : AbstractState} (h : StandsFor na
 
   pub restored_stands : IsInOrder (taken_from_frame s n regs_before) → StandsFor names (taken_from_frame s n regs_before) a
   restored_stands in_order =
-      slot_replaced reached n v.b v.is back refl (record { id = refl; env_type = refl; calm = λ runs. runs })
+      slot_replaced reached n v.b v.is back refl (record { id = refl; env_type = refl; turns = refl; calm = λ runs. runs })
       (plain_alike (place_of k) (place_of back) (ap is_plain stands) (ap is_plain back_place ∙ first.plain))
       (bears_none (ap borne_in stands) (ap borne_in back_place ∙ first.unborne)) mine
+      (calm_places (ap is_calm stands) (ap is_calm back_place ∙ first.calm))
     where
       reached : StandsFor names (with_spaces s sp) a
       reached = quiet_stands h quiet (slot_was_in_order (with_spaces s sp) n back refl refl in_order)
@@ -201,7 +203,8 @@ module _ {names : Names} {s : KernelState} {a : AbstractState} (h : StandsFor na
             env_type = own.env_type;
             runs = own.runs;
             upcall = own.upcall ∙ ap upcall_at stands ∙ sym (ap upcall_at it.stands ∙ it.upcall);
-            descriptors = own.descriptors;
+            descriptors = descriptors_turned names sp k.directory (place_of k) (place_of back) v.b.descriptors (ap is_calm stands)
+                (ap is_calm it.stands ∙ it.calm) own.descriptors;
             memory = own.memory;
             library = library_moved (place_of k) (place_of back) k.extra k.extra (rows_of sp k.directory)
                 (ap has_copy stands ∙ sym (ap has_copy it.stands ∙ it.no_copy)) (words_work k regs_before) own.library;

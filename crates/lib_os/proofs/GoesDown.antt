@@ -26,16 +26,17 @@ use Rattle.lib_os.specs.Fence.{in_fence}
 use Rattle.lib_os.specs.InOrder.{IsInOrder}
 use Rattle.lib_os.specs.LibraryPages.{has_copy, has_working, is_library_region}
 use Rattle.lib_os.specs.Places.{place_of, words_at}
-use Rattle.lib_os.specs.Rows.{Names, EntryRow, counted, lasting, rows_of, logical, page_seen, is_descriptor, is_programs}
+use Rattle.lib_os.specs.Rows.{Names, EntryRow, counted, lasting, rows_of, logical, page_seen, is_of_descriptor, is_pipe_page, is_programs}
 use Rattle.lib_os.specs.StandsFor.{StandsFor, StandsForBorn, StandsAt, StandsAtStep, IsBearing, view_of, upcall_at}
 use Rattle.lib_os.specs.StandsFor.{borne_at, is_passed, has_stack, child_upcall, things_in, top_page}
-use Rattle.lib_os.proofs.Bearing.{IsBearer, IsChild, bearing_stands}
+use Rattle.lib_os.proofs.Bearing.{IsBearer, IsChild, bearing_stands, borne_calm}
 use Rattle.lib_os.proofs.EntriesStand.{RowsStand, rows_same, rows_stand, seen_none}
 use Rattle.lib_os.proofs.Fences.{fence_below}
 use Rattle.lib_os.proofs.Numbered.{named_at}
+use Rattle.lib_os.proofs.PipesStand.{descriptors_turned, is_calm, is_calm_step}
 use Rattle.lib_os.proofs.Serving.{library_moved}
 use Rattle.lib_os.proofs.Slots.{slot_back, upd-back}
-use Rattle.lib_os.proofs.SlotsStand.{SeenAlike}
+use Rattle.lib_os.proofs.SlotsStand.{CountsKept, SeenAlike}
 use Rattle.lib_os.proofs.StatesStand.{CountsAlike, set_counts, slot_in_order}
 use Rattle.lib_os.proofs.WordsTell.{outside_stack, place_at}
 
@@ -45,9 +46,9 @@ pub record HasFrom (names : Names) (s : SpacesState) (parent : Slot) (b : Born) 
   pub registers : k.registers ≡ record parent.registers { eax = 0 }
   pub upcall : k.upcall ≡ 0
   pub passed : (p : ℕ) → is_programs p ≡ true → page ≤ p → page_seen names s k.directory p ≡ b.memory p
-  pub handed : (p : ℕ) → is_descriptor p ≡ true → page ≤ p → rows_of s k.directory p ≡ rows_of s parent.directory p
-  pub rest : (p : ℕ) → is_programs p || is_descriptor p ≡ true → p < page → rows_of s k.directory p ≡ None
-  pub none : (p : ℕ) → is_programs p ≡ false → is_descriptor p ≡ false → rows_of s k.directory p ≡ None
+  pub handed : (p : ℕ) → is_of_descriptor p ≡ true → page ≤ p → rows_of s k.directory p ≡ rows_of s parent.directory p
+  pub rest : (p : ℕ) → is_programs p || is_of_descriptor p ≡ true → p < page → rows_of s k.directory p ≡ None
+  pub none : (p : ℕ) → is_programs p ≡ false → is_of_descriptor p ≡ false → rows_of s k.directory p ≡ None
   pub tables : (r : ℕ) → is_some (s.regions k.directory r) ≡ true → has_page_in b.memory r || is_library_region r ≡ true
 
 -- the least page that is passed on at a step
@@ -143,19 +144,20 @@ passed_from (step.OpenPausing id fd) p = every p
 passed_from (step.OpenAwaiting id fd) p = every p
 passed_from (step.OpenClearing id fd) p = every p
 passed_from (step.ReadingOpened id fd) p = every p
+passed_from (step.Piped at) p = every p
 
 stack_kept : is_programs (page_number UXSTACK) ≡ false
 unfolding in_fence
 stack_kept = refl
 
-stack_no_descriptor : is_descriptor (page_number UXSTACK) ≡ false
+stack_no_descriptor : is_of_descriptor (page_number UXSTACK) ≡ false
 stack_no_descriptor = refl
 
 -- fork passes on the pages of a program, and those of its descriptors
-pub programs_handed : (p : ℕ) → is_programs p ≡ true → is_programs p || is_descriptor p ≡ true
-programs_handed p inside = ap (λ (c : Bool). c || is_descriptor p) inside
+pub programs_handed : (p : ℕ) → is_programs p ≡ true → is_programs p || is_of_descriptor p ≡ true
+programs_handed p inside = ap (λ (c : Bool). c || is_of_descriptor p) inside
 
-pub descriptor_handed : (p : ℕ) → is_descriptor p ≡ true → is_programs p || is_descriptor p ≡ true
+pub descriptor_handed : (p : ℕ) → is_of_descriptor p ≡ true → is_programs p || is_of_descriptor p ≡ true
 descriptor_handed p descriptor = ap (λ (c : Bool). is_programs p || c) descriptor ∙ by_test (is_programs p)
   where
     by_test : (c : Bool) → c || true ≡ true
@@ -175,7 +177,7 @@ module _ {names : Names} {s : SpacesState} {parent : Slot} {b : Born} {k : Slot}
     tables = h.tables;
   }
     where
-      none : (p : ℕ) → is_programs p ≡ false → is_descriptor p ≡ false → rows_of s k.directory p ≡ None
+      none : (p : ℕ) → is_programs p ≡ false → is_of_descriptor p ≡ false → rows_of s k.directory p ≡ None
       none p outside no_descriptor = by_stack (p == page_number UXSTACK) refl
         where
           by_stack : (c : Bool) → (p == page_number UXSTACK) ≡ c → rows_of s k.directory p ≡ None
@@ -199,7 +201,7 @@ module _ {names : Names} {s : SpacesState} {parent : Slot} {b : Born} {k : Slot}
 
   -- Pages are passed over where the parent has none.
   pub passes_over : (from page : ℕ) → page ≤ from → ((p : ℕ) → is_programs p ≡ true → page ≤ p → p < from → b.memory p ≡ None) →
-      ((p : ℕ) → is_descriptor p ≡ true → page ≤ p → p < from → rows_of s parent.directory p ≡ None) →
+      ((p : ℕ) → is_of_descriptor p ≡ true → page ≤ p → p < from → rows_of s parent.directory p ≡ None) →
       HasFrom names s parent b from k → HasFrom names s parent b page k
   passes_over from page below nothing none_open h = record {
     registers = h.registers;
@@ -220,7 +222,7 @@ module _ {names : Names} {s : SpacesState} {parent : Slot} {b : Born} {k : Slot}
               let lower = below_is from p is in
               seen_none names s k.directory p (h.rest p (programs_handed p inside) lower) ∙ sym (nothing p inside at_least lower)
 
-      handed : (p : ℕ) → is_descriptor p ≡ true → page ≤ p → rows_of s k.directory p ≡ rows_of s parent.directory p
+      handed : (p : ℕ) → is_of_descriptor p ≡ true → page ≤ p → rows_of s k.directory p ≡ rows_of s parent.directory p
       handed p descriptor at_least = by_test (nat_le from p) refl
         where
           by_test : (c : Bool) → nat_le from p ≡ c → rows_of s k.directory p ≡ rows_of s parent.directory p
@@ -230,14 +232,14 @@ module _ {names : Names} {s : SpacesState} {parent : Slot} {b : Born} {k : Slot}
               h.rest p (descriptor_handed p descriptor) lower ∙ sym (none_open p descriptor at_least lower)
 
   pub passes_page : (page : ℕ) → (is_programs page ≡ true → b.memory page ≡ None) →
-      (is_descriptor page ≡ true → rows_of s parent.directory page ≡ None) →
+      (is_of_descriptor page ≡ true → rows_of s parent.directory page ≡ None) →
       HasFrom names s parent b (page + 1) k → HasFrom names s parent b page k
   passes_page page nothing none_open =
       passes_over (page + 1) page (omega arith)
       (λ p inside at_least lower. let here : p ≡ page = omega (arith, at_least, lower) in
       ap b.memory here ∙ nothing (ap is_programs (sym here) ∙ inside))
       (λ p descriptor at_least lower. let here : p ≡ page = omega (arith, at_least, lower) in
-      ap (rows_of s parent.directory) here ∙ none_open (ap is_descriptor (sym here) ∙ descriptor))
+      ap (rows_of s parent.directory) here ∙ none_open (ap is_of_descriptor (sym here) ∙ descriptor))
 
 -- ---- pages that the parent has not
 
@@ -246,7 +248,7 @@ pub programs_below : (p : ℕ) → is_programs p ≡ true → p < top_page
 programs_below p inside = let below = fence_below (p * PGSIZE) PGSIZE inside in omega (arith, below)
 
 -- and so have those of descriptors
-pub descriptors_below : (p : ℕ) → is_descriptor p ≡ true → p < top_page
+pub descriptors_below : (p : ℕ) → is_of_descriptor p ≡ true → p < top_page
 descriptors_below p descriptor = grind (arith, nat_tests)
 
 -- no entry stands in a region that has no table
@@ -345,16 +347,17 @@ module _ (k : Slot) (at next : Step) (stands : place_of k ≡ place.InService se
       place_at k.registers SERVICE_FORK next (outside_stack k.registers k.extra (place.InService service.Fork at) stands refl)
       ∙ ap (λ (x : Service). place.InService x next) (named_at k service.Fork at stands)
 
-  pub own_moved : {names : Names} {s : SpacesState} {b : Born} → StandsForBorn names s k b →
+  pub own_moved : {names : Names} {s : SpacesState} {b : Born} → is_calm_step at ≡ true → is_calm_step next ≡ true → StandsForBorn names s k b →
       StandsAtStep (view_of s k.directory) (moved k next) b service.Fork next → StandsForBorn names s (moved k next) b
-  own_moved {s = s} {b = b} own so = record {
+  own_moved {names = names} {s = s} {b = b} calm calm_after own so = record {
     id = own.id;
     id_small = own.id_small;
     parent = own.parent;
     env_type = own.env_type;
     runs = own.runs;
     upcall = own.upcall ∙ ap upcall_at stands ∙ sym (ap upcall_at moved_place);
-    descriptors = own.descriptors;
+    descriptors = descriptors_turned names s k.directory (place_of k) (place_of (moved k next)) b.descriptors (ap is_calm stands ∙ calm)
+        (ap is_calm moved_place ∙ calm_after) own.descriptors;
     memory = own.memory;
     library = library_moved (place_of k) (place_of (moved k next)) k.extra (moved k next).extra (rows_of s k.directory)
         (ap has_copy stands ∙ sym (ap has_copy moved_place))
@@ -369,8 +372,8 @@ module _ (k : Slot) (at next : Step) (stands : place_of k ≡ place.InService se
 
   -- a page that fork looks at, and that is there, is one that a program may have, or a descriptor's
   pub there_handed : {names : Names} {s : SpacesState} {b : Born} → StandsForBorn names s k b → (p : ℕ) (x : Entry) → p < top_page →
-      rows_of s k.directory p ≡ Some x → is_programs p || is_descriptor p ≡ true
-  there_handed {s = s} own p x lower is = by_tests (is_programs p) (is_descriptor p) refl refl
+      rows_of s k.directory p ≡ Some x → is_programs p || is_of_descriptor p ≡ true
+  there_handed {s = s} own p x lower is = by_tests (is_programs p) (is_of_descriptor p) refl refl
     where
       copy : rows_of s k.directory (page_number PFTEMP) ≡ None
       copy = own.library.no_copy (ap has_copy stands)
@@ -378,7 +381,7 @@ module _ (k : Slot) (at next : Step) (stands : place_of k ≡ place.InService se
       working : rows_of s k.directory (page_number UTEMP) ≡ None
       working = own.library.no_working (ap (λ (q : Place). has_working q k.extra) stands)
 
-      by_tests : (c t : Bool) → is_programs p ≡ c → is_descriptor p ≡ t → c || t ≡ true
+      by_tests : (c t : Bool) → is_programs p ≡ c → is_of_descriptor p ≡ t → c || t ≡ true
       by_tests true t inside descriptor = refl
       by_tests false true outside descriptor = refl
       by_tests false false outside no_descriptor = by_copy (p == page_number PFTEMP) refl
@@ -425,7 +428,9 @@ module _ {names : Names} {s : KernelState} {a : AbstractState} (h : StandsFor na
   module _ (sp : SpacesState) (others : (d : ℕ) → d ≢ parent.directory → d ≢ child.directory → SeenAlike names names s.spaces sp d)
       (mine : StandsForBorn names sp after v.b) (has : IsChild names sp parent v.b next child)
       (rows : RowsStand names sp.pages a.shared (things_in s a) a.next_name (logical sp (upd s.environments.slots n after)))
-      (in_order : IsInOrder (with_spaces s sp)) where
+      (in_order : IsInOrder (with_spaces s sp)) (counted_so : (j : ℕ) → j ≢ n → CountsKept s.spaces sp (slot_at s j))
+      (own_pipes : (p : ℕ) → is_pipe_page p ≡ true → rows_of sp parent.directory p ≡ rows_of s.spaces parent.directory p)
+      (bytes : (d p : ℕ) (x : Entry) → rows_of s.spaces d p ≡ Some x → sp.pages x.frame ≡ s.spaces.pages x.frame) where
     back : with_slot_at (with_spaces s sp) (id % NENV) child ≡ with_spaces s sp
     back = slot_back (with_spaces s sp) (id % NENV) child refl
 
@@ -434,12 +439,12 @@ module _ {names : Names} {s : KernelState} {a : AbstractState} (h : StandsFor na
     bearing_moves =
         subst (λ (t : KernelState). StandsFor names (with_slot_at t n after) a) back
         (bearing_stands h n id at next v after child refl refl others
-        (record { id = refl; env_type = refl; calm = λ runs. runs }) (record { id = refl; env_type = refl; calm = λ runs. runs })
+        (record { id = refl; env_type = refl; turns = refl; calm = λ runs. runs }) (record { id = refl; env_type = refl; turns = refl; calm = λ runs. runs })
         (moved_place parent at next v.place) bears mine v.child_own (child_still after refl refl has)
         (subst (λ (slots : ℕ → Slot). RowsStand names sp.pages a.shared (things_in s a) a.next_name (logical sp (upd slots n after)))
         (sym (upd-back s.environments.slots (id % NENV) child refl)) rows)
         (subst (λ (t : KernelState). IsInOrder (with_slot_at t n after)) (sym back)
-        (slot_in_order (with_spaces s sp) n after refl refl in_order)))
+        (slot_in_order (with_spaces s sp) n after refl refl in_order)) counted_so own_pipes bytes)
 
   -- Spaces are what they are.
   pub bearing_words : StandsAtStep (view_of s.spaces parent.directory) after v.b service.Fork next → IsChild names s.spaces parent v.b next child →
@@ -452,11 +457,13 @@ module _ {names : Names} {s : KernelState} {a : AbstractState} (h : StandsFor na
         bytes = λ p x is own_page. refl;
         named_so = λ p x is shared_page. refl;
         devices = λ p x descriptor is shared_page. refl;
+        pipes = λ p x pipes is shared_page. refl;
         regions = λ r. refl;
       })
-      (own_moved parent at next v.place v.own so) has
+      (own_moved parent at next v.place (borne_calm at id v.borne) (borne_calm next id bears) v.own so) has
       (rows_same (logical s.spaces s.environments.slots) (logical s.spaces (upd s.environments.slots n after))
       (set_counts s n after refl refl counted_so) (rows_stand h)) h.in_order
+      (λ j ne piped runs fd x y below is lies device. (refl, refl)) (λ p is. refl) (λ q p x is. refl)
     where
       counted_so : CountsAlike (place_of parent) (place_of after)
       counted_so row p =

@@ -30,7 +30,7 @@ use Rattle.lib_os.specs.AbstractMemory.{has_page_in}
 use Rattle.lib_os.specs.Fence.{in_fence}
 use Rattle.lib_os.specs.LibraryPages.{View, HasFrame, frame_place, is_library_region}
 use Rattle.lib_os.specs.Places.{handler_step_in, place_in_words, place_of, step_in, words_at}
-use Rattle.lib_os.specs.Rows.{AreBytes, IsPage, counted, is_descriptor, is_programs, lasting, page_by, rows_of, seen_where}
+use Rattle.lib_os.specs.Rows.{AreBytes, IsPage, counted, is_of_descriptor, is_programs, lasting, page_by, rows_of, seen_where}
 use Rattle.lib_os.specs.Services.{named_service, service_of}
 use Rattle.lib_os.specs.StandingLaws.{IsHalfCopied, SomeCopyStands}
 use Rattle.lib_os.specs.StandsFor.{view_of, borne_in, HasChildren, IsBorne, StandsForUnborn}
@@ -356,7 +356,7 @@ is_child = record {
   passed = λ p inside passed.
       ap (λ (o : Option Entry). seen_where (is_programs p) (option_map (page_by the_names (spaces_of spaces).pages) o))
       (child_row p (programs_beside p inside).1);
-  handed = λ p descriptor passed. child_row p (λ same. absurd (let contradiction : true ≡ false = sym descriptor ∙ ap is_descriptor same in cc));
+  handed = λ p descriptor passed. child_row p (λ same. absurd (let contradiction : true ≡ false = sym descriptor ∙ ap is_of_descriptor same in cc));
   rest = λ p inside below. child_none p (grind (arith, nat_tests, below));
   library = record {
     stack = λ has. absurd (let contradiction : false ≡ true = has in cc);
@@ -405,6 +405,9 @@ child_fits = record {
   directory_is = λ live. refl;
   owner_is = λ live. refl;
   counts = λ row p. refl;
+  rested = refl;
+  undescribed = λ fd name c is. let contradiction : unborn 0x1003 0x1001 ≡ born c = is in absurd cc;
+  ends = tt;
 }
 
 no_page : is_directory page ≡ true → ⊥

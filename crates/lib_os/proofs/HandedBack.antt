@@ -31,7 +31,9 @@ use Rattle.lib_os.specs.InOrder.{IsInOrder}
 use Rattle.lib_os.specs.LibraryPages.{IsOwnWritable, View, has_working}
 use Rattle.lib_os.specs.Places.{place_of}
 use Rattle.lib_os.specs.Rows.{EntryRow, IsPage, Names, Rows, rows_of}
-use Rattle.lib_os.specs.StandsFor.{IsAwaitingFile, IsCounting, IsLowestFree, StandsAt, StandsFor, StandsForBorn, awaits, awaits_bytes, awaits_file, view_of}
+use Rattle.lib_os.specs.InService.{IsLowestFree}
+use Rattle.lib_os.specs.StandsFor.{IsAwaitingFile, IsCounting, StandsAt, StandsFor, StandsForBorn}
+use Rattle.lib_os.specs.StandsFor.{awaits, awaits_bytes, awaits_file, view_of}
 use Rattle.lib_os.specs.UserCalls.{CallStep, IsStep, Output, accessing, by_access, faulting, giving, gone, got, store, store_byte, to_handler}
 use Rattle.lib_os.specs.UserCalls.{with_bytes_put}
 use Rattle.lib_os.proofs.AskedPlaces.{AskedPlace, AwaitingPlace, asked_place, asked_step, awaiting_place, awaiting_step, is_requests}
@@ -44,7 +46,7 @@ use Rattle.lib_os.proofs.Logical.{is_plain, logical_plain}
 use Rattle.lib_os.proofs.PageBytes.{bytes_more, bytes_none}
 use Rattle.lib_os.proofs.PageTaken.{working_no_descriptor, working_outside, working_page}
 use Rattle.lib_os.proofs.SlotsStand.{born_at}
-use Rattle.lib_os.proofs.StatesStand.{clients_live}
+use Rattle.lib_os.proofs.StatesStand.{clients_live, rows_counts}
 use Rattle.lib_os.proofs.Touching.{touched_quiet}
 
 -- ---- what is put where a store has not faulted
@@ -279,6 +281,7 @@ module _ {names : Names} {s : KernelState} {a : AbstractState} (h : StandsFor na
     rewritten_stands sp bytes whole rewritten in_order =
         unseen_rewritten h client b at plain working_page working_outside working_no_descriptor page.entry page.stands page.own_page page.writes bytes
         whole (subst (λ (f : ℕ). IsRewritten s.spaces sp f bytes) its_frame rewritten) in_order
+        (λ m ne. rows_counts h.in_order.frames in_order.frames rewritten.rows (slot_at s m))
         (still_at (view_of sp k.directory) (ap (λ (all : Rows). all k.directory) rewritten.rows))
 
     put_stands : (o byte : ℕ) → o < PGSIZE → byte < 256 → (mid : KernelState) (output : Output) →

@@ -20,6 +20,7 @@ use Rattle.lib_os.specs.StandsFor.{StandsFor, StandsForSlot, StandsForBorn, Stan
 use Rattle.lib_os.specs.StandsInHandler.{IsInHandler}
 use Rattle.lib_os.proofs.Children.{bears_none}
 use Rattle.lib_os.proofs.Logical.{is_plain}
+use Rattle.lib_os.proofs.PipesStand.{calm_places, descriptors_turned, is_calm}
 use Rattle.lib_os.proofs.Serving.{library_moved}
 use Rattle.lib_os.proofs.StatesStand.{plain_alike, slot_replaced}
 use Rattle.lib_os.proofs.Working.{words_work}
@@ -53,6 +54,12 @@ handled_part {names = names} {s = s} {a = a} h n step at = by_slot (a.slots n) r
       inside = inside;
       at = subst (λ (p : Place). StandsAt p (view_of s.spaces (slot_at s n).directory) (slot_at s n) b) at k.at;
     }
+
+-- there nothing is done to pipes
+pub handler_calm : (at : Place) → is_in_handler at ≡ true → is_calm at ≡ true
+handler_calm place.Guest is = refl
+handler_calm (place.InService s at) is = absurd (false≢true is)
+handler_calm (place.InHandler at) is = refl
 
 -- ---- it goes on
 
@@ -101,7 +108,7 @@ pub handler_own : {names : Names} {s : SpacesState} {k : Slot} {b : Born} (to : 
     is_handlers k.registers.esp ≡ true → IsHandlerStep to → k.upcall ≡ upcall_at (place.InHandler to) →
     has_copy (place_of k) ≡ has_copy (place.InHandler to) →
     IsInHandler to (view_of s k.directory) (handler_slot k to) b → StandsForBorn names s (handler_slot k to) b
-handler_own {s = s} {k = k} {b = b} to own inside there upcall copy at =
+handler_own {names = names} {s = s} {k = k} {b = b} to own inside there upcall copy at =
     let where_it_is : place_of (handler_slot k to) ≡ place.InHandler to = handler_place k to inside there in
     record {
       id = own.id;
@@ -110,7 +117,8 @@ handler_own {s = s} {k = k} {b = b} to own inside there upcall copy at =
       env_type = own.env_type;
       runs = own.runs;
       upcall = upcall ∙ sym (ap upcall_at where_it_is);
-      descriptors = own.descriptors;
+      descriptors = descriptors_turned names s k.directory (place_of k) (place_of (handler_slot k to)) b.descriptors
+          (handler_calm (place_of k) (handler_runs k.registers k.extra ∙ inside)) (ap is_calm where_it_is) own.descriptors;
       memory = own.memory;
       library = library_moved (place_of k) (place_of (handler_slot k to)) k.extra k.extra (rows_of s k.directory)
           (copy ∙ sym (ap has_copy where_it_is)) (words_work k (handler_registers k.registers to)) own.library;
@@ -130,8 +138,9 @@ pub handler_goes : {names : Names} {s : KernelState} {a : AbstractState} → Sta
     IsInHandler to (view_of s.spaces (slot_at s n).directory) (handler_slot (slot_at s n) to) v.b →
     StandsFor names (with_registers s n (handler_registers (slot_at s n).registers to)) a
 handler_goes {s = s} h n from to v stands there plain plain_to upcall copy at =
-    slot_replaced h n v.b v.is (handler_slot (slot_at s n) to) refl (record { id = refl; env_type = refl; calm = λ runs. runs })
+    slot_replaced h n v.b v.is (handler_slot (slot_at s n) to) refl (record { id = refl; env_type = refl; turns = refl; calm = λ runs. runs })
     (plain_alike (place_of (slot_at s n)) (place_of (handler_slot (slot_at s n) to)) (ap is_plain stands ∙ plain)
     (ap is_plain (handler_place (slot_at s n) to v.inside there) ∙ plain_to))
     (bears_none (ap borne_in stands) (ap borne_in (handler_place (slot_at s n) to v.inside there)))
     (handler_own to v.own v.inside there (v.own.upcall ∙ ap upcall_at stands ∙ upcall) (ap has_copy stands ∙ copy) at)
+    (calm_places (ap is_calm stands) (ap is_calm (handler_place (slot_at s n) to v.inside there)))

@@ -17,13 +17,14 @@ use Rattle.lib_os.specs.Rows.{Names}
 use Rattle.lib_os.specs.StandingLaws.{IsHandlerStep}
 use Rattle.lib_os.specs.StandsFor.{StandsFor, view_of, upcall_at}
 use Rattle.lib_os.specs.StandsInHandler.{IsInHandler, CopiesOrEnds, Copies, CopiesAt, Ends, EndsAt}
+use Rattle.lib_os.proofs.DescriptorLooks.{quiet_view}
 use Rattle.lib_os.proofs.Effects.{Quiet}
 use Rattle.lib_os.proofs.Handled.{IsHandled, esp_kept, handler_goes, handler_slot}
 use Rattle.lib_os.proofs.Loading.{loaded}
 use Rattle.lib_os.proofs.Logical.{is_plain}
 use Rattle.lib_os.proofs.SlotsStand.{born_at}
 use Rattle.lib_os.proofs.StatesStand.{quiet_stands}
-use Rattle.lib_os.proofs.Touching.{touched_quiet}
+use Rattle.lib_os.proofs.Touching.{touched_quiet, touched_uses}
 
 -- ---- what stands at another step
 
@@ -66,20 +67,17 @@ stays_handled {to = to} {v = v} {k = k} at way = record {
 
 -- ---- behind a call that is not seen
 
-quiet_view : {s t : SpacesState} → Quiet s t → (d : ℕ) → view_of t d ≡ view_of s d
-quiet_view quiet d = λ i. record { row = quiet.rows i d; tables = λ r. quiet.regions d r i; bytes = quiet.pages i }
-
 pub quiet_goes : {names : Names} {s : KernelState} {a : AbstractState} → StandsFor names s a → (n : ℕ) (from to : HandlerStep)
-    (v : IsHandled names s a n from) (sp : SpacesState) → Quiet s.spaces sp → IsInOrder (with_spaces s sp) →
+    (v : IsHandled names s a n from) (sp : SpacesState) → Quiet s.spaces sp → sp.uses ≡ s.spaces.uses → IsInOrder (with_spaces s sp) →
     place_of (slot_at s n) ≡ place.InHandler from → IsHandlerStep to →
     is_plain (place.InHandler from) ≡ true → is_plain (place.InHandler to) ≡ true →
     upcall_at (place.InHandler from) ≡ upcall_at (place.InHandler to) →
     has_copy (place.InHandler from) ≡ has_copy (place.InHandler to) →
     CopiesOrEnds to (view_of s.spaces (slot_at s n).directory) (handler_slot (slot_at s n) to) v.b v.at.fault v.at.regs →
     StandsFor names (with_registers (with_spaces s sp) n (handler_registers (slot_at s n).registers to)) a
-quiet_goes {names = names} {s = s} {a = a} h n from to v sp quiet order stands there plain plain_to upcall copy way =
+quiet_goes {names = names} {s = s} {a = a} h n from to v sp quiet uses order stands there plain plain_to upcall copy way =
     let after : StandsFor names (with_spaces s sp) a = quiet_stands h quiet order in
-    let seen = quiet_view quiet (slot_at s n).directory in
+    let seen = quiet_view quiet uses (slot_at s n).directory in
     let still : IsHandled names (with_spaces s sp) a n from = record {
       b = v.b;
       is = v.is;
@@ -99,5 +97,6 @@ pub load_goes : {names : Names} {s : KernelState} {a : AbstractState} → Stands
     CopiesOrEnds to (view_of s.spaces (slot_at s n).directory) (handler_slot (slot_at s n) to) v.b v.at.fault v.at.regs →
     StandsFor names (with_registers (loaded s n va) n (handler_registers (slot_at s n).registers to)) a
 load_goes {s = s} h n va from to v order stands there plain plain_to upcall copy way =
-    quiet_goes h n from to v (touched s.spaces (slot_at s n).directory va Read) (touched_quiet s.spaces (slot_at s n).directory va Read) order
+    quiet_goes h n from to v (touched s.spaces (slot_at s n).directory va Read) (touched_quiet s.spaces (slot_at s n).directory va Read)
+    (touched_uses s.spaces (slot_at s n).directory va Read) order
     stands there plain plain_to upcall copy way

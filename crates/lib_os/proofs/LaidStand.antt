@@ -1,5 +1,5 @@
 -- What goes on standing where a page of an environment's own gets other bytes, which nobody else sees.
-use Rattle.std.proofs.Common.{◌≡◌, ◌≢◌, ◌∙◌, ◌==◌, ◌≤◌, ◌<◌, ◌+◌, ◌++◌, ℕ, Bool, true, false, List, length}
+use Rattle.std.proofs.Common.{◌≡◌, ◌≢◌, ◌∙◌, ◌==◌, ◌≤◌, ◌<◌, ◌+◌, ◌++◌, ◌⊎◌, inl, inr, ℕ, Bool, true, false, List, length}
 use Rattle.std.proofs.Common.{refl, sym, ap, subst, arith}
 use Rattle.std.specs.Prelude.{Some, is_some, slice_index, take, drop}
 use Rattle.std.proofs.Math.ListN.{get_or-append}
@@ -13,15 +13,17 @@ use Rattle.jos_base.specs.SystemCalls.{has_write}
 use Rattle.jos_base.specs.Words.{upd}
 use Rattle.lib_os.specs.AbstractState.{AbstractState, Born, born}
 use Rattle.lib_os.specs.DescriptorPages.{lasting_words}
+use Rattle.lib_os.specs.PipeEnds.{LocksStand, locked_at}
 use Rattle.lib_os.specs.Places.{place_of}
-use Rattle.lib_os.specs.Rows.{Names, Rows, rows_of, counted, logical, logical_by, is_clients, is_descriptor, is_shared, IsPage}
+use Rattle.lib_os.specs.Rows.{Names, Rows, rows_of, counted, logical, logical_by, is_clients, is_of_descriptor, is_pipe_page, is_shared, own_perm, IsPage}
 use Rattle.lib_os.specs.StandsFor.{StandsFor, things_in, view_of}
-use Rattle.lib_os.proofs.EntriesCount.{ServerLacks, frames_apart}
+use Rattle.lib_os.proofs.EntriesCount.{Counts, ServerLacks, frames_apart}
 use Rattle.lib_os.proofs.EntriesStand.{RowsStand, rows_same, same_sharing, other_frame, named_bytes}
 use Rattle.lib_os.proofs.Logical.{is_plain, logical_plain}
-use Rattle.lib_os.proofs.SlotsStand.{SameDevices, SeenAlike}
+use Rattle.lib_os.proofs.PipesStand.{locks_same}
+use Rattle.lib_os.proofs.SlotsStand.{SameDevices, SamePipes, SeenAlike}
 use Rattle.lib_os.proofs.StatesStand.{CountsAlike, set_counts, clients_live}
-use Rattle.jos_base.proofs.Maps.{upd-at, upd-other}
+use Rattle.jos_base.proofs.Maps.{upd-alike, upd-at, upd-other}
 
 -- ---- bytes that are laid over others
 
@@ -39,6 +41,10 @@ overlaid_at old bytes offset within i lt =
 -- in spaces with the same entries
 pub same_rows_count : (s t : SpacesState) → rows_of t ≡ rows_of s → (slots : ℕ → Slot) (m q : ℕ) → logical t slots m q ≡ logical s slots m q
 same_rows_count s t same slots m q = λ i. logical_by (is_clients m (slots m)) (counted (place_of (slots m)) (same i (slots m).directory)) q
+
+-- the page of a pipe is one of those of descriptors
+pipe_descriptors : (q : ℕ) → is_pipe_page q ≡ true → is_of_descriptor q ≡ true
+pipe_descriptors q is = grind (arith, nat_tests)
 
 -- ---- a page gets other bytes
 
@@ -83,7 +89,7 @@ module _ {names : Names} {s : KernelState} {a : AbstractState} {sp : SpacesState
   own_elsewhere lacked q r x ne hx own_too =
       bytes_kept x (frames_apart h e.frame lacked q r x hx (λ found.
       other_frame before h.apart n p found.slot found.page found.entry e
-      (λ same too. ne (sym found.home ∙ ap (λ (m : ℕ). (slot_at s m).directory) same)) counts_here writes found.counts (found.sharing ∙ own_too)))
+      (λ same too. ne (sym found.home ∙ ap (λ (m : ℕ). (slot_at s m).directory) same)) counts_here writes found.counts (found.own own_too)))
 
   -- it is no shared frame
   shared_elsewhere : (m q : ℕ) (x : Entry) → before m q ≡ Some x → is_shared x.perm ≡ true → x.frame ≢ e.frame
@@ -91,19 +97,32 @@ module _ {names : Names} {s : KernelState} {a : AbstractState} {sp : SpacesState
       let contradiction : true ≡ false = sym shared_page ∙ same_sharing before h.apart m q n p x e hx counts_here same ∙ own_page in cc
 
   -- what the pages of its own descriptors tell is the same
-  pub laid_devices : is_descriptor p ≡ false → SameDevices (view_of s.spaces d) (view_of sp d)
-  laid_devices none q x descriptor hx = ap lasting_words (by_sharing (is_shared x.perm) refl)
+  laid_descriptors : is_of_descriptor p ≡ false → (q : ℕ) (x : Entry) → is_of_descriptor q ≡ true → rows_of s.spaces d q ≡ Some x →
+      sp.pages x.frame ≡ s.spaces.pages x.frame
+  laid_descriptors none q x descriptor hx = by_sharing (is_shared x.perm) refl
     where
       by_sharing : (c : Bool) → is_shared x.perm ≡ c → sp.pages x.frame ≡ s.spaces.pages x.frame
       by_sharing true shared_page = bytes_kept x (shared_elsewhere n q x (own_counts q x hx) shared_page)
       by_sharing false own_too =
-          laid_beside q x (λ same. let contradiction : true ≡ false = sym descriptor ∙ ap is_descriptor same ∙ none in cc) hx own_too
+          laid_beside q x (λ same. let contradiction : true ≡ false = sym descriptor ∙ ap is_of_descriptor same ∙ none in cc) hx own_too
 
-  shared_kept : ServerLacks s e.frame → (q r : ℕ) (x : Entry) → rows_of s.spaces q r ≡ Some x → is_shared x.perm ≡ true →
+  pub laid_devices : is_of_descriptor p ≡ false → SameDevices (view_of s.spaces d) (view_of sp d)
+  laid_devices none q x descriptor no_pipe hx = ap lasting_words (laid_descriptors none q x descriptor hx)
+
+  -- and so are the bytes of the pages of pipes
+  pub laid_pipes : is_of_descriptor p ≡ false → SamePipes (view_of s.spaces d) (view_of sp d)
+  laid_pipes none q x pipes hx = laid_descriptors none q x (pipe_descriptors q pipes) hx
+
+  shared_kept : ServerLacks s e.frame → (q r : ℕ) (x : Entry) → q ≢ d → rows_of s.spaces q r ≡ Some x → is_shared x.perm ≡ true →
       sp.pages x.frame ≡ s.spaces.pages x.frame
-  shared_kept lacked q r x hx shared_too =
-      bytes_kept x (frames_apart h e.frame lacked q r x hx (λ found.
-      shared_elsewhere found.slot found.page found.entry found.counts (found.sharing ∙ shared_too)))
+  shared_kept lacked q r x ne hx shared_too =
+      bytes_kept x (frames_apart h e.frame lacked q r x hx (λ found. by_bits found (found.shared shared_too)))
+    where
+      by_bits : (found : Counts s q r x) → (is_shared found.entry.perm ≡ true) ⊎ (found.entry.perm ≡ own_perm) → found.entry.frame ≢ e.frame
+      by_bits found (inl is) = shared_elsewhere found.slot found.page found.entry found.counts is
+      by_bits found (inr bits) =
+          other_frame before h.apart n p found.slot found.page found.entry e
+          (λ same too. ne (sym found.home ∙ ap (λ (m : ℕ). (slot_at s m).directory) same)) counts_here writes found.counts (ap is_shared bits)
 
   -- nothing that is seen of other spaces differs, where the file server lacks the frame
   pub laid_others : ServerLacks s e.frame → (q : ℕ) → q ≢ d → SeenAlike names names s.spaces sp q
@@ -111,9 +130,19 @@ module _ {names : Names} {s : KernelState} {a : AbstractState} {sp : SpacesState
     rows = ap (λ (rows : Rows). rows q) laid.rows;
     bytes = λ r x hx own_too. own_elsewhere lacked q r x ne hx own_too;
     named_so = λ r x hx shared_page. refl;
-    devices = λ r x descriptor hx shared_too. ap lasting_words (shared_kept lacked q r x hx shared_too);
+    devices = λ r x descriptor hx shared_too. ap lasting_words (shared_kept lacked q r x ne hx shared_too);
+    pipes = λ r x pipes hx shared_too. shared_kept lacked q r x ne hx shared_too;
     regions = laid.regions q;
   }
+
+  -- where its slot is another, in the same space, which holds the same lock, locks are held by whom they were held
+  pub laid_locks : (k : Slot) → is_live k ≡ is_live (slot_at s n) → k.directory ≡ d → CountsAlike (place_of (slot_at s n)) (place_of k) →
+      locked_at (place_of k) ≡ locked_at (place_of (slot_at s n)) →
+      LocksStand sp.pages (upd s.environments.slots n k) (logical sp (upd s.environments.slots n k))
+  laid_locks k live directory counts locked =
+      locks_same (upd-alike (λ (x : Slot). locked_at (place_of x)) s.environments.slots n k locked)
+      (λ m q pipes. same_rows_count s.spaces sp laid.rows (upd s.environments.slots n k) m q ∙ set_counts s n k live directory counts m q)
+      (λ m q x pipes hx shared_page. bytes_kept x (shared_elsewhere m q x hx shared_page)) h.locks
 
   -- where its slot is another, in the same space, and its entries count as before, all is as it was of entries
   pub laid_rows : IsPage bytes → (k : Slot) → is_live k ≡ is_live (slot_at s n) → k.directory ≡ d →

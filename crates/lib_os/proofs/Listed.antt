@@ -26,12 +26,13 @@ use Rattle.lib_os.specs.AbstractState.{AbstractState, Born, AbstractSlot, free, 
 use Rattle.lib_os.specs.Fence.{in_fence, is_resident}
 use Rattle.lib_os.specs.InOrder.{HasOneUse}
 use Rattle.lib_os.specs.LibraryPages.{LibraryPages, IsOwnWritable, has_copy, has_working, is_library_region, region_index}
+use Rattle.lib_os.specs.PipeEnds.{EndsStandAt, is_made}
 use Rattle.lib_os.specs.Places.{place_of, place_in_words, is_handlers}
 use Rattle.lib_os.specs.Rows.{Names, EntryRow, lasting, rows_of, counted, logical, page_seen, is_programs, is_shared, IsUsers, Agree, AgreeWhereShared, IsPage}
-use Rattle.lib_os.specs.Rows.{descriptor_page, descriptor_seen, is_descriptor, name_of, page_by, shown_at}
+use Rattle.lib_os.specs.Rows.{descriptor_page, descriptor_seen, is_of_descriptor, name_of, page_by, pipe_page, shown_at}
 use Rattle.jos_base.specs.Messages.{wanting}
 use Rattle.lib_os.specs.declared.numbers.TheConstants.{REQUEST}
-use Rattle.lib_os.specs.StandsFor.{AwaitsRequest, StandsFor, StandsForSlot, StandsForBorn, StandsAt, view_of, upcall_at, HasChildren, borne_in}
+use Rattle.lib_os.specs.StandsFor.{AwaitsRequest, StandsFor, StandsForSlot, StandsForBorn, StandsAt, view_of, upcall_at, HasChildren, borne_in, seen_unless}
 use Rattle.lib_os.proofs.Logical.{clients_are, logical_live, logical_of, programs_no_descriptor}
 
 -- ---- lists by numbers
@@ -228,7 +229,7 @@ abbrev pub no_pair : Pair
 no_pair = (free_slot 0, free 0)
 
 abbrev pub the_names : Names
-the_names = record { name = λ f. f; frame = λ name. name; is_object = λ name. false }
+the_names = record { name = λ f. f; frame = λ name. name; is_object = λ name. false; is_pipe = λ name. false }
 
 abbrev pub state_of : Spaces → List (ℕ × Pair) → KernelState
 state_of l pairs = record {
@@ -267,6 +268,9 @@ pub record SlotFits (l : Spaces) (owner : ℕ → ℕ) (n : ℕ) (pair : Pair) :
   pub directory_is : is_live pair.0 ≡ true → (spaces_of l).uses pair.0.directory ≡ directory
   pub owner_is : is_live pair.0 ≡ true → owner pair.0.directory ≡ n
   pub counts : (row : EntryRow) (p : ℕ) → counted (place_of pair.0) row p ≡ row p
+  pub rested : pair.0.runs ≡ 0
+  pub undescribed : (fd name : ℕ) (c : Born) → pair.1 ≡ born c → c.descriptors fd ≢ Some name
+  pub ends : EndsStandAt the_names (λ name. terminal) (place_of pair.0) (rows_of (spaces_of l) pair.0.directory) pair.1
 
 -- The server waits, and has neither pages nor tables.
 pub record IsBare (l : Spaces) (k : Slot) : Type 0 where
@@ -304,6 +308,9 @@ module _ (l : Spaces) (pairs : List (ℕ × Pair)) (owner : ℕ → ℕ) (fit : 
     directory_is = λ live. absurd (false≢true live);
     owner_is = λ live. absurd (false≢true live);
     counts = λ row p. refl;
+    rested = refl;
+    undescribed = λ fd name c is. let contradiction : free 0 ≡ born c = is in absurd cc;
+    ends = tt;
   })
 
   has_spaces : HasSpaces the_state.spaces the_state.environments
@@ -327,6 +334,10 @@ module _ (l : Spaces) (pairs : List (ℕ × Pair)) (owner : ℕ → ℕ) (fit : 
         fits = row_fits l fit.spaces (slot n).directory p x
             (sym ((slot_fits n).counts (rows_of the_state.spaces (slot n).directory) p) ∙ counts);
       }
+
+  -- none of them is shared, so that there is no pipe
+  none_shared : (n p : ℕ) (x : Entry) → logical the_state.spaces slot n p ≡ Some x → is_shared x.perm ≡ true → ⊥
+  none_shared n p x is shared = false≢true (sym (counts_at n p x is).fits.own_page ∙ shared)
 
   agree : AgreeWhereShared (logical the_state.spaces slot)
   agree n p m q x y ne is js same = by_common (l.common x.frame) refl
@@ -356,6 +367,14 @@ module _ (l : Spaces) (pairs : List (ℕ × Pair)) (owner : ℕ → ℕ) (fit : 
     users = λ n p x is. (counts_at n p x is).fits.users;
     whole = λ n p x is. (counts_at n p x is).fits.whole;
     beside = λ n p q x e is at. absurd (none-some e (sym (fit.server.empty q) ∙ at));
+    ends = λ n. (slot_fits n).ends;
+    locks = record {
+      held = λ n frame holds. absurd (none_shared n (pipe_page holds.fd) holds.entry holds.stands holds.shared);
+      holder = λ n fd entry below stands shared some. absurd (none_shared n (pipe_page fd) entry stands shared);
+      alone = λ n m frame holds too. absurd (none_shared n (pipe_page holds.fd) holds.entry holds.stands holds.shared);
+    };
+    runs = λ n. let none = (slot_fits n).rested in omega (arith, none);
+    old = λ n fd name c is names_it. absurd ((slot_fits n).undescribed fd name c is names_it);
     free_slots = record { same = refl; within = tt };
     first = fit.first;
     server = record {
@@ -433,6 +452,9 @@ server_fits l owner d directory_is owner_is = record {
   directory_is = λ live. directory_is;
   owner_is = λ live. owner_is;
   counts = λ row p. refl;
+  rested = refl;
+  undescribed = λ fd name c is. let contradiction : serving FIRST_ENV_ID ≡ born c = is in absurd cc;
+  ends = tt;
 }
 
 -- an environment that may run, with its id, its directory, its registers and its words
@@ -481,14 +503,14 @@ unfolding in_fence
 working_outside = refl
 
 -- so no descriptor's page stands there
-no_descriptor : (l : Spaces) (d : ℕ) → AllListed IsKnown (listed l.rows [] d) → (p : ℕ) → is_descriptor p ≡ true →
+no_descriptor : (l : Spaces) (d : ℕ) → AllListed IsKnown (listed l.rows [] d) → (p : ℕ) → is_of_descriptor p ≡ true →
     rows_of (spaces_of l) d p ≡ None
 no_descriptor l d known p descriptor = by_programs (is_programs p) refl
   where
     by_programs : (c : Bool) → is_programs p ≡ c → rows_of (spaces_of l) d p ≡ None
     by_programs true inside = absurd (false≢true (sym (programs_no_descriptor p inside) ∙ descriptor))
-    by_programs false outside = none_unknown l d known p outside (λ same. absurd (false≢true (sym (ap is_descriptor same) ∙ descriptor)))
-        (λ same. absurd (false≢true (sym (ap is_descriptor same) ∙ descriptor)))
+    by_programs false outside = none_unknown l d known p outside (λ same. absurd (false≢true (sym (ap is_of_descriptor same) ∙ descriptor)))
+        (λ same. absurd (false≢true (sym (ap is_of_descriptor same) ∙ descriptor)))
 
 -- and no descriptor is open
 none_open : (l : Spaces) (d : ℕ) → AllListed IsKnown (listed l.rows [] d) → (fd : ℕ) → None ≡ descriptor_seen the_names (spaces_of l) d fd
@@ -497,10 +519,15 @@ none_open l d known fd = by_test (nat_lt fd DESCRIPTORS) refl
     by_test : (c : Bool) → nat_lt fd DESCRIPTORS ≡ c →
         None ≡ (if c then name_of (shown_at the_names (spaces_of l) d (descriptor_page fd)) else None)
     by_test true below =
-        let descriptor : is_descriptor (descriptor_page fd) ≡ true = grind (arith, nat_tests) in
+        let descriptor : is_of_descriptor (descriptor_page fd) ≡ true = grind (arith, nat_tests) in
         let none = no_descriptor l d known (descriptor_page fd) descriptor in
         sym (ap (λ (o : Option Entry). name_of (option_map (page_by the_names (spaces_of l).pages) o)) none)
     by_test false below = refl
+
+-- where none is seen, none is seen
+seen_none : (made : Bool) → None ≡ seen_unless made None
+seen_none true = refl
+seen_none false = refl
 
 known_region : (l : Spaces) (d : ℕ) → AllListed IsKnownRegion (listed l.tables [] d) → (r : ℕ) →
     is_some ((spaces_of l).regions d r) ≡ true → (r == region_index UTEXT) || is_library_region r ≡ true
@@ -543,7 +570,8 @@ environment_stands l id d registers program words phase at h = record {
   env_type = refl;
   runs = tt;
   upcall = sym h.upcall ∙ sym (ap upcall_at h.place_is);
-  descriptors = none_open l d h.known;
+  descriptors = λ fd still. seen_none (is_made (place_of (running_slot id d registers words)) fd)
+      ∙ ap (seen_unless (is_made (place_of (running_slot id d registers words)) fd)) (none_open l d h.known fd);
   memory = λ p. refl;
   library = subst (λ (x : Place). LibraryPages x words (rows_of (spaces_of l) d)) (sym h.place_is) (record {
     stack = h.stack_page;
@@ -562,6 +590,9 @@ environment_stands l id d registers program words phase at h = record {
       (sym h.place_is) h.stands;
 }
 
+same_born : (b c : Born) → born b ≡ born c → b ≡ c
+same_born b c same = cc
+
 pub environment_fits : (l : Spaces) (owner : ℕ → ℕ) (n id d : ℕ) (registers program : Regs) (words : List ℕ) (phase : Phase) (at : Place) →
     EnvironmentFits l id d registers program words phase at → id % NENV ≡ n → (spaces_of l).uses d ≡ directory → owner d ≡ n →
     SlotFits l owner n (running_slot id d registers words, born (born_in l id d program phase))
@@ -573,6 +604,15 @@ environment_fits l owner n id d registers program words phase at h id_is directo
   directory_is = λ live. directory_is;
   owner_is = λ live. owner_is;
   counts = λ row p. ap (λ (x : Place). counted x row p) h.place_is ∙ h.counts row p;
+  rested = refl;
+  undescribed = λ fd name c is some.
+      none-some name (subst (λ (x : Born). x.descriptors fd ≡ Some name) (sym (same_born (born_in l id d program phase) c is)) some);
+  ends = record {
+    have = λ fd name pipe below is. absurd (none-some name is);
+    only = λ fd entry below off lies.
+        let of_pipe : is_of_descriptor (pipe_page fd) ≡ true = grind (arith, nat_tests) in
+        absurd (none-some entry (sym (no_descriptor l d h.known (pipe_page fd) of_pipe) ∙ lies));
+  };
 }
 
 pub environment_childless : (l : Spaces) (n id d : ℕ) (registers program : Regs) (words : List ℕ) (phase : Phase) (at : Place) →

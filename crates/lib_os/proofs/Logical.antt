@@ -12,6 +12,8 @@ use Rattle.jos_base.specs.Words.{page_number}
 use Rattle.lib_os.specs.declared.numbers.TheConstants.{PFTEMP, UXSTACK}
 use Rattle.lib_os.specs.declared.place.HandlerStep.{HandlerStep}
 use Rattle.lib_os.specs.declared.place.HandlerStep.TheVariants as handler
+use Rattle.lib_os.specs.declared.place.PipeStep.{PipeStep}
+use Rattle.lib_os.specs.declared.place.PipeStep.TheVariants as pipe
 use Rattle.lib_os.specs.declared.place.Place.{Place}
 use Rattle.lib_os.specs.declared.place.Place.TheVariants as place
 use Rattle.lib_os.specs.declared.place.Step.{Step}
@@ -21,12 +23,13 @@ use Rattle.lib_os.specs.declared.service.Service.TheVariants as service
 use Rattle.lib_os.specs.StandsFor.{borne_in}
 use Rattle.lib_os.specs.Fence.{in_fence, is_inside, is_page_inside}
 use Rattle.lib_os.specs.Places.{place_of}
-use Rattle.lib_os.specs.Rows.{is_clients, EntryRow, rows_of, counted, logical_by, logical, is_descriptor, is_programs, is_shared, as_cow, cow_perm}
+use Rattle.lib_os.specs.Rows.{is_clients, EntryRow, rows_of, counted, logical_by, logical, is_of_descriptor, is_programs, is_shared, as_cow, cow_perm}
+use Rattle.lib_os.specs.Rows.{as_own, descriptor_at, is_making, makes}
 use Rattle.lib_os.proofs.WordsTell.{is_in_handler}
 
 -- ---- pages that a program may have
 
-both : (a b : Bool) → (a && b) ≡ true → (a ≡ true) × (b ≡ true)
+pub both : (a b : Bool) → (a && b) ≡ true → (a ≡ true) × (b ≡ true)
 both true true h = (refl, refl)
 both true false h = absurd (let contradiction : false ≡ true = h in cc)
 both false b h = absurd (let contradiction : false ≡ true = h in cc)
@@ -50,7 +53,7 @@ programs_beside p inside = (
     no_working h = let contradiction : false ≡ true = h in cc
 
 -- nor is one of them a descriptor's
-pub programs_no_descriptor : (p : ℕ) → is_programs p ≡ true → is_descriptor p ≡ false
+pub programs_no_descriptor : (p : ℕ) → is_programs p ≡ true → is_of_descriptor p ≡ false
 unfolding in_fence
 programs_no_descriptor p inside = grind (arith, nat_tests)
 
@@ -66,18 +69,41 @@ page_inside_programs va inside = grind (arith, nat_tests)
 
 -- ---- entries as they count at a place
 
--- they count as they stand, and no child is being made
+-- the steps of service pipe at which the pages of descriptors and of a pipe are its maker's own
+abbrev pub makes_pages : PipeStep → Bool
+makes_pages (pipe.StoringReading reading writing) = true
+makes_pages (pipe.TakingWriting reading writing) = true
+makes_pages (pipe.StoringWriting reading writing) = true
+makes_pages (pipe.StoringEndMode reading writing) = true
+makes_pages (pipe.TakingPipe reading writing) = true
+makes_pages (pipe.MappingPipe reading writing) = true
+makes_pages _ = false
+
+abbrev pub is_making_pipe : Place → Bool
+is_making_pipe (place.InService service.Pipe (step.Piped at)) = makes_pages at
+is_making_pipe _ = false
+
+-- they count as they stand, and no child is being made, and no pipe
 abbrev pub is_plain : Place → Bool
 is_plain place.Guest = true
-is_plain (place.InService s at) = is_none (borne_in (place.InService s at))
+is_plain (place.InService s at) = is_none (borne_in (place.InService s at)) && not (is_making_pipe (place.InService s at))
 is_plain (place.InHandler (handler.Unmapping va)) = false
 is_plain (place.InHandler at) = true
 
--- where no child is being made, and the handler does not run
-pub unborne_plain : (at : Place) → is_in_handler at ≡ false → borne_in at ≡ None → is_plain at ≡ true
-unborne_plain place.Guest outside none = refl
-unborne_plain (place.InService s at) outside none = ap (λ (o : Option ℕ). is_none o) none
-unborne_plain (place.InHandler at) outside none = absurd (let contradiction : true ≡ false = outside in cc)
+-- where neither is being made, and the handler does not run
+pub unborne_plain : (at : Place) → is_in_handler at ≡ false → borne_in at ≡ None → is_making_pipe at ≡ false → is_plain at ≡ true
+unborne_plain place.Guest outside none unmade = refl
+unborne_plain (place.InService s at) outside none unmade = λ i. is_none (none i) && not (unmade i)
+unborne_plain (place.InHandler at) outside none unmade = absurd (let contradiction : true ≡ false = outside in cc)
+
+not_so : (c : Bool) → not c ≡ true → c ≡ false
+not_so false is = refl
+not_so true is = absurd (let contradiction : false ≡ true = is in cc)
+
+pub plain_unmade : (at : Place) → is_plain at ≡ true → is_making_pipe at ≡ false
+plain_unmade place.Guest plain = refl
+plain_unmade (place.InService s at) plain = not_so (is_making_pipe (place.InService s at)) (both _ _ plain).1
+plain_unmade (place.InHandler at) plain = refl
 
 none_is : (o : Option ℕ) → is_none o ≡ true → o ≡ None
 none_is None is = refl
@@ -85,7 +111,7 @@ none_is (Some id) is = absurd (let contradiction : false ≡ true = is in cc)
 
 pub plain_unborne : (at : Place) → is_plain at ≡ true → borne_in at ≡ None
 plain_unborne place.Guest plain = refl
-plain_unborne (place.InService s at) plain = none_is (borne_in (place.InService s at)) plain
+plain_unborne (place.InService s at) plain = none_is (borne_in (place.InService s at)) (both _ _ plain).0
 plain_unborne (place.InHandler at) plain = refl
 
 handler_plain : (at : HandlerStep) (row : EntryRow) → is_plain (place.InHandler at) ≡ true → (p : ℕ) → counted (place.InHandler at) row p ≡ row p
@@ -168,6 +194,30 @@ fork_plain (step.OpenPausing id fd) row plain p = refl
 fork_plain (step.OpenAwaiting id fd) row plain p = refl
 fork_plain (step.OpenClearing id fd) row plain p = refl
 fork_plain (step.ReadingOpened id fd) row plain p = refl
+fork_plain (step.Piped at) row plain p = refl
+
+-- at the other steps of service pipe none is its own
+pub unmade_makes : (at : PipeStep) → makes_pages at ≡ false → (fd : ℕ) → makes at fd ≡ false
+unmade_makes (pipe.StoringReading reading writing) none fd = absurd (let contradiction : true ≡ false = none in cc)
+unmade_makes (pipe.TakingWriting reading writing) none fd = absurd (let contradiction : true ≡ false = none in cc)
+unmade_makes (pipe.StoringWriting reading writing) none fd = absurd (let contradiction : true ≡ false = none in cc)
+unmade_makes (pipe.StoringEndMode reading writing) none fd = absurd (let contradiction : true ≡ false = none in cc)
+unmade_makes (pipe.TakingPipe reading writing) none fd = absurd (let contradiction : true ≡ false = none in cc)
+unmade_makes (pipe.MappingPipe reading writing) none fd = absurd (let contradiction : true ≡ false = none in cc)
+unmade_makes _ none fd = refl
+
+pub unmade_making : (at : PipeStep) → makes_pages at ≡ false → (p : ℕ) → is_making at p ≡ false
+unmade_making at none p = by_page (is_of_descriptor p)
+  where
+    by_page : (c : Bool) → (c && makes at (descriptor_at p)) ≡ false
+    by_page true = unmade_makes at none (descriptor_at p)
+    by_page false = refl
+
+pipe_plain : (at : Step) (row : EntryRow) → is_making_pipe (place.InService service.Pipe at) ≡ false → (p : ℕ) →
+    counted (place.InService service.Pipe at) row p ≡ row p
+unfolding counted
+pipe_plain (step.Piped at) row none p = ap (λ (c : Bool). if c then option_map as_own (row p) else row p) (unmade_making at none p)
+pipe_plain _ row none p = refl
 
 service_plain : (s : Service) (at : Step) (row : EntryRow) → is_plain (place.InService s at) ≡ true → (p : ℕ) →
     counted (place.InService s at) row p ≡ row p
@@ -192,7 +242,7 @@ service_plain (service.SetSize fd size) at row plain p = refl
 service_plain (service.Remove path) at row plain p = refl
 service_plain service.Sync at row plain p = refl
 service_plain (service.Dup old new) at row plain p = refl
-service_plain service.Pipe at row plain p = refl
+service_plain service.Pipe at row plain p = pipe_plain at row (plain_unmade (place.InService service.Pipe at) plain) p
 service_plain (service.Spawn path argv) at row plain p = refl
 service_plain service.Unknown at row plain p = refl
 
@@ -202,9 +252,10 @@ counted_plain place.Guest row plain p = refl
 counted_plain (place.InService s at) row plain p = service_plain s at row plain p
 counted_plain (place.InHandler at) row plain p = handler_plain at row plain p
 
--- fork is about to map the page of this number onto itself
+-- The page of this number counts otherwise than it stands: fork is about to map it onto itself, or service pipe makes it.
 abbrev pub is_remapped : Place → ℕ → Bool
 is_remapped (place.InService service.Fork (step.Remap id page)) p = p == page
+is_remapped (place.InService service.Pipe (step.Piped at)) p = is_making at p
 is_remapped _ p = false
 
 fork_unremapped : (at : Step) (p : ℕ) → is_plain (place.InService service.Fork at) ≡ true → is_remapped (place.InService service.Fork at) p ≡ false
@@ -270,6 +321,11 @@ fork_unremapped (step.OpenPausing id fd) p plain = refl
 fork_unremapped (step.OpenAwaiting id fd) p plain = refl
 fork_unremapped (step.OpenClearing id fd) p plain = refl
 fork_unremapped (step.ReadingOpened id fd) p plain = refl
+fork_unremapped (step.Piped at) p plain = refl
+
+pipe_unremapped : (at : Step) (p : ℕ) → is_making_pipe (place.InService service.Pipe at) ≡ false → is_remapped (place.InService service.Pipe at) p ≡ false
+pipe_unremapped (step.Piped at) p none = unmade_making at none p
+pipe_unremapped _ p none = refl
 
 pub plain_unremapped : (at : Place) (p : ℕ) → is_plain at ≡ true → is_remapped at p ≡ false
 plain_unremapped place.Guest p plain = refl
@@ -293,21 +349,48 @@ plain_unremapped (place.InService (service.SetSize fd size) at) p plain = refl
 plain_unremapped (place.InService (service.Remove path) at) p plain = refl
 plain_unremapped (place.InService service.Sync at) p plain = refl
 plain_unremapped (place.InService (service.Dup old new) at) p plain = refl
-plain_unremapped (place.InService service.Pipe at) p plain = refl
+plain_unremapped (place.InService service.Pipe at) p plain = pipe_unremapped at p (plain_unmade (place.InService service.Pipe at) plain)
 plain_unremapped (place.InService (service.Spawn path argv) at) p plain = refl
 plain_unremapped (place.InService service.Unknown at) p plain = refl
 plain_unremapped (place.InService service.Fork at) p plain = fork_unremapped at p plain
 
--- there it counts as a page that is copied when it is written
-pub counted_remapped : (at : Place) (row : EntryRow) (p : ℕ) → is_remapped at p ≡ true → counted at row p ≡ option_map as_cow (row p)
+-- There it counts as a page that is copied when it is written, or where a pipe is made as a page of its maker's own.
+pub counted_remapped : (at : Place) (row : EntryRow) (p : ℕ) → is_remapped at p ≡ true → is_making_pipe at ≡ false →
+    counted at row p ≡ option_map as_cow (row p)
 unfolding counted
-counted_remapped (place.InService service.Fork (step.Remap id page)) row p is = ap (λ (c : Bool). if c then option_map as_cow (row p) else row p) is
-counted_remapped _ row p is = absurd (let contradiction : false ≡ true = is in cc)
+counted_remapped (place.InService service.Fork (step.Remap id page)) row p is unmade =
+    ap (λ (c : Bool). if c then option_map as_cow (row p) else row p) is
+counted_remapped (place.InService service.Pipe (step.Piped at)) row p is unmade =
+    absurd (let contradiction : true ≡ false = sym is ∙ unmade_making at unmade p in cc)
+counted_remapped _ row p is unmade = absurd (let contradiction : false ≡ true = is in cc)
 
-pub unborne_unremapped : (at : Place) (p : ℕ) → borne_in at ≡ None → is_remapped at p ≡ false
-unborne_unremapped place.Guest p none = refl
-unborne_unremapped (place.InService s at) p none = plain_unremapped (place.InService s at) p (ap (λ (o : Option ℕ). is_none o) none)
-unborne_unremapped (place.InHandler at) p none = refl
+pub counted_made : (at : Place) (row : EntryRow) (p : ℕ) → is_remapped at p ≡ true → is_making_pipe at ≡ true →
+    counted at row p ≡ option_map as_own (row p)
+unfolding counted
+counted_made (place.InService service.Pipe (step.Piped at)) row p is making = ap (λ (c : Bool). if c then option_map as_own (row p) else row p) is
+counted_made (place.InService service.Fork (step.Remap id page)) row p is making = absurd (let contradiction : false ≡ true = making in cc)
+counted_made _ row p is making = absurd (let contradiction : false ≡ true = is in cc)
+
+-- such a page is a descriptor's, or that of a pipe
+pub made_descriptors : (at : Place) (p : ℕ) → is_remapped at p ≡ true → is_making_pipe at ≡ true → is_of_descriptor p ≡ true
+made_descriptors (place.InService service.Pipe (step.Piped at)) p is making = (both _ _ is).0
+made_descriptors (place.InService service.Fork (step.Remap id page)) p is making = absurd (let contradiction : false ≡ true = making in cc)
+made_descriptors _ p is making = absurd (let contradiction : false ≡ true = is in cc)
+
+pub unborne_unremapped : (at : Place) (p : ℕ) → borne_in at ≡ None → is_making_pipe at ≡ false → is_remapped at p ≡ false
+unborne_unremapped place.Guest p none unmade = refl
+unborne_unremapped (place.InService s at) p none unmade =
+    plain_unremapped (place.InService s at) p (λ i. is_none (none i) && not (unmade i))
+unborne_unremapped (place.InHandler at) p none unmade = refl
+
+-- no page is made but a descriptor's, or a pipe's
+pub unborne_beside : (at : Place) (p : ℕ) → borne_in at ≡ None → is_of_descriptor p ≡ false → is_remapped at p ≡ false
+unborne_beside at p none other = by_making (is_making_pipe at) refl (is_remapped at p) refl
+  where
+    by_making : (c : Bool) → is_making_pipe at ≡ c → (is : Bool) → is_remapped at p ≡ is → is_remapped at p ≡ false
+    by_making false unmade is so = unborne_unremapped at p none unmade
+    by_making true making false so = so
+    by_making true making true so = absurd (let contradiction : true ≡ false = sym (made_descriptors at p so making) ∙ other in cc)
 
 -- all but the page where a copy was made count as they stand, and the one that is mapped onto itself
 handler_elsewhere : (at : HandlerStep) (row : EntryRow) (p : ℕ) → (p == page_number PFTEMP) ≡ false → counted (place.InHandler at) row p ≡ row p
@@ -390,6 +473,13 @@ fork_elsewhere (step.OpenPausing id fd) row p other = refl
 fork_elsewhere (step.OpenAwaiting id fd) row p other = refl
 fork_elsewhere (step.OpenClearing id fd) row p other = refl
 fork_elsewhere (step.ReadingOpened id fd) row p other = refl
+fork_elsewhere (step.Piped at) row p other = refl
+
+pipe_elsewhere : (at : Step) (row : EntryRow) (p : ℕ) → is_remapped (place.InService service.Pipe at) p ≡ false →
+    counted (place.InService service.Pipe at) row p ≡ row p
+unfolding counted
+pipe_elsewhere (step.Piped at) row p other = ap (λ (c : Bool). if c then option_map as_own (row p) else row p) other
+pipe_elsewhere _ row p other = refl
 
 service_elsewhere : (s : Service) (at : Step) (row : EntryRow) (p : ℕ) → is_remapped (place.InService s at) p ≡ false →
     counted (place.InService s at) row p ≡ row p
@@ -414,7 +504,7 @@ service_elsewhere (service.SetSize fd size) at row p other = refl
 service_elsewhere (service.Remove path) at row p other = refl
 service_elsewhere service.Sync at row p other = refl
 service_elsewhere (service.Dup old new) at row p other = refl
-service_elsewhere service.Pipe at row p other = refl
+service_elsewhere service.Pipe at row p other = pipe_elsewhere at row p other
 service_elsewhere (service.Spawn path argv) at row p other = refl
 service_elsewhere service.Unknown at row p other = refl
 
@@ -424,15 +514,15 @@ counted_elsewhere place.Guest row p ne other = refl
 counted_elsewhere (place.InService s at) row p ne other = service_elsewhere s at row p other
 counted_elsewhere (place.InHandler at) row p ne other = handler_elsewhere at row p (grind (arith, nat_tests))
 
--- What counts at a place stands there, with the same frame, shared or not.
+-- What counts at a place stands there, with the same frame, and is shared there where it counts as shared.
 pub record StandsAs (o : Option Entry) (x : Entry) : Type 0 where
   pub entry : Entry
   pub stands : o ≡ Some entry
   pub frame : entry.frame ≡ x.frame
-  pub sharing : is_shared entry.perm ≡ is_shared x.perm
+  pub sharing : is_shared x.perm ≡ true → is_shared entry.perm ≡ true
 
 itself : (o : Option Entry) (x : Entry) → o ≡ Some x → StandsAs o x
-itself o x is = record { entry = x; stands = is; frame = refl; sharing = refl }
+itself o x is = record { entry = x; stands = is; frame = refl; sharing = λ so. so }
 
 pub as_cow_alike : (e : Entry) → ((as_cow e).frame ≡ e.frame) × (is_shared (as_cow e).perm ≡ is_shared e.perm)
 as_cow_alike e = by_sharing (is_shared e.perm) refl
@@ -451,7 +541,7 @@ cow_stands (Some e) x is =
       entry = e;
       stands = refl;
       frame = sym alike.0 ∙ ap (λ (y : Entry). y.frame) same;
-      sharing = sym alike.1 ∙ ap (λ (y : Entry). is_shared y.perm) same;
+      sharing = λ so. sym alike.1 ∙ ap (λ (y : Entry). is_shared y.perm) same ∙ so;
     }
 
 remapped_some : (id page : ℕ) (row : EntryRow) (p : ℕ) (x : Entry) → counted (place.InService service.Fork (step.Remap id page)) row p ≡ Some x →
@@ -549,6 +639,27 @@ fork_some (step.OpenPausing id fd) row p x is = itself (row p) x is
 fork_some (step.OpenAwaiting id fd) row p x is = itself (row p) x is
 fork_some (step.OpenClearing id fd) row p x is = itself (row p) x is
 fork_some (step.ReadingOpened id fd) row p x is = itself (row p) x is
+fork_some (step.Piped at) row p x is = itself (row p) x is
+
+own_stands : (o : Option Entry) (x : Entry) → option_map as_own o ≡ Some x → StandsAs o x
+own_stands None x is = absurd (none-some x is)
+own_stands (Some e) x is =
+    let same : as_own e ≡ x = same_Some (as_own e) x is in
+    record {
+      entry = e;
+      stands = refl;
+      frame = ap (λ (y : Entry). y.frame) same;
+      sharing = λ so. absurd (let contradiction : false ≡ true = ap (λ (y : Entry). is_shared y.perm) same ∙ so in cc);
+    }
+
+pipe_some : (at : Step) (row : EntryRow) (p : ℕ) (x : Entry) → counted (place.InService service.Pipe at) row p ≡ Some x → StandsAs (row p) x
+unfolding counted
+pipe_some (step.Piped at) row p x is = by_page (is_making at p) is
+  where
+    by_page : (c : Bool) → (if c then option_map as_own (row p) else row p) ≡ Some x → StandsAs (row p) x
+    by_page true is = own_stands (row p) x is
+    by_page false is = itself (row p) x is
+pipe_some _ row p x is = itself (row p) x is
 
 service_some : (s : Service) (at : Step) (row : EntryRow) (p : ℕ) (x : Entry) → counted (place.InService s at) row p ≡ Some x → StandsAs (row p) x
 unfolding counted
@@ -572,7 +683,7 @@ service_some (service.SetSize fd size) at row p x is = itself (row p) x is
 service_some (service.Remove path) at row p x is = itself (row p) x is
 service_some service.Sync at row p x is = itself (row p) x is
 service_some (service.Dup old new) at row p x is = itself (row p) x is
-service_some service.Pipe at row p x is = itself (row p) x is
+service_some service.Pipe at row p x is = pipe_some at row p x is
 service_some (service.Spawn path argv) at row p x is = itself (row p) x is
 service_some service.Unknown at row p x is = itself (row p) x is
 
@@ -582,13 +693,14 @@ counted_some place.Guest row p x is = itself (row p) x is
 counted_some (place.InService s at) row p x is = service_some s at row p x is
 counted_some (place.InHandler at) row p x is = itself (row p) x (handler_some at row p x is)
 
--- where no child is being made, what counts stands there as it is
-pub unborne_stands : (at : Place) (row : EntryRow) (p : ℕ) (x : Entry) → borne_in at ≡ None → counted at row p ≡ Some x → row p ≡ Some x
+-- where no child and no pipe is being made, what counts stands there as it is
+pub unborne_stands : (at : Place) (row : EntryRow) (p : ℕ) (x : Entry) → borne_in at ≡ None → is_making_pipe at ≡ false →
+    counted at row p ≡ Some x → row p ≡ Some x
 unfolding counted
-unborne_stands place.Guest row p x none is = is
-unborne_stands (place.InService s at) row p x none is =
-    sym (service_plain s at row (ap (λ (o : Option ℕ). is_none o) none) p) ∙ is
-unborne_stands (place.InHandler at) row p x none is = handler_some at row p x is
+unborne_stands place.Guest row p x none unmade is = is
+unborne_stands (place.InService s at) row p x none unmade is =
+    sym (service_plain s at row (λ i. is_none (none i) && not (unmade i)) p) ∙ is
+unborne_stands (place.InHandler at) row p x none unmade is = handler_some at row p x is
 
 -- ---- entries as they count, by slots
 

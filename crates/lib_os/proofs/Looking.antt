@@ -20,7 +20,8 @@ use Rattle.lib_os.specs.GuestStep.{born_in}
 use Rattle.lib_os.specs.LibraryCall.{library_step}
 use Rattle.lib_os.specs.MemoryServices.{lives}
 use Rattle.lib_os.specs.Rows.{Names, rows_of, page_by, is_shared, may_write}
-use Rattle.lib_os.specs.StandsFor.{StandsFor, MaySend, MaySendBy, IsIn}
+use Rattle.lib_os.specs.InService.{IsIn}
+use Rattle.lib_os.specs.StandsFor.{StandsFor, MaySend, MaySendBy}
 use Rattle.lib_os.proofs.BytesRead.{users_inside}
 use Rattle.lib_os.proofs.EntriesStand.{seen_by, seen_none}
 use Rattle.lib_os.proofs.EntryWords.{region_told, row_told, row_word_bits, row_entry}

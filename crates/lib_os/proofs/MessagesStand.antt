@@ -41,9 +41,10 @@ use Rattle.lib_os.proofs.Effects.{Given}
 use Rattle.lib_os.proofs.EntriesStand.{seen_by}
 use Rattle.lib_os.proofs.Logical.{is_plain, unborne_plain, page_inside_programs}
 use Rattle.lib_os.proofs.PagesStand.{given_stands}
+use Rattle.lib_os.proofs.PipesStand.{calm_places, calm_unmade, descriptors_turned, is_calm}
 use Rattle.lib_os.proofs.Sends.{received_in, with_message}
 use Rattle.lib_os.proofs.Serving.{service_step, step_in, holds_page, plain_upcall, plain_copy, plain_working, library_moved}
-use Rattle.lib_os.proofs.SlotsStand.{minds_page, born_at, born_live}
+use Rattle.lib_os.proofs.SlotsStand.{CountsKept, minds_page, born_at, born_live}
 use Rattle.lib_os.proofs.StatesStand.{slot_changed, slot_was_in_order, stopped_settles}
 use Rattle.lib_os.proofs.Waiters.{IsTaken}
 use Rattle.lib_os.proofs.WordsTell.{place_at, is_in_handler, handler_runs}
@@ -82,10 +83,11 @@ waiting_place k va from id outside names_it =
     place_at k.registers 9 (step.ReadingValue id) outside ∙ ap (λ (x : Service). place.InService x (step.ReadingValue id)) names_it
 
 waiting_own : {names : Names} {s : SpacesState} {k : Slot} {b : Born} (va from id : ℕ) → StandsForBorn names s k b →
-    is_handlers k.registers.esp ≡ false → holds_page (place_of k) ≡ false → IsAboutToWait k b va from id → service_of (record k.registers { eax = 9 }) ≡ service.Receive va from →
+    is_handlers k.registers.esp ≡ false → holds_page (place_of k) ≡ false → is_calm (place_of k) ≡ true →
+    IsAboutToWait k b va from id → service_of (record k.registers { eax = 9 }) ≡ service.Receive va from →
     StandsForBorn names s (waiting_in_slot k va from id)
     (record b { phase = in_service (service.Receive va from) receiving; blocked = true })
-waiting_own {s = s} {k = k} {b = b} va from id own_part outside holds about names_it =
+waiting_own {names = names} {s = s} {k = k} {b = b} va from id own_part outside holds calm about names_it =
     let j : Slot = waiting_in_slot k va from id in
     let c : Born = record b { phase = in_service (service.Receive va from) receiving; blocked = true } in
     let at : place_of j ≡ place.InService (service.Receive va from) (step.ReadingValue id) =
@@ -107,7 +109,7 @@ waiting_own {s = s} {k = k} {b = b} va from id own_part outside holds about name
       env_type = own_part.env_type;
       runs = tt;
       upcall = own_part.upcall ∙ plain_upcall (place_of k) plain ∙ sym (ap upcall_at at);
-      descriptors = own_part.descriptors;
+      descriptors = descriptors_turned names s k.directory (place_of k) (place_of j) b.descriptors calm (ap is_calm at) own_part.descriptors;
       memory = own_part.memory;
       library = library_moved (place_of k) (place_of j) k.extra j.extra (rows_of s k.directory) (plain_copy (place_of k) plain ∙ sym (ap has_copy at))
           (plain_working (place_of k) k.extra plain ∙ holds ∙ sym (ap (λ (p : Place). has_working p j.extra) at)) own_part.library;
@@ -120,7 +122,7 @@ waiting_own {s = s} {k = k} {b = b} va from id own_part outside holds about name
 
 pub waits_stand : {names : Names} {s : KernelState} {a : AbstractState} → StandsFor names s a → (n : ℕ) (b : Born) →
     a.slots n ≡ born b → is_handlers (slot_at s n).registers.esp ≡ false → borne_in (place_of (slot_at s n)) ≡ None →
-    holds_page (place_of (slot_at s n)) ≡ false → (va from id : ℕ) → IsAboutToWait (slot_at s n) b va from id →
+    holds_page (place_of (slot_at s n)) ≡ false → is_calm (place_of (slot_at s n)) ≡ true → (va from id : ℕ) → IsAboutToWait (slot_at s n) b va from id →
     service_of (record (slot_at s n).registers { eax = 9 }) ≡ service.Receive va from →
     StandsFor names
     (with_slot_at s n (record (slot_at s n) {
@@ -129,16 +131,18 @@ pub waits_stand : {names : Names} {s : KernelState} {a : AbstractState} → Stan
       extra = words_at 9 (step.ReadingValue id);
     }))
     (receive a n b (slot_at s n).registers va from)
-waits_stand {names = names} {s = s} {a = a} h n b is outside unborne holds va from id about names_it =
+waits_stand {names = names} {s = s} {a = a} h n b is outside unborne holds calm va from id about names_it =
     let c : Born = record b { phase = in_service (service.Receive va from) receiving; blocked = true } in
     let first : server_id a ≡ 0x1000 = ap slot_id h.first in
     subst (λ (x : AbstractState). StandsFor names (with_slot_at s n (waiting_in_slot (slot_at s n) va from id)) x)
     (sym (receive_is a n b (slot_at s n).registers va from about.page about.other.0 (λ same. about.other.1 (same ∙ first))))
     (slot_changed h n b is (waiting_in_slot (slot_at s n) va from id) c refl
-    (stopped_settles (slot_at s n) (waiting_in_slot (slot_at s n) va from id) refl refl refl)
-    (unborne_plain (place_of (slot_at s n)) (handler_runs (slot_at s n).registers (slot_at s n).extra ∙ outside) unborne)
+    (stopped_settles (slot_at s n) (waiting_in_slot (slot_at s n) va from id) refl refl refl refl)
+    (unborne_plain (place_of (slot_at s n)) (handler_runs (slot_at s n).registers (slot_at s n).extra ∙ outside) unborne
+    (calm_unmade (place_of (slot_at s n)) calm))
     (ap is_plain (waiting_place (slot_at s n) va from id outside names_it))
-    (waiting_own va from id (born_at h n b is) outside holds about names_it))
+    (waiting_own va from id (born_at h n b is) outside holds calm about names_it)
+    (calm_places calm (ap is_calm (waiting_place (slot_at s n) va from id outside names_it))) (λ fd. refl))
 
 -- its step
 pub receive_step : (a : AbstractState) (n : ℕ) (b : Born) (k : Slot) (va from id : ℕ) → a.slots n ≡ born b →
@@ -157,7 +161,7 @@ told_own : {names : Names} {s : SpacesState} {k : Slot} {c d : Born} (sender : �
     (id value perm kind : ℕ) → StandsForBorn names s k d → d.program ≡ c.program → d.phase ≡ c.phase → d.blocked ≡ c.blocked →
     id ≡ sender → id < 2 ^ 32 → value < 2 ^ 32 → perm < 4096 → kind_by perm ≡ kind →
     StandsForBorn names s (received_in k id value perm) (woken c taken.w sender value (d, kind))
-told_own {s = s} {k = k} {c = c} {d = d} sender taken id value perm kind own_part program phase blocked sender_is id_small value_small perm_small kind_is =
+told_own {names = names} {s = s} {k = k} {c = c} {d = d} sender taken id value perm kind own_part program phase blocked sender_is id_small value_small perm_small kind_is =
     let j : Slot = received_in k id value perm in
     let after : Born = woken c taken.w sender value (d, kind) in
     let message : Message = record { sender = sender; value = value; page = kind } in
@@ -185,7 +189,8 @@ told_own {s = s} {k = k} {c = c} {d = d} sender taken id value perm kind own_par
       env_type = own_part.env_type;
       runs = tt;
       upcall = own_part.upcall ∙ sym (ap upcall_at (told_at k id value perm));
-      descriptors = own_part.descriptors;
+      descriptors = descriptors_turned names s k.directory (place_of k) (place_of j) d.descriptors (ap is_calm taken.at)
+          (ap is_calm (told_at k id value perm ∙ taken.at)) own_part.descriptors;
       memory = own_part.memory;
       library = library_moved (place_of k) (place_of j) k.extra j.extra (rows_of s k.directory) (sym (ap has_copy (told_at k id value perm)))
           (sym (ap (λ (p : Place). has_working p k.extra) (told_at k id value perm))) own_part.library;
@@ -205,9 +210,10 @@ module _ {names : Names} {s : KernelState} {a : AbstractState} (h : StandsFor na
   pub word_stands : StandsFor names (with_message s n t value 0) (with_born a t (woken c taken.w b.id value (c, 0)))
   word_stands =
       slot_changed h t c there (received_in (slot_at s t) (slot_at s n).id value 0) (woken c taken.w b.id value (c, 0)) refl
-      (stopped_settles (slot_at s t) (received_in (slot_at s t) (slot_at s n).id value 0) refl refl refl)
+      (stopped_settles (slot_at s t) (received_in (slot_at s t) (slot_at s n).id value 0) refl refl refl refl)
       (ap is_plain taken.at) (ap is_plain (told_at (slot_at s t) (slot_at s n).id value 0 ∙ taken.at))
       (told_own b.id taken (slot_at s n).id value 0 0 (born_at h t c there) refl refl refl mine.id mine.id_small small (omega arith) refl)
+      (calm_places (ap is_calm taken.at) (ap is_calm (told_at (slot_at s t) (slot_at s n).id value 0 ∙ taken.at))) (λ fd. refl)
 
   pub word_alone : (va : ℕ) → ((va == 0) || (taken.w.va == 0)) ≡ true →
       StandsFor names (with_message s n t value 0)
@@ -259,7 +265,8 @@ module _ {names : Names} {s : KernelState} {a : AbstractState} {sp : SpacesState
     (passes : (is_shared x.perm || not (may_write x.perm)) ≡ true) (sends_it : borne_in (place_of (slot_at s n)) ≡ None)
     (given : Given s.spaces sp (slot_at s t).directory (page_number taken.w.va) x)
     (some : va ≢ 0) (wanted : taken.w.va ≢ 0)
-    (in_order : IsInOrder (with_message (with_spaces s sp) n t value x.perm)) where
+    (in_order : IsInOrder (with_message (with_spaces s sp) n t value x.perm))
+    (counts : (q : ℕ) → q ≢ t → CountsKept s.spaces sp (slot_at s q)) where
   abbrev page : Page
   page = page_by names s.spaces.pages x
 
@@ -288,7 +295,7 @@ module _ {names : Names} {s : KernelState} {a : AbstractState} {sp : SpacesState
       ∙ seen_by names s.spaces (slot_at s n).directory (page_number va) x from_programs hx
 
   placed : StandsFor names (with_spaces s sp) (with_born a t with_it)
-  placed = given_stands h n b at va from_programs x page hx passes page_is sends_it t c there taken.w.va to_programs given unminded spaces_in_order
+  placed = given_stands h n b at va from_programs x page hx passes page_is sends_it t c there taken.w.va to_programs given unminded spaces_in_order counts
 
   put_there : (with_born a t with_it).slots t ≡ born with_it
   put_there = upd-at a.slots t (born with_it)
@@ -298,10 +305,11 @@ module _ {names : Names} {s : KernelState} {a : AbstractState} {sp : SpacesState
   told =
       slot_changed placed t with_it put_there (received_in (slot_at s t) (slot_at s n).id value x.perm)
       (woken c taken.w b.id value (with_it, page_kind page)) refl
-      (stopped_settles (slot_at s t) (received_in (slot_at s t) (slot_at s n).id value x.perm) refl refl refl)
+      (stopped_settles (slot_at s t) (received_in (slot_at s t) (slot_at s n).id value x.perm) refl refl refl refl)
       (ap is_plain taken.at) (ap is_plain (told_at (slot_at s t) (slot_at s n).id value x.perm ∙ taken.at))
       (told_own b.id taken (slot_at s n).id value x.perm (page_kind page) (born_at placed t with_it put_there) refl refl refl
       (born_at h n b at).id (born_at h n b at).id_small small (perm_small x.perm user) (kind_alike names s.spaces.pages x user passes))
+      (calm_places (ap is_calm taken.at) (ap is_calm (told_at (slot_at s t) (slot_at s n).id value x.perm ∙ taken.at))) (λ fd. refl)
     where
       user : is_page_perm x.perm ≡ true
       user = (users_inside names s a n b h at (page_number va) x from_programs hx).page
@@ -327,7 +335,7 @@ module _ {names : Names} {s : KernelState} {a : AbstractState} {sp : SpacesState
 
 module _ {names : Names} {s : KernelState} {a : AbstractState} (h : StandsFor names s a) (n : ℕ) (b : Born) (at : a.slots n ≡ born b)
     (outside : is_handlers (slot_at s n).registers.esp ≡ false) (unborne : borne_in (place_of (slot_at s n)) ≡ None)
-    (holds : holds_page (place_of (slot_at s n)) ≡ false) (va from : ℕ) (r : HasReceived (slot_at s n) b va from) where
+    (holds : holds_page (place_of (slot_at s n)) ≡ false) (calm : is_calm (place_of (slot_at s n)) ≡ true) (va from : ℕ) (r : HasReceived (slot_at s n) b va from) where
   -- its step
   pub answer_step : abs_step a n ≡ Some (received_answer a n b r.regs r.message)
   unfolding library_step
@@ -352,4 +360,4 @@ module _ {names : Names} {s : KernelState} {a : AbstractState} (h : StandsFor na
       (received_answer a n b r.regs r.message)
   answers_with =
       subst (λ (regs : Regs). StandsFor names (gone_back s n told_regs) (back_with a n b regs)) told_is
-      (back_stands h n b at told_regs unborne holds r.silent r.awake outside refl refl)
+      (back_stands h n b at told_regs unborne holds calm r.silent r.awake outside refl refl)

@@ -1,7 +1,8 @@
 -- Where each frame that is handed out has a use, and no more than one is free, the abstract system wants as many frames: each
--- stands in a place of a live slot or of the name of a shared page or of an object, and for each of these places the abstract
+-- stands in a place of a live slot or of the name of a shared page, of an object or of a pipe, and for each of these places the abstract
 -- system wants one.
-use Rattle.std.proofs.Common.{◌≡◌, ◌≢◌, ◌∙◌, ◌+◌, ◌-◌, ◌*◌, ◌/◌, ◌%◌, ◌<◌, ◌≤◌, ◌==◌, ◌||◌, ℕ, zero, suc, Bool, true, false, List, [], ◌∷◌, length}
+use Rattle.std.proofs.Common.{◌≡◌, ◌≢◌, ◌∙◌, ◌+◌, ◌-◌, ◌*◌, ◌/◌, ◌%◌, ◌<◌, ◌≤◌, ◌==◌, ◌||◌, ℕ, zero, suc, Bool, true, false}
+use Rattle.std.proofs.Common.{List, [], ◌∷◌, length}
 use Rattle.std.proofs.Common.{refl, sym, ap, subst, arith}
 use Rattle.std.specs.Prelude.{Option, Some, None, is_some, nat_le, nat_lt, not, ◌&&◌, if◌then◌else◌}
 use Rattle.std.specs.List.{Contains}
@@ -17,28 +18,38 @@ use Rattle.jos_base.specs.Words.{is_exactly, page_number}
 use Rattle.fs_layout.specs.declared.numbers.TheConstants.{MAXBLOCKS}
 use Rattle.lib_os.specs.declared.numbers.TheConstants.{DESCRIPTORS, DISKMAP, MAXOPEN, OPEN_RECORDS, PFTEMP, REQUEST, UXSTACK}
 use Rattle.lib_os.specs.AbstractState.{AbstractState, Born, Page, own, named, AbstractSlot, free, unborn, born, serving, TablePlace}
+use Rattle.lib_os.specs.declared.place.PipeStep.{PipeStep}
+use Rattle.lib_os.specs.declared.place.PipeStep.TheVariants as pipe
+use Rattle.lib_os.specs.declared.place.Place.{Place}
 use Rattle.lib_os.specs.declared.place.Place.TheVariants as place
+use Rattle.lib_os.specs.declared.place.Step.TheVariants as step
+use Rattle.lib_os.specs.declared.service.Service.TheVariants as service
+use Rattle.lib_os.specs.AbstractRun.{pipe_of}
+use Rattle.lib_os.specs.AbstractState.{Object, file, read_end, terminal, write_end}
+use Rattle.lib_os.specs.PipeEnds.{is_given, is_made, is_on_its_way, pipe_named}
 use Rattle.lib_os.specs.AbstractMemory.{has_page_in}
 use Rattle.lib_os.specs.InOrder.{HasOneUse}
 use Rattle.lib_os.specs.Need.{NeedIsReached, HasUse, in_list, in_entry, as_directory, as_table, EachHasUse, pool_of, need}
 use Rattle.lib_os.specs.Need.{slot_need, born_need, parent_need}
 use Rattle.lib_os.specs.LibraryPages.{is_library_region, IsOwnWritable, has_copy, has_working, region_index}
-use Rattle.lib_os.specs.Need.{server_need, count_below, is_own, someone, born_passes, has_object_of, has_page_of, is_page_of}
+use Rattle.lib_os.specs.Need.{server_need, count_below, is_own, someone, born_passes, has_end_of, has_object_of, has_page_of, is_end_at, is_end_of, is_page_of}
 use Rattle.lib_os.specs.Places.{place_of}
 use Rattle.lib_os.specs.Rows.{Names, EntryRow, IsNamed, rows_of, lasting, is_shared, may_write, page_by, page_seen, seen_where, is_programs}
-use Rattle.lib_os.specs.Rows.{descriptor_page, descriptor_perm, is_descriptor, name_of, shown_at}
+use Rattle.lib_os.specs.Rows.{descriptor_at, descriptor_page, descriptor_perm, is_making, is_of_descriptor, makes, pipe_page}
 use Rattle.lib_os.specs.StandsFor.{StandsFor, StandsForSlot, StandsForBorn, StandsForServer, StandsForUnborn, IsBorne, is_passed, has_stack}
-use Rattle.lib_os.specs.StandsFor.{HasServer, is_servers_page, is_servers_region, things_in}
+use Rattle.lib_os.specs.StandsFor.{HasServer, is_servers_page, is_servers_region, things_in, view_of}
 use Rattle.std.proofs.lemmas.Bool.{false≢true}
 use Rattle.std.proofs.lemmas.Bool.Decides.{nat_tests}
 use Rattle.std.proofs.lemmas.Option.{none-some, same_Some}
 use Rattle.lib_os.proofs.Covering.{no_more_frames, filled, times_in}
 use Rattle.lib_os.proofs.BytesRead.{remapped}
+use Rattle.lib_os.proofs.EndsHeld.{born_not_first, given_from, live as live_born, seen_as}
 use Rattle.lib_os.proofs.EntryWords.{row_entry}
 use Rattle.lib_os.proofs.Logical.{clients_so, is_plain, is_remapped, logical_beside, logical_plain}
 use Rattle.lib_os.proofs.Serving.{words_of_none}
+use Rattle.lib_os.proofs.SharedCount.{stands_shared}
 use Rattle.lib_os.proofs.SlotsStand.{born_at}
-use Rattle.lib_os.proofs.StatesStand.{clients_live}
+use Rattle.lib_os.proofs.StatesStand.{clients_live, ends_at}
 use Rattle.lib_os.proofs.Sums.{is_at, is_at-here, at_most_once}
 use Rattle.jos_base.proofs.Sums.{total-mono, total-less, total-none, total-one, total-ones, total-sum}
 use Rattle.jos_base.proofs.Below.{some_below-at, some_below-none}
@@ -51,6 +62,20 @@ first_holds t u is = ap (λ (x : Bool). x || u) is
 second_holds : (t u : Bool) → u ≡ true → t || u ≡ true
 second_holds true u is = refl
 second_holds false u is = is
+
+both : (a b : Bool) → (a && b) ≡ true → (a ≡ true) × (b ≡ true)
+both true true is = (refl, refl)
+both true false is = absurd (false≢true is)
+both false b is = absurd (false≢true is)
+
+-- the second fails, where both do not hold and the first does
+second_off : (t u : Bool) → t ≡ true → t && u ≡ false → u ≡ false
+second_off true u on off = off
+second_off false u on off = absurd (false≢true on)
+
+never : (t : Bool) → t && false ≡ false
+never true = refl
+never false = refl
 
 -- ---- the places
 
@@ -72,11 +97,28 @@ directory_of k = where_so (is_live k) (Some k.directory)
 abbrev table_of : SpacesState → Slot → ℕ → Option ℕ
 table_of s k r = where_so (is_live k) (option_map (λ (x : Region). x.table) (s.regions k.directory r))
 
+-- A page that service pipe makes is its environment's own.
+abbrev is_made_page : Place → ℕ → Bool
+is_made_page at p = is_of_descriptor p && is_made at (descriptor_at p)
+
+abbrev own_where : Bool → Option Entry → Option ℕ
+own_where true o = option_map (λ (e : Entry). e.frame) o
+own_where false o = own_frame o
+
+abbrev page_own : SpacesState → Slot → ℕ → Option ℕ
+page_own s k p = where_so (is_live k) (own_frame (rows_of s k.directory p))
+
 abbrev page_of : SpacesState → Slot → ℕ → Option ℕ
-page_of s k p = where_so (is_live k) (own_frame (rows_of s k.directory p))
+page_of s k p = where_so (is_live k) (own_where (is_made_page (place_of k) p) (rows_of s k.directory p))
+
+unmade_page : (s : SpacesState) (k : Slot) (p : ℕ) → is_made_page (place_of k) p ≡ false → page_of s k p ≡ page_own s k p
+unmade_page s k p off = ap (λ (c : Bool). where_so (is_live k) (own_where c (rows_of s k.directory p))) off
+
+abbrev is_wanted : AbstractState → ℕ → Bool
+is_wanted a m = someone a (has_page_of m) || (someone a (has_object_of m) || someone a (has_end_of a m))
 
 abbrev named_frame : Names → AbstractState → ℕ → Option ℕ
-named_frame names a m = where_so (someone a (has_page_of m) || someone a (has_object_of m)) (Some (names.frame m))
+named_frame names a m = where_so (is_wanted a m) (Some (names.frame m))
 
 -- ---- each place is wanted
 
@@ -140,22 +182,105 @@ three_beside =
     let working = at_most_once page_limit 0 (Some (page_number UTEMP)) in
     omega (arith, sum, rest, stack, copy, working)
 
-page_wanted : (names : Names) (s : SpacesState) (k : Slot) (b : Born) → StandsForBorn names s k b → (p : ℕ) →
-    bit_of (is_some (page_of s k p)) ≤ bit_of (is_own (page_seen names s k.directory p)) + is_librarys p
-page_wanted names s k b h p = by_inside (is_programs p) refl
+-- ---- the pages that service pipe makes: those of two descriptors, and of their pipes
+
+abbrev ends_made : PipeStep → ℕ × ℕ
+ends_made (pipe.StoringReading reading writing) = (reading, writing)
+ends_made (pipe.TakingWriting reading writing) = (reading, writing)
+ends_made (pipe.StoringWriting reading writing) = (reading, writing)
+ends_made (pipe.StoringEndMode reading writing) = (reading, writing)
+ends_made (pipe.TakingPipe reading writing) = (reading, writing)
+ends_made (pipe.MappingPipe reading writing) = (reading, writing)
+ends_made _ = (0, 0)
+
+abbrev is_page_at : ℕ → ℕ → ℕ
+is_page_at q p = is_at (Some q) (0 + p)
+
+abbrev is_made_of : ℕ × ℕ → ℕ → ℕ
+is_made_of ends p =
+    is_page_at (descriptor_page ends.0) p
+    + (is_page_at (descriptor_page ends.1) p + (is_page_at (pipe_page ends.0) p + is_page_at (pipe_page ends.1) p))
+
+made_beside : (ends : ℕ × ℕ) → total page_limit (λ p. is_stack p + is_made_of ends p) ≤ 5
+made_beside ends =
+    let first = total-sum page_limit is_stack (is_made_of ends) in
+    let second = total-sum page_limit (is_page_at (descriptor_page ends.0))
+    (λ p. is_page_at (descriptor_page ends.1) p + (is_page_at (pipe_page ends.0) p + is_page_at (pipe_page ends.1) p)) in
+    let third = total-sum page_limit (is_page_at (descriptor_page ends.1)) (λ p. is_page_at (pipe_page ends.0) p + is_page_at (pipe_page ends.1) p) in
+    let fourth = total-sum page_limit (is_page_at (pipe_page ends.0)) (is_page_at (pipe_page ends.1)) in
+    let stack = at_most_once page_limit 0 (Some (page_number UXSTACK)) in
+    let reading = at_most_once page_limit 0 (Some (descriptor_page ends.0)) in
+    let writing = at_most_once page_limit 0 (Some (descriptor_page ends.1)) in
+    let one = at_most_once page_limit 0 (Some (pipe_page ends.0)) in
+    let other = at_most_once page_limit 0 (Some (pipe_page ends.1)) in
+    omega (arith, first, second, third, fourth, stack, reading, writing, one, other)
+
+-- beside the pages of a program
+abbrev beside : Place → ℕ → ℕ
+beside (place.InService service.Pipe (step.Piped at)) p = is_stack p + is_made_of (ends_made at) p
+beside _ p = is_librarys p
+
+five_beside : (at : Place) → total page_limit (beside at) ≤ 5
+five_beside (place.InService service.Pipe (step.Piped at)) = made_beside (ends_made at)
+five_beside _ = let three = three_beside in omega (arith, three)
+
+-- a page of a descriptor's, or of its pipe's
+pages_of : (p e : ℕ) → is_of_descriptor p ≡ true → descriptor_at p ≡ e → 1 ≤ is_page_at (descriptor_page e) p + is_page_at (pipe_page e) p
+pages_of p e of same = by_half (nat_lt p (page_number FDTABLE + DESCRIPTORS)) refl
+  where
+    from : page_number FDTABLE ≤ p
+    from = grind (arith, nat_tests)
+
+    to : p < page_number FDTABLE + 2 * DESCRIPTORS
+    to = grind (arith, nat_tests)
+
+    by_half : (c : Bool) → nat_lt p (page_number FDTABLE + DESCRIPTORS) ≡ c → 1 ≤ is_page_at (descriptor_page e) p + is_page_at (pipe_page e) p
+    by_half true lower =
+        let low : p < page_number FDTABLE + DESCRIPTORS = grind (arith, nat_tests, lower) in
+        let here : descriptor_page e ≡ 0 + p = omega (arith, same, from, low) in
+        let one = is_at-here (Some (descriptor_page e)) (0 + p) (descriptor_page e) refl here in
+        omega (arith, one)
+    by_half false upper =
+        let high : page_number FDTABLE + DESCRIPTORS ≤ p = grind (arith, nat_tests, upper) in
+        let here : pipe_page e ≡ 0 + p = omega (arith, same, high, to) in
+        let one = is_at-here (Some (pipe_page e)) (0 + p) (pipe_page e) refl here in
+        omega (arith, one)
+
+one_of_ends : (reading writing p : ℕ) → is_of_descriptor p ≡ true → (descriptor_at p == reading) || (descriptor_at p == writing) ≡ true →
+    1 ≤ is_made_of (reading, writing) p
+one_of_ends reading writing p of is = by_test (descriptor_at p == reading) refl is
+  where
+    by_test : (c : Bool) → (descriptor_at p == reading) ≡ c → c || (descriptor_at p == writing) ≡ true → 1 ≤ is_made_of (reading, writing) p
+    by_test true first rest = let one = pages_of p reading of (grind (arith, nat_tests, first)) in omega (arith, one)
+    by_test false first rest = let one = pages_of p writing of (grind (arith, nat_tests, rest)) in omega (arith, one)
+
+ends_of : (at : PipeStep) (p : ℕ) → is_of_descriptor p ≡ true → makes at (descriptor_at p) ≡ true → 1 ≤ is_made_of (ends_made at) p
+ends_of (pipe.StoringReading reading writing) p of is = one_of_ends reading writing p of is
+ends_of (pipe.TakingWriting reading writing) p of is = one_of_ends reading writing p of is
+ends_of (pipe.StoringWriting reading writing) p of is = one_of_ends reading writing p of is
+ends_of (pipe.StoringEndMode reading writing) p of is = one_of_ends reading writing p of is
+ends_of (pipe.TakingPipe reading writing) p of is = one_of_ends reading writing p of is
+ends_of (pipe.MappingPipe reading writing) p of is = one_of_ends reading writing p of is
+ends_of _ p of is = absurd (false≢true is)
+
+-- ---- an environment's pages
+
+own_wanted : (names : Names) (s : SpacesState) (k : Slot) (b : Born) → StandsForBorn names s k b → (p : ℕ) →
+    bit_of (is_some (page_own s k p)) ≤ bit_of (is_own (page_seen names s k.directory p)) + is_librarys p
+own_wanted names s k b h p = by_inside (is_programs p) refl
   where
     nothing : (t : Bool) → rows_of s k.directory p ≡ None → bit_of (is_some (where_so t (own_frame (rows_of s k.directory p)))) ≡ 0
     nothing false none = refl
     nothing true none = ap (λ (o : Option Entry). bit_of (is_some (own_frame o))) none
 
     by_page : (c d e : Bool) → (page_number UXSTACK == 0 + p) ≡ c → (page_number PFTEMP == 0 + p) ≡ d → (page_number UTEMP == 0 + p) ≡ e →
-        is_programs p ≡ false → bit_of (is_some (page_of s k p)) ≤ bit_of c + (bit_of d + bit_of e)
-    by_page true d e stack copy working outside = let one = bit_small (is_some (page_of s k p)) in omega (arith, one)
-    by_page false true e stack copy working outside = let one = bit_small (is_some (page_of s k p)) in omega (arith, one)
-    by_page false false true stack copy working outside = let one = bit_small (is_some (page_of s k p)) in omega (arith, one)
-    by_page false false false stack copy working outside = by_descriptor (is_descriptor p) refl
+        is_programs p ≡ false → bit_of (is_some (page_own s k p)) ≤ bit_of c + (bit_of d + bit_of e)
+    by_page true d e stack copy working outside = let one = bit_small (is_some (page_own s k p)) in omega (arith, one)
+    by_page false true e stack copy working outside = let one = bit_small (is_some (page_own s k p)) in omega (arith, one)
+    by_page false false true stack copy working outside = let one = bit_small (is_some (page_own s k p)) in omega (arith, one)
+    by_page false false false stack copy working outside = by_descriptor (is_of_descriptor p) refl
       where
-        by_descriptor : (t : Bool) → is_descriptor p ≡ t → bit_of (is_some (page_of s k p)) ≤ 0
+        by_descriptor : (t : Bool) → is_of_descriptor p ≡ t → bit_of (is_some (page_own s k p)) ≤ 0
         by_descriptor true descriptor =
             let zeros = descriptor_unowned (is_live k) (rows_of s k.directory p) (λ e is. h.library.descriptors p e descriptor is) in
             omega (arith, zeros)
@@ -165,12 +290,60 @@ page_wanted names s k b h p = by_inside (is_programs p) refl
             let zeros = nothing (is_live k) none in
             omega (arith, zeros)
 
-    by_inside : (inside : Bool) → is_programs p ≡ inside → bit_of (is_some (page_of s k p))
+    by_inside : (inside : Bool) → is_programs p ≡ inside → bit_of (is_some (page_own s k p))
         ≤ bit_of (is_own (seen_where inside (option_map (page_by names s.pages) (rows_of s k.directory p)))) + is_librarys p
     by_inside true is = let mine = so_of_page names s.pages (is_live k) (rows_of s k.directory p) in omega (arith, mine)
     by_inside false is =
         let beside = by_page (page_number UXSTACK == 0 + p) (page_number PFTEMP == 0 + p) (page_number UTEMP == 0 + p) refl refl refl is in
         omega (arith, beside)
+
+-- without a copy, and without a page in which bytes are kept, only the stack is beside the program's
+stack_alone : (names : Names) (s : SpacesState) (k : Slot) (b : Born) → StandsForBorn names s k b → has_copy (place_of k) ≡ false →
+    has_working (place_of k) k.extra ≡ false → (p : ℕ) →
+    bit_of (is_some (page_own s k p)) ≤ bit_of (is_own (page_seen names s k.directory p)) + is_stack p
+stack_alone names s k b h copy working p =
+    by_tests (page_number PFTEMP == 0 + p) (page_number UTEMP == 0 + p) refl refl (own_wanted names s k b h p)
+  where
+    nothing : (t : Bool) → rows_of s k.directory p ≡ None → bit_of (is_some (where_so t (own_frame (rows_of s k.directory p)))) ≡ 0
+    nothing false none = refl
+    nothing true none = ap (λ (o : Option Entry). bit_of (is_some (own_frame o))) none
+
+    by_tests : (c d : Bool) → (page_number PFTEMP == 0 + p) ≡ c → (page_number UTEMP == 0 + p) ≡ d →
+        bit_of (is_some (page_own s k p)) ≤ bit_of (is_own (page_seen names s k.directory p)) + (is_stack p + (bit_of c + bit_of d)) →
+        bit_of (is_some (page_own s k p)) ≤ bit_of (is_own (page_seen names s k.directory p)) + is_stack p
+    by_tests false false off other most = omega (arith, most)
+    by_tests false true off at most =
+        let same : p ≡ page_number UTEMP = grind (arith, nat_tests, at) in
+        let none = nothing (is_live k) (ap (rows_of s k.directory) same ∙ h.library.no_working working) in omega (arith, none)
+    by_tests true d at other most =
+        let same : p ≡ page_number PFTEMP = grind (arith, nat_tests, at) in
+        let none = nothing (is_live k) (ap (rows_of s k.directory) same ∙ h.library.no_copy copy) in omega (arith, none)
+
+page_wanted : (names : Names) (s : SpacesState) (k : Slot) (b : Born) → StandsForBorn names s k b → (p : ℕ) →
+    bit_of (is_some (page_of s k p)) ≤ bit_of (is_own (page_seen names s k.directory p)) + beside (place_of k) p
+page_wanted names s k b h p = by_place (place_of k) refl
+  where
+    unmade : is_made_page (place_of k) p ≡ false → bit_of (is_some (page_of s k p)) ≡ bit_of (is_some (page_own s k p))
+    unmade off = ap (λ (o : Option ℕ). bit_of (is_some o)) (unmade_page s k p off)
+
+    by_place : (at : Place) → place_of k ≡ at → bit_of (is_some (page_of s k p)) ≤ bit_of (is_own (page_seen names s k.directory p)) + beside at p
+    by_place (place.InService service.Pipe (step.Piped at)) is = by_made (is_making at p) refl
+      where
+        by_made : (c : Bool) → is_making at p ≡ c →
+            bit_of (is_some (page_of s k p)) ≤ bit_of (is_own (page_seen names s k.directory p)) + (is_stack p + is_made_of (ends_made at) p)
+        by_made true making =
+            let parts = both (is_of_descriptor p) (makes at (descriptor_at p)) making in
+            let one = ends_of at p parts.0 parts.1 in
+            let most = bit_small (is_some (page_of s k p)) in
+            omega (arith, one, most)
+        by_made false off =
+            let most = stack_alone names s k b h (ap has_copy is) (ap (λ (q : Place). has_working q k.extra) is) p in
+            let same = unmade (ap (λ (q : Place). is_made_page q p) is ∙ off) in
+            omega (arith, most, same)
+    by_place at is =
+        let most = own_wanted names s k b h p in
+        let same = unmade (ap (λ (q : Place). is_made_page q p) is ∙ never (is_of_descriptor p)) in
+        omega (arith, most, same)
 
 abbrev slot_frames : SpacesState → Slot → ℕ
 slot_frames s k = bit_of (is_some (directory_of k)) + (filled region_limit (table_of s k) + filled page_limit (page_of s k))
@@ -189,12 +362,12 @@ born_frames names s k b h =
     let tables = total-mono region_limit (λ r. bit_of (is_some (table_of s k r))) (λ r. bit_of (b.regions r || is_library_region r))
     (λ r lt. so_of_region (is_live k) (s.regions k.directory r) (b.regions r || is_library_region r) (h.regions_only r)) in
     let pages = total-mono page_limit (λ p. bit_of (is_some (page_of s k p)))
-    (λ p. bit_of (is_own (b.memory p)) + is_librarys p)
-    (λ p lt. subst (λ (x : Option Page). bit_of (is_some (page_of s k p)) ≤ bit_of (is_own x) + is_librarys p)
+    (λ p. bit_of (is_own (b.memory p)) + beside (place_of k) p)
+    (λ p lt. subst (λ (x : Option Page). bit_of (is_some (page_of s k p)) ≤ bit_of (is_own x) + beside (place_of k) p)
     (sym (h.memory p)) (page_wanted names s k b h p)) in
-    let sum = total-sum page_limit (λ p. bit_of (is_own (b.memory p))) is_librarys in
-    let beside = three_beside in
-    omega (arith, one, tables, pages, sum, beside)
+    let sum = total-sum page_limit (λ p. bit_of (is_own (b.memory p))) (beside (place_of k)) in
+    let five = five_beside (place_of k) in
+    omega (arith, one, tables, pages, sum, five)
 
 -- ---- the server
 
@@ -264,11 +437,6 @@ all_below limit lo n passes each =
 one_alone : (limit x : ℕ) → count_below limit (λ p. p == x) ≤ 1
 one_alone limit x =
     all_below limit x 1 (λ p. p == x) (λ p is. let same : p ≡ x = grind (arith, nat_tests) in (omega (arith, same), omega (arith, same)))
-
-both : (a b : Bool) → (a && b) ≡ true → (a ≡ true) × (b ≡ true)
-both true true is = (refl, refl)
-both true false is = absurd (false≢true is)
-both false b is = absurd (false≢true is)
 
 all_three : (a b c : Bool) → (a && b && c) ≡ true → (a ≡ true) × (b ≡ true) × (c ≡ true)
 all_three true true true is = (refl, refl, refl)
@@ -412,43 +580,50 @@ parent_region names s k b frames h r has = by_table (is_some (s.regions k.direct
             ∙ seen_none (is_programs (r * NPTENTRIES + i))
 
 module _ (names : Names) (s : SpacesState) (parent : Slot) (parent_is : AbstractSlot) (k : Slot) (id parent_id : ℕ)
-    (c : IsBorne names s parent parent_is k id parent_id) where
+    (c : IsBorne names s parent parent_is k id parent_id) (guest : place_of k ≡ place.Guest) where
   child_nothing : (t : Bool) (p : ℕ) → rows_of s k.directory p ≡ None → bit_of (is_some (where_so t (own_frame (rows_of s k.directory p)))) ≡ 0
   child_nothing false p none = refl
   child_nothing true p none = ap (λ (o : Option Entry). bit_of (is_some (own_frame o))) none
 
   child_page : StandsForBorn names s parent c.b → (p : ℕ) →
-      bit_of (is_some (page_of s k p)) ≤ bit_of (is_own (c.b.memory p)) + is_librarys p
+      bit_of (is_some (page_own s k p)) ≤ bit_of (is_own (c.b.memory p)) + is_librarys p
   child_page h p = by_inside (is_programs p) refl
     where
-      by_handed : is_descriptor p ≡ true → (t : Bool) → is_passed c.step p ≡ t → bit_of (is_some (page_of s k p)) ≡ 0
+      by_handed : is_of_descriptor p ≡ true → (t : Bool) → is_passed c.step p ≡ t → bit_of (is_some (page_own s k p)) ≡ 0
       by_handed descriptor true passed =
           descriptor_unowned (is_live k) (rows_of s k.directory p)
           (λ e is. h.library.descriptors p e descriptor (sym (c.handed p descriptor passed) ∙ is))
-      by_handed descriptor false off = child_nothing (is_live k) p (c.rest p (second_holds (is_programs p) (is_descriptor p) descriptor) off)
+      by_handed descriptor false off = child_nothing (is_live k) p (c.rest p (second_holds (is_programs p) (is_of_descriptor p) descriptor) off)
 
-      by_stack : (t : Bool) → (page_number UXSTACK == 0 + p) ≡ t → is_programs p ≡ false → bit_of (is_some (page_of s k p)) ≤ bit_of t
-      by_stack true stack outside = bit_small (is_some (page_of s k p))
-      by_stack false stack outside = by_descriptor (is_descriptor p) refl
+      by_stack : (t : Bool) → (page_number UXSTACK == 0 + p) ≡ t → is_programs p ≡ false → bit_of (is_some (page_own s k p)) ≤ bit_of t
+      by_stack true stack outside = bit_small (is_some (page_own s k p))
+      by_stack false stack outside = by_descriptor (is_of_descriptor p) refl
         where
-          by_descriptor : (t : Bool) → is_descriptor p ≡ t → bit_of (is_some (page_of s k p)) ≤ 0
+          by_descriptor : (t : Bool) → is_of_descriptor p ≡ t → bit_of (is_some (page_own s k p)) ≤ 0
           by_descriptor true descriptor = let none = by_handed descriptor (is_passed c.step p) refl in omega (arith, none)
           by_descriptor false no_descriptor =
               let none = child_nothing (is_live k) p (c.library.none p outside no_descriptor (grind (arith, nat_tests))) in omega (arith, none)
 
-      by_passed : is_programs p ≡ true → (t : Bool) → is_passed c.step p ≡ t → bit_of (is_some (page_of s k p)) ≤ bit_of (is_own (c.b.memory p))
+      by_passed : is_programs p ≡ true → (t : Bool) → is_passed c.step p ≡ t → bit_of (is_some (page_own s k p)) ≤ bit_of (is_own (c.b.memory p))
       by_passed inside true passed =
           let seen : page_seen names s k.directory p ≡ option_map (page_by names s.pages) (rows_of s k.directory p) =
           ap (λ (t : Bool). seen_where t (option_map (page_by names s.pages) (rows_of s k.directory p))) inside in
-          subst (λ (x : Option Page). bit_of (is_some (page_of s k p)) ≤ bit_of (is_own x)) (sym seen ∙ c.passed p inside passed)
+          subst (λ (x : Option Page). bit_of (is_some (page_own s k p)) ≤ bit_of (is_own x)) (sym seen ∙ c.passed p inside passed)
           (so_of_page names s.pages (is_live k) (rows_of s k.directory p))
       by_passed inside false off =
-          let none = child_nothing (is_live k) p (c.rest p (first_holds (is_programs p) (is_descriptor p) inside) off) in omega (arith, none)
+          let none = child_nothing (is_live k) p (c.rest p (first_holds (is_programs p) (is_of_descriptor p) inside) off) in omega (arith, none)
 
       by_inside : (inside : Bool) → is_programs p ≡ inside →
-          bit_of (is_some (page_of s k p)) ≤ bit_of (is_own (c.b.memory p)) + is_librarys p
+          bit_of (is_some (page_own s k p)) ≤ bit_of (is_own (c.b.memory p)) + is_librarys p
       by_inside true is = let mine = by_passed is (is_passed c.step p) refl in omega (arith, mine)
       by_inside false is = let beside = by_stack (page_number UXSTACK == 0 + p) refl is in omega (arith, beside)
+
+  child_wanted : StandsForBorn names s parent c.b → (p : ℕ) → bit_of (is_some (page_of s k p)) ≤ bit_of (is_own (c.b.memory p)) + is_librarys p
+  child_wanted h p =
+      let most = child_page h p in
+      let same = ap (λ (o : Option ℕ). bit_of (is_some o))
+      (unmade_page s k p (ap (λ (q : Place). is_made_page q p) guest ∙ never (is_of_descriptor p))) in
+      omega (arith, most, same)
 
   child_region : HasOneUse s → StandsForBorn names s parent c.b → (r : ℕ) → is_some (s.regions k.directory r) ≡ true →
       c.b.regions r || is_library_region r ≡ true
@@ -468,7 +643,7 @@ module _ (names : Names) (s : SpacesState) (parent : Slot) (parent_is : Abstract
       let tables = total-mono region_limit (λ r. bit_of (is_some (table_of s k r))) (λ r. bit_of (c.b.regions r || is_library_region r))
       (λ r lt. so_of_region (is_live k) (s.regions k.directory r) (c.b.regions r || is_library_region r) (child_region frames h r)) in
       let pages = total-mono page_limit (λ p. bit_of (is_some (page_of s k p)))
-      (λ p. bit_of (is_own (c.b.memory p)) + is_librarys p) (λ p lt. child_page h p) in
+      (λ p. bit_of (is_own (c.b.memory p)) + is_librarys p) (λ p lt. child_wanted h p) in
       let sum = total-sum page_limit (λ p. bit_of (is_own (c.b.memory p))) is_librarys in
       let beside = three_beside in
       omega (arith, one, tables, pages, sum, beside)
@@ -484,7 +659,8 @@ wanted_frames names s a h n other (unborn id parent) at k =
     let child = h.children.borne n id parent at in
     let own = born_at h (parent % NENV) child.b child.born_by in
     subst (λ (x : AbstractSlot). slot_frames s.spaces (slot_at s n) ≤ parent_need x) (sym child.born_by)
-    (child_frames names s.spaces (slot_at s (parent % NENV)) (a.slots (parent % NENV)) (slot_at s n) id parent child h.in_order.frames own)
+    (child_frames names s.spaces (slot_at s (parent % NENV)) (a.slots (parent % NENV)) (slot_at s n) id parent child
+    (words_of_none (slot_at s n).registers (slot_at s n).extra k.stack k.words) h.in_order.frames own)
 wanted_frames names s a h n other (born b) at k = born_frames names s.spaces (slot_at s n) b k
 wanted_frames names s a h n other (serving id) at k = absurd (other (serving_first h n id k))
 
@@ -557,9 +733,9 @@ module _ (names : Names) (s : KernelState) (a : AbstractState) (h : StandsFor na
       let entry_is : mine.entry ≡ e = same_Some mine.entry e (sym mine.stands ∙ sym (ap row same) ∙ stands) in
       false≢true (sym mine.own_page ∙ ap (λ (x : Entry). is_shared x.perm) entry_is ∙ shared)
 
-  -- an environment has a page by this name, or a descriptor that names it
+  -- an environment has a page by this name, or a descriptor that names it, or an end of it
   abbrev Has : Born → ℕ → Type 0
-  Has b m = has_page_of m b || has_object_of m b ≡ true
+  Has b m = has_page_of m b || (has_object_of m b || has_end_of a m b) ≡ true
 
   -- A shared page that stands in a slot's space is one that an environment has, or the page of an object that one of its descriptors
   -- names: the environment is that of the slot, or the parent of its child.
@@ -575,15 +751,29 @@ module _ (names : Names) (s : KernelState) (a : AbstractState) (h : StandsFor na
   page_had : (b : Born) (p m : ℕ) (writable : Bool) → p < page_limit → b.memory p ≡ Some (named m writable) → Has b m
   page_had b p m writable lt memory =
       let self : is_page_of m (Some (named m writable)) ≡ true = grind (arith, nat_tests) in
-      first_holds (has_page_of m b) (has_object_of m b)
+      first_holds (has_page_of m b) (has_object_of m b || has_end_of a m b)
       (some_below-at (λ q. is_page_of m (b.memory q)) page_limit p lt (ap (is_page_of m) memory ∙ self))
 
   -- and what one of its descriptors names
   object_had : (b : Born) (fd m : ℕ) → fd < DESCRIPTORS → b.descriptors fd ≡ Some m → Has b m
   object_had b fd m lt names_it =
       let self : is_exactly m (Some m) ≡ true = grind (arith, nat_tests) in
-      second_holds (has_page_of m b) (has_object_of m b)
-      (some_below-at (λ q. is_exactly m (b.descriptors q)) DESCRIPTORS fd lt (ap (is_exactly m) names_it ∙ self))
+      second_holds (has_page_of m b) (has_object_of m b || has_end_of a m b)
+      (first_holds (has_object_of m b) (has_end_of a m b)
+      (some_below-at (λ q. is_exactly m (b.descriptors q)) DESCRIPTORS fd lt (ap (is_exactly m) names_it ∙ self)))
+
+  -- and the pipe of an end that one names
+  end_had : (b : Born) (fd m name : ℕ) → fd < DESCRIPTORS → b.descriptors fd ≡ Some name → pipe_named a.objects name ≡ Some m → Has b m
+  end_had b fd m name lt names_it of =
+      second_holds (has_page_of m b) (has_object_of m b || has_end_of a m b)
+      (second_holds (has_object_of m b) (has_end_of a m b)
+      (some_below-at (λ q. is_end_at a m (b.descriptors q)) DESCRIPTORS fd lt (ap (is_end_at a m) names_it ∙ end_is (a.objects name) of)))
+    where
+      end_is : (o : Object) → pipe_of (Some o) ≡ Some m → is_end_of m o ≡ true
+      end_is (read_end pipe) of = let same = same_Some pipe m of in grind (arith, nat_tests, same)
+      end_is (write_end pipe) of = let same = same_Some pipe m of in grind (arith, nat_tests, same)
+      end_is terminal of = absurd (none-some m of)
+      end_is (file f) of = absurd (none-some m of)
 
   -- what is seen of a shared page
   seen_shared : (n p : ℕ) (e : Entry) → is_programs p ≡ true → rows_of s.spaces (slot n).directory p ≡ Some e → is_shared e.perm ≡ true →
@@ -594,53 +784,79 @@ module _ (names : Names) (s : KernelState) (a : AbstractState) (h : StandsFor na
       ∙ ap (λ (t : Bool). Some (if t then named (names.name e.frame) (has_write e.perm) else own (s.spaces.pages e.frame)
       (may_write e.perm))) shared
 
-  -- what stands at the page of a descriptor has the name of the descriptor's object
-  descriptor_had : (n p : ℕ) (e : Entry) (b : Born) → StandsForBorn names s.spaces (slot n) b → is_descriptor p ≡ true →
-      rows_of s.spaces (slot n).directory p ≡ Some e → is_shared e.perm ≡ true → Has b (names.name e.frame)
-  descriptor_had n p e b k descriptor stands shared = object_had b fd (names.name e.frame) (grind (arith, nat_tests)) (
-      k.descriptors fd
-      ∙ ap (λ (c : Bool). if c then name_of (shown_at names s.spaces d (descriptor_page fd)) else None) below
-      ∙ ap (λ (q : ℕ). name_of (shown_at names s.spaces d q)) same
-      ∙ ap (λ (o : Option Entry). name_of (option_map (page_by names s.spaces.pages) o)) stands
-      ∙ ap (λ (t : Bool). name_of (Some (if t then named (names.name e.frame) (has_write e.perm) else own (s.spaces.pages e.frame)
-      (may_write e.perm)))) shared)
+  -- What stands at the page of a descriptor has the name of the descriptor's object, and what stands at that of its pipe the name of the pipe, where
+  -- the two are not made.
+  descriptor_had : (n p : ℕ) (e : Entry) (b : Born) → a.slots n ≡ born b → is_of_descriptor p ≡ true →
+      rows_of s.spaces (slot n).directory p ≡ Some e → is_made (place_of (slot n)) (descriptor_at p) ≡ false → Has b (names.name e.frame)
+  descriptor_had n p e b at descriptor stands unmade = by_half (nat_lt p (page_number FDTABLE + DESCRIPTORS)) refl
     where
       fd : ℕ
-      fd = p - page_number FDTABLE
+      fd = descriptor_at p
 
-      d : ℕ
-      d = (slot n).directory
+      from : page_number FDTABLE ≤ p
+      from = grind (arith, nat_tests)
 
-      below : nat_lt fd DESCRIPTORS ≡ true
-      below = grind (arith, nat_tests)
+      to : p < page_number FDTABLE + 2 * DESCRIPTORS
+      to = grind (arith, nat_tests)
 
-      same : descriptor_page fd ≡ p
-      same = grind (arith, nat_tests)
+      below : descriptor_at p < DESCRIPTORS
+      below = omega arith
 
-  -- a shared page of an environment's space has its name, where it is not the copy that the handler of page faults makes
+      by_given : rows_of s.spaces (slot n).directory (pipe_page (descriptor_at p)) ≡ Some e → (c : Bool) →
+          is_given (place_of (slot n)) (descriptor_at p) ≡ c → Has b (names.name e.frame)
+      by_given lies false off =
+          let none : is_on_its_way (place_of (slot n)) (descriptor_at p) ≡ false =
+          ap (λ (c : Bool). if c then true else is_given (place_of (slot n)) (descriptor_at p)) unmade ∙ off in
+          let found = (ends_at h n b at).only (descriptor_at p) e below none lies in
+          end_had b (descriptor_at p) (names.name e.frame) found.0 below found.1 found.2
+      by_given lies true on =
+          let from_it = given_from (place_of (slot n)) (view_of s.spaces (slot n).directory) (slot n) b (descriptor_at p) (born_at h n b at).at on in
+          let found = (ends_at h n b at).only from_it.old e from_it.below from_it.off (sym from_it.same ∙ lies) in
+          end_had b from_it.old (names.name e.frame) found.0 from_it.below found.1 found.2
+
+      by_half : (c : Bool) → nat_lt p (page_number FDTABLE + DESCRIPTORS) ≡ c → Has b (names.name e.frame)
+      by_half true lower =
+          let low : p < page_number FDTABLE + DESCRIPTORS = grind (arith, nat_tests, lower) in
+          let here : descriptor_page (descriptor_at p) ≡ p = omega (arith, from, low) in
+          object_had b (descriptor_at p) (names.name e.frame) below
+          (seen_as h n b at (descriptor_at p) e below unmade (ap (rows_of s.spaces (slot n).directory) here ∙ stands))
+      by_half false upper =
+          let high : page_number FDTABLE + DESCRIPTORS ≤ p = grind (arith, nat_tests, upper) in
+          let here : pipe_page (descriptor_at p) ≡ p = omega (arith, high, to) in
+          by_given (ap (rows_of s.spaces (slot n).directory) here ∙ stands) (is_given (place_of (slot n)) (descriptor_at p)) refl
+
+  -- a shared page of an environment's space has its name, where it is not made, nor the copy that the handler of page faults makes
   its_name : (n p : ℕ) (e : Entry) (b : Born) → a.slots n ≡ born b → p ≢ page_number PFTEMP →
-      rows_of s.spaces (slot n).directory p ≡ Some e → is_shared e.perm ≡ true →
+      rows_of s.spaces (slot n).directory p ≡ Some e → is_shared e.perm ≡ true → is_made_page (place_of (slot n)) p ≡ false →
       IsNamed names s.spaces.pages a.shared (things_in s a) a.next_name p e.frame
-  its_name n p e b at beside stands shared = by_step (is_remapped (place_of (slot n)) p) refl
+  its_name n p e b at aside stands shared unmade = by_descriptor (is_of_descriptor p) refl
     where
-      by_step : (c : Bool) → is_remapped (place_of (slot n)) p ≡ c → IsNamed names s.spaces.pages a.shared (things_in s a) a.next_name p e.frame
-      by_step true twice =
-          let it = remapped names s a n b h at p twice in
+      by_step : is_of_descriptor p ≡ false → (c : Bool) → is_remapped (place_of (slot n)) p ≡ c →
+          IsNamed names s.spaces.pages a.shared (things_in s a) a.next_name p e.frame
+      by_step none true twice =
+          let it = remapped names s a n b h at p none twice in
           let entry_is : it.entry ≡ e = same_Some it.entry e (sym it.stands ∙ stands) in
           absurd (false≢true (sym it.own_page ∙ ap (λ (x : Entry). is_shared x.perm) entry_is ∙ shared))
-      by_step false other =
-          h.named n p e (logical_beside s.spaces s.environments.slots n (clients_live h n b at) p beside other ∙ stands) shared
+      by_step none false other =
+          h.named n p e (logical_beside s.spaces s.environments.slots n (clients_live h n b at) p aside other ∙ stands) shared
+
+      by_descriptor : (c : Bool) → is_of_descriptor p ≡ c → IsNamed names s.spaces.pages a.shared (things_in s a) a.next_name p e.frame
+      by_descriptor true of =
+          let made = second_off (is_of_descriptor p) (is_made (place_of (slot n)) (descriptor_at p)) of unmade in
+          let has = stands_shared h n (born_not_first h n b at) (live_born h n b at) p (descriptor_at p) e of refl made stands shared in
+          h.named n p e has.counts shared
+      by_descriptor false none = by_step none (is_remapped (place_of (slot n)) p) refl
 
   -- in an environment's space it is a page that the program may have, or that of a descriptor
   of_born : (n p : ℕ) (e : Entry) → n < NENV → p < page_limit → rows_of s.spaces (slot n).directory p ≡ Some e → is_shared e.perm ≡ true →
-      (b : Born) → a.slots n ≡ born b → StandsForBorn names s.spaces (slot n) b → IsHad p e
-  of_born n p e lt within stands shared b at k = record {
+      is_made_page (place_of (slot n)) p ≡ false → (b : Born) → a.slots n ≡ born b → StandsForBorn names s.spaces (slot n) b → IsHad p e
+  of_born n p e lt within stands shared unmade b at k = record {
     home = n;
     below = lt;
     b = b;
     at = at;
     has = by_inside (is_programs p) refl;
-    name = its_name n p e b at (no_copy (has_copy (place_of (slot n))) refl) stands shared;
+    name = its_name n p e b at (no_copy (has_copy (place_of (slot n))) refl) stands shared unmade;
   }
     where
       row : EntryRow
@@ -657,10 +873,11 @@ module _ (names : Names) (s : KernelState) (a : AbstractState) (h : StandsFor na
       by_inside : (inside : Bool) → is_programs p ≡ inside → Has b (names.name e.frame)
       by_inside true inside =
           page_had b p (names.name e.frame) (has_write e.perm) within (k.memory p ∙ seen_shared n p e inside stands shared)
-      by_inside false outside = by_descriptor (is_descriptor p) refl
+      by_inside false outside = by_descriptor (is_of_descriptor p) refl
         where
-          by_descriptor : (t : Bool) → is_descriptor p ≡ t → Has b (names.name e.frame)
-          by_descriptor true descriptor = descriptor_had n p e b k descriptor stands shared
+          by_descriptor : (t : Bool) → is_of_descriptor p ≡ t → Has b (names.name e.frame)
+          by_descriptor true descriptor =
+              descriptor_had n p e b at descriptor stands (second_off (is_of_descriptor p) (is_made (place_of (slot n)) (descriptor_at p)) descriptor unmade)
           by_descriptor false no_descriptor = absurd (none-some e (sym
               (k.library.none p outside no_descriptor
               (λ same. own_alone row p (page_number UXSTACK) e k.library.stack same stands shared)
@@ -695,48 +912,51 @@ module _ (names : Names) (s : KernelState) (a : AbstractState) (h : StandsFor na
           page_had child.b p (names.name e.frame) (has_write e.perm) within
           (sym (child.passed p inside passed) ∙ seen_shared n p e inside stands shared)
       by_passed inside false off =
-          absurd (none-some e (sym (child.rest p (first_holds (is_programs p) (is_descriptor p) inside) off) ∙ stands))
+          absurd (none-some e (sym (child.rest p (first_holds (is_programs p) (is_of_descriptor p) inside) off) ∙ stands))
 
-      by_handed : is_descriptor p ≡ true → (t : Bool) → is_passed child.step p ≡ t → Has child.b (names.name e.frame)
+      by_handed : is_of_descriptor p ≡ true → (t : Bool) → is_passed child.step p ≡ t → Has child.b (names.name e.frame)
       by_handed descriptor true passed =
-          descriptor_had (parent % NENV) p e child.b (born_at h (parent % NENV) child.b child.born_by) descriptor
-          (sym (child.handed p descriptor passed) ∙ stands) shared
+          descriptor_had (parent % NENV) p e child.b child.born_by descriptor (sym (child.handed p descriptor passed) ∙ stands)
+          (ap (λ (q : Place). is_made q (descriptor_at p)) child.at)
       by_handed descriptor false off =
-          absurd (none-some e (sym (child.rest p (second_holds (is_programs p) (is_descriptor p) descriptor) off) ∙ stands))
+          absurd (none-some e (sym (child.rest p (second_holds (is_programs p) (is_of_descriptor p) descriptor) off) ∙ stands))
 
       by_inside : (inside : Bool) → is_programs p ≡ inside → Has child.b (names.name e.frame)
       by_inside true inside = by_passed inside (is_passed child.step p) refl
-      by_inside false outside = by_descriptor (is_descriptor p) refl
+      by_inside false outside = by_descriptor (is_of_descriptor p) refl
         where
-          by_descriptor : (t : Bool) → is_descriptor p ≡ t → Has child.b (names.name e.frame)
+          by_descriptor : (t : Bool) → is_of_descriptor p ≡ t → Has child.b (names.name e.frame)
           by_descriptor true descriptor = by_handed descriptor (is_passed child.step p) refl
           by_descriptor false no_descriptor =
               absurd (none-some e (sym (child.library.none p outside no_descriptor (by_stack (has_stack child.step) refl)) ∙ stands))
 
   had : (n p : ℕ) (e : Entry) → n < NENV → 0 ≢ n → is_live (slot n) ≡ true → p < page_limit → rows_of s.spaces (slot n).directory p ≡ Some e →
-      is_shared e.perm ≡ true → IsHad p e
-  had n p e below other live within stands shared = by_slot (a.slots n) refl (h.slots n)
+      is_shared e.perm ≡ true → is_made_page (place_of (slot n)) p ≡ false → IsHad p e
+  had n p e below other live within stands shared unmade = by_slot (a.slots n) refl (h.slots n)
     where
       by_slot : (y : AbstractSlot) → a.slots n ≡ y → StandsForSlot names s.spaces (slot n) y → IsHad p e
       by_slot (free id) at k_is = absurd (let e : ◌≡◌ {A = Bool} false true = sym (ap (λ (k : Slot). is_live k) k_is)
           ∙ live in cc)
       by_slot (unborn id parent) at k_is = of_child n p e other live within stands shared id parent at k_is
-      by_slot (born b) at k_is = of_born n p e below within stands shared b at k_is
+      by_slot (born b) at k_is = of_born n p e below within stands shared unmade b at k_is
       by_slot (serving id) at k_is = absurd (other (serving_first h n id k_is))
 
   -- so someone has it
-  someone_has : (home : ℕ) (b : Born) (m : ℕ) → home < NENV → a.slots home ≡ born b → Has b m →
-      someone a (has_page_of m) || someone a (has_object_of m) ≡ true
+  someone_has : (home : ℕ) (b : Born) (m : ℕ) → home < NENV → a.slots home ≡ born b → Has b m → is_wanted a m ≡ true
   someone_has home b m lt at has = by_page (has_page_of m b) refl has
     where
-      by_page : (t : Bool) → has_page_of m b ≡ t → t || has_object_of m b ≡ true →
-          someone a (has_page_of m) || someone a (has_object_of m) ≡ true
+      there : (passes : Born → Bool) → passes b ≡ true → someone a passes ≡ true
+      there passes so = some_below-at (λ q. born_passes passes (a.slots q)) NENV home lt (ap (born_passes passes) at ∙ so)
+
+      by_object : (t : Bool) → has_object_of m b ≡ t → t || has_end_of a m b ≡ true → someone a (has_object_of m) || someone a (has_end_of a m) ≡ true
+      by_object true object has = first_holds (someone a (has_object_of m)) (someone a (has_end_of a m)) (there (has_object_of m) object)
+      by_object false object end = second_holds (someone a (has_object_of m)) (someone a (has_end_of a m)) (there (has_end_of a m) end)
+
+      by_page : (t : Bool) → has_page_of m b ≡ t → t || (has_object_of m b || has_end_of a m b) ≡ true → is_wanted a m ≡ true
       by_page true page has =
-          first_holds (someone a (has_page_of m)) (someone a (has_object_of m))
-          (some_below-at (λ q. born_passes (has_page_of m) (a.slots q)) NENV home lt (ap (born_passes (has_page_of m)) at ∙ page))
-      by_page false page object =
-          second_holds (someone a (has_page_of m)) (someone a (has_object_of m))
-          (some_below-at (λ q. born_passes (has_object_of m) (a.slots q)) NENV home lt (ap (born_passes (has_object_of m)) at ∙ object))
+          first_holds (someone a (has_page_of m)) (someone a (has_object_of m) || someone a (has_end_of a m)) (there (has_page_of m) page)
+      by_page false page rest =
+          second_holds (someone a (has_page_of m)) (someone a (has_object_of m) || someone a (has_end_of a m)) (by_object (has_object_of m b) refl rest)
 
   -- a page of the server, a page of an environment's own, or one that is shared
   page_stands : (n p : ℕ) (e : Entry) → n < NENV → is_live (slot n) ≡ true → p < page_limit →
@@ -750,27 +970,34 @@ module _ (names : Names) (s : KernelState) (a : AbstractState) (h : StandsFor na
           let one = total-one page_limit p (λ q. is_at (the_page n q) e.frame) lt in
           in_slot n e.frame below (omega (arith, here, one))
 
-      by_test : (n == 0) ≡ false → (t : Bool) → is_shared e.perm ≡ t → 1 ≤ times e.frame
-      by_test other false mine = in_place
+      by_test : (n == 0) ≡ false → is_made_page (place_of (slot n)) p ≡ false → (t : Bool) → is_shared e.perm ≡ t → 1 ≤ times e.frame
+      by_test other unmade false mine = in_place
           (ap (λ (t : Bool). place_by t s.spaces (slot n) p) other
+          ∙ unmade_page s.spaces (slot n) p unmade
           ∙ ap (λ (t : Bool). where_so t (own_frame (rows_of s.spaces (slot n).directory p))) live ∙ ap own_frame stands
           ∙ ap (λ (t : Bool). if t then None else Some e.frame) mine)
-      by_test other true shared =
+      by_test other unmade true shared =
           let m = names.name e.frame in
-          let found = had n p e below (λ same. grind (arith, nat_tests)) live lt stands shared in
-          let some : someone a (has_page_of m) || someone a (has_object_of m) ≡ true =
-          someone_has found.home found.b m found.below found.at found.has in
+          let found = had n p e below (λ same. grind (arith, nat_tests)) live lt stands shared unmade in
+          let some : is_wanted a m ≡ true = someone_has found.home found.b m found.below found.at found.has in
           let here = is_at-here (named_frame names a m) e.frame (names.frame m)
           (ap (λ (t : Bool). where_so t (Some (names.frame m))) some) found.name.home in
           let one = total-one a.next_name m (λ q. is_at (named_frame names a q) e.frame) found.name.old in
           omega (arith, here, one)
+
+      by_made : (n == 0) ≡ false → (t : Bool) → is_made_page (place_of (slot n)) p ≡ t → 1 ≤ times e.frame
+      by_made other true made = in_place
+          (ap (λ (t : Bool). place_by t s.spaces (slot n) p) other
+          ∙ ap (λ (t : Bool). where_so t (own_where (is_made_page (place_of (slot n)) p) (rows_of s.spaces (slot n).directory p))) live
+          ∙ ap (λ (t : Bool). own_where t (rows_of s.spaces (slot n).directory p)) made ∙ ap (option_map (λ (x : Entry). x.frame)) stands)
+      by_made other false unmade = by_test other unmade (is_shared e.perm) refl
 
       by_first : (first : Bool) → (n == 0) ≡ first → 1 ≤ times e.frame
       by_first true first = in_place
           (ap (λ (t : Bool). place_by t s.spaces (slot n) p) first
           ∙ ap (λ (t : Bool). where_so t (option_map (λ (x : Entry). x.frame) (rows_of s.spaces (slot n).directory p))) live
           ∙ ap (option_map (λ (x : Entry). x.frame)) stands)
-      by_first false other = by_test other (is_shared e.perm) refl
+      by_first false other = by_made other (is_made_page (place_of (slot n)) p) refl
 
   entry_stands : (d p : ℕ) (e : Entry) → s.spaces.entries d p ≡ Some e → 1 ≤ times e.frame
   unfolding rows_of
@@ -804,15 +1031,26 @@ module _ (names : Names) (s : KernelState) (a : AbstractState) (h : StandsFor na
       total-less NENV 0 1 (λ n. frames_by (n == 0) s.spaces (slot n)) (λ n. slot_need a (a.slots n)) (omega arith)
       (λ n lt. each_wants n (n == 0) refl) server_wants
 
-  names_want : filled a.next_name (named_frame names a)
-      ≤ count_below a.next_name (λ name. someone a (has_page_of name)) + count_below a.next_name (λ name. someone a (has_object_of name))
+  abbrev pages_named : ℕ
+  pages_named = count_below a.next_name (λ name. someone a (has_page_of name))
+
+  abbrev objects_named : ℕ
+  objects_named = count_below a.next_name (λ name. someone a (has_object_of name))
+
+  abbrev pipes_named : ℕ
+  pipes_named = count_below a.next_name (λ name. someone a (has_end_of a name))
+
+  names_want : filled a.next_name (named_frame names a) ≤ pages_named + (objects_named + pipes_named)
   names_want =
       let each = total-mono a.next_name (λ m. bit_of (is_some (named_frame names a m)))
-      (λ m. bit_of (someone a (has_page_of m)) + bit_of (someone a (has_object_of m)))
-      (λ m lt. let some = so_of_some (someone a (has_page_of m) || someone a (has_object_of m)) (names.frame m) in
-      let either = bit_of_either (someone a (has_page_of m)) (someone a (has_object_of m)) in omega (arith, some, either)) in
-      let sum = total-sum a.next_name (λ m. bit_of (someone a (has_page_of m))) (λ m. bit_of (someone a (has_object_of m))) in
-      omega (arith, each, sum)
+      (λ m. bit_of (someone a (has_page_of m)) + (bit_of (someone a (has_object_of m)) + bit_of (someone a (has_end_of a m))))
+      (λ m lt. let some = so_of_some (is_wanted a m) (names.frame m) in
+      let either = bit_of_either (someone a (has_page_of m)) (someone a (has_object_of m) || someone a (has_end_of a m)) in
+      let rest = bit_of_either (someone a (has_object_of m)) (someone a (has_end_of a m)) in omega (arith, some, either, rest)) in
+      let sum = total-sum a.next_name (λ m. bit_of (someone a (has_page_of m)))
+      (λ m. bit_of (someone a (has_object_of m)) + bit_of (someone a (has_end_of a m))) in
+      let more = total-sum a.next_name (λ m. bit_of (someone a (has_object_of m))) (λ m. bit_of (someone a (has_end_of a m))) in
+      omega (arith, each, sum, more)
 
   need_covers : EachHasUse s.spaces → length s.spaces.free ≤ 1 → pool_of s.spaces ≤ need a
   unfolding need

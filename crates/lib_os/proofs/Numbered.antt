@@ -35,6 +35,7 @@ number_of (service.SetSize fd size) = 16
 number_of (service.Remove path) = 17
 number_of service.Sync = 18
 number_of (service.Dup old new) = 19
+number_of service.Pipe = 20
 number_of _ = 22
 
 by_number : (q k : ℕ) (x y : Service) → number_of x ≡ k → (q ≢ k → number_of y ≡ q) → number_of (if q == k then x else y) ≡ q
@@ -52,7 +53,7 @@ numbered r built =
     by_number r.eax 8 _ _ refl (λ n8. by_number r.eax 9 _ _ refl (λ n9. by_number r.eax 10 _ _ refl (λ n10. by_number r.eax 11 _ _ refl (λ n11.
     by_number r.eax 12 _ _ refl (λ n12. by_number r.eax 13 _ _ refl (λ n13. by_number r.eax 14 _ _ refl (λ n14. by_number r.eax 15 _ _ refl (λ n15.
     by_number r.eax 16 _ _ refl (λ n16. by_number r.eax 17 _ _ refl (λ n17. by_number r.eax 18 _ _ refl (λ n18. by_number r.eax 19 _ _ refl (λ n19.
-    let no_number : ⊥ = grind (arith, nat_tests) in absurd no_number))))))))))))))))))))
+    by_number r.eax 20 _ _ refl (λ n20. let no_number : ⊥ = grind (arith, nat_tests) in absurd no_number)))))))))))))))))))))
 
 pub named_again : (r : Regs) (s : Service) → service_of r ≡ s → service_of (record r { eax = number_of s }) ≡ s
 unfolding service_of

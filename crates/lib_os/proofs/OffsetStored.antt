@@ -16,12 +16,16 @@ use Rattle.jos_base.specs.SpacesState.{SpacesState}
 use Rattle.jos_base.specs.Words.{page_number, upd, word_at}
 use Rattle.jos_base.proofs.Maps.{upd-at, upd-other}
 use Rattle.lib_os.specs.declared.numbers.TheConstants.{FD_DEVICE, FD_FILE, FD_MODE, FD_OFFSET, MAXOPEN, REQUEST}
-use Rattle.lib_os.specs.AbstractState.{AbstractSlot, AbstractState, Object, OpenFile, born, file, is_live, read_end, serving, terminal, unborn}
+use Rattle.lib_os.specs.AbstractState.{AbstractSlot, AbstractState, Object, OpenFile, born, file, free, is_live, read_end, serving, terminal, unborn}
 use Rattle.lib_os.specs.AbstractState.{write_end}
-use Rattle.lib_os.specs.DescriptorPages.{HasObject, IsOpenFile, Things, lasting_words, number_of, offset_of, place_page}
-use Rattle.lib_os.specs.InOrder.{IsInOrder}
+use Rattle.lib_os.specs.AbstractRun.{pipe_of}
+use Rattle.lib_os.specs.DescriptorPages.{HasObject, HasPipe, IsEnd, IsOpenFile, Things, lasting_words, number_of, offset_of, place_page}
+use Rattle.lib_os.specs.InOrder.{HasOneUse, IsInOrder}
 use Rattle.lib_os.specs.MadeCalls.{place_address}
-use Rattle.lib_os.specs.Rows.{IsDescriptors, IsNamed, IsPage, MayBeHad, Names, Rows, ShowsBy, is_shared, logical, rows_of}
+use Rattle.lib_os.specs.PipeEnds.{EndsStandAt, pipe_named}
+use Rattle.lib_os.specs.Places.{place_of}
+use Rattle.lib_os.specs.Rows.{HasThing, IsDescriptors, IsNamed, IsPage, MayBeHad, Names, Rows, ShowsBy, is_of_descriptor, is_pipe_page, is_shared, logical}
+use Rattle.lib_os.specs.Rows.{pipe_page, rows_of}
 use Rattle.lib_os.specs.StandsFor.{HasServer, StandsFor, StandsForSlot, things_in}
 use Rattle.lib_os.specs.UserCalls.{CallStep, IsStep, Output, store}
 use Rattle.lib_os.proofs.BytesPut.{bytes_put, put_behind, put_whole}
@@ -32,8 +36,10 @@ use Rattle.lib_os.proofs.FileStored.{put_word_at, put_word_before}
 use Rattle.lib_os.proofs.HandedBack.{word_comes}
 use Rattle.lib_os.proofs.Logical.{logical_alike}
 use Rattle.lib_os.proofs.PageBytes.{word_bytes}
+use Rattle.lib_os.proofs.PipesStand.{ends_moved, locks_same, same_places}
 use Rattle.lib_os.proofs.ServerStands.{first_slot}
 use Rattle.lib_os.proofs.SlotsStand.{SeenAlike, live_stands, slot_stands}
+use Rattle.lib_os.proofs.StatesStand.{rows_counts}
 
 -- ---- the words of the page
 
@@ -114,8 +120,17 @@ module _ {names : Names} {s : KernelState} {a : AbstractState} (h : StandsFor na
         same_Some its_name name (sym is.held ∙ ap (λ (k : ℕ). (a.opened k).held_by) (sym its_number) ∙ held) in
         let files : file g ≡ file f = sym by ∙ ap a.objects named_so ∙ named_file in
         (named_so, subst (λ (o : Object). HasObject (things_in s a) its_name x.frame o bytes) files is)
-    its_file same (read_end pipe) by is = absurd is
-    its_file same (write_end pipe) by is = absurd is
+    its_file same (read_end pipe) by is = absurd (is.apart (place_page number) e there (sym same))
+    its_file same (write_end pipe) by is = absurd (is.apart (place_page number) e there (sym same))
+
+    -- the page of a pipe has another
+    no_pipe : is_pipe_page p ≡ true → x.frame ≢ e.frame
+    no_pipe pipes same =
+        let object : is_of_descriptor p ≡ true = grind (arith, nat_tests, pipes) in
+        let is : HasPipe (things_in s a) its_name x.frame bytes =
+        subst (λ (c : Bool). HasThing (things_in s a) its_name x.frame c bytes) (was.of_pipe ∙ pipes)
+        (subst (λ (c : Bool). ShowsBy (things_in s a) its_name x.frame c (names.is_pipe its_name) (a.shared its_name) bytes) (was.kind ∙ object) was.shows) in
+        is.apart (place_page number) e there (sym same)
 
     -- and it has the frame, where it names the file
     its_frame : its_name ≡ name → HasObject (things_in s a) its_name x.frame (a.objects its_name) bytes → x.frame ≡ e.frame
@@ -128,7 +143,7 @@ module _ {names : Names} {s : KernelState} {a : AbstractState} (h : StandsFor na
         same_Some is.entry e (sym is.stands ∙ ap (λ (k : ℕ). rows_of s.spaces home (place_page k)) (sym its_number) ∙ there) in
         sym is.same ∙ ap (λ (y : Entry). y.frame) entry_is
 
-  module _ (sp : SpacesState) (rewritten : IsRewritten s.spaces sp e.frame now) where
+  module _ (sp : SpacesState) (rewritten : IsRewritten s.spaces sp e.frame now) (one : HasOneUse sp) where
     abbrev things : Things
     things = things_in (with_spaces s sp) after
 
@@ -163,6 +178,7 @@ module _ {names : Names} {s : KernelState} {a : AbstractState} (h : StandsFor na
       bytes = λ p x is own_page. bytes_kept x.frame (not_own p x is own_page);
       named_so = λ p x is shared_page. refl;
       devices = λ p x descriptor is shared_page. told x.frame;
+      pipes = λ p x pipes is shared_page. bytes_kept x.frame (not_pipe p x pipes is shared_page);
       regions = rewritten.regions d;
     }
       where
@@ -170,7 +186,13 @@ module _ {names : Names} {s : KernelState} {a : AbstractState} (h : StandsFor na
         not_own p x is own_page same =
             let c = entry_counts h d p x ne is in
             let its = is_descriptors c.slot c.page c.entry c.counts (c.frame ∙ same) in
-            let contradiction : true ≡ false = sym its.shared ∙ c.sharing ∙ own_page in cc
+            let contradiction : true ≡ false = sym its.shared ∙ c.own own_page in cc
+
+        not_pipe : (p : ℕ) (x : Entry) → is_pipe_page p ≡ true → rows_of s.spaces d p ≡ Some x → is_shared x.perm ≡ true → x.frame ≢ e.frame
+        not_pipe p x pipes is shared_page same =
+            let c = entry_counts h d p x ne is in
+            let its = is_descriptors c.slot c.page c.entry c.counts (c.frame ∙ same) in
+            no_pipe c.slot c.page c.entry c.counts its.shared (ap is_pipe_page (c.itself shared_page) ∙ pipes) (c.frame ∙ same)
 
     clients_seen : (m : ℕ) → m ≢ 0 → is_live (a.slots m) ≡ true → SeenAlike names names s.spaces sp (slot_at s m).directory
     clients_seen m ne live =
@@ -181,8 +203,28 @@ module _ {names : Names} {s : KernelState} {a : AbstractState} (h : StandsFor na
       | inl first ↦
           subst (λ (k : ℕ). StandsForSlot names sp (slot_at s k) (a.slots k)) (sym first)
           (subst (λ (slot : AbstractSlot). StandsForSlot names sp (slot_at s 0) slot) (sym h.first) (first_slot h))
-      | inr other ↦ slot_stands names names s.spaces sp (slot_at s m) (a.slots m) (h.slots m) (λ live. clients_seen m other live)
+      | inr other ↦
+          slot_stands names names s.spaces sp (slot_at s m) (a.slots m) (h.slots m) (λ live. clients_seen m other live)
+          (rows_counts h.in_order.frames one rewritten.rows (slot_at s m))
     ]
+
+    -- the file is no end of a pipe, before and after
+    pipes_same : (its : ℕ) → pipe_named after.objects its ≡ pipe_named a.objects its
+    pipes_same its = elim (cases_eq its name) [
+      | inl same ↦
+          ap (λ (o : Object). pipe_of (Some o)) (ap after.objects same ∙ upd-at a.objects name (file moved))
+          ∙ sym (ap (λ (o : Object). pipe_of (Some o)) (ap a.objects same ∙ named_file))
+      | inr ne ↦ ap (λ (o : Object). pipe_of (Some o)) (upd-other a.objects name (file moved) its ne)
+    ]
+
+    ends_stand : (m : ℕ) (slot : AbstractSlot) → EndsStandAt names a.objects (place_of (slot_at s m)) (rows_of s.spaces (slot_at s m).directory) slot →
+        EndsStandAt names after.objects (place_of (slot_at s m)) (rows_of sp (slot_at s m).directory) slot
+    ends_stand m (free id) ends = tt
+    ends_stand m (unborn id parent) ends = tt
+    ends_stand m (born b) ends =
+        ends_moved (same_places refl) (λ fd. refl) (λ fd its is. pipes_same its) (λ fd under. row_kept (slot_at s m).directory (pipe_page fd))
+        (λ fd x under is. refl) ends
+    ends_stand m (serving id) ends = tt
 
     -- ---- what entries show
 
@@ -233,6 +275,14 @@ module _ {names : Names} {s : KernelState} {a : AbstractState} (h : StandsFor na
           other : its ≢ name
           other same = ne (its_frame n p x counts shared_page same shows)
 
+          by_end : (pipe mode : ℕ) → IsEnd (things_in s a) its pipe x.frame mode had → IsEnd things its pipe x.frame mode had
+          by_end pipe mode is = record {
+            numbered = is.numbered;
+            device = is.device;
+            mode_is = is.mode_is;
+            apart = λ q y at. is.apart q y (sym (row_kept home q) ∙ at);
+          }
+
           by_object : (o : Object) → HasObject (things_in s a) its x.frame o had → HasObject things its x.frame o had
           by_object terminal is = record { device = is.device; apart = λ q y at. is.apart q y (sym (row_kept home q) ∙ at) }
           by_object (file g) is = record {
@@ -245,16 +295,19 @@ module _ {names : Names} {s : KernelState} {a : AbstractState} (h : StandsFor na
             stands = row_kept home _ ∙ is.stands;
             same = is.same;
           }
-          by_object (read_end pipe) is = is
-          by_object (write_end pipe) is = is
+          by_object (read_end pipe) is = by_end pipe 0 is
+          by_object (write_end pipe) is = by_end pipe 1 is
 
-      still_shows : (object : Bool) → names.is_object its ≡ object → ShowsBy (things_in s a) its x.frame object (a.shared its) had →
-          ShowsBy things its x.frame object (a.shared its) (sp.pages x.frame)
-      still_shows true kind shows = elim (cases_eq x.frame e.frame) [
+      still_shows : (object is_pipe : Bool) → names.is_object its ≡ object → ShowsBy (things_in s a) its x.frame object is_pipe (a.shared its) had →
+          ShowsBy things its x.frame object is_pipe (a.shared its) (sp.pages x.frame)
+      still_shows true false kind shows = elim (cases_eq x.frame e.frame) [
         | inl same ↦ moved_shows same shows
         | inr ne ↦ other_shows ne shows
       ]
-      still_shows false kind shows = shows ∙ sym (bytes_kept x.frame not_it)
+      still_shows true true kind is =
+          subst (λ (l : List ℕ). HasPipe things its x.frame l) (sym (bytes_kept x.frame (λ same. is.apart (place_page number) e there (sym same))))
+          (record { holds = is.holds; few = is.few; apart = λ q y at. is.apart q y (sym (row_kept home q) ∙ at) })
+      still_shows false is_pipe kind shows = shows ∙ sym (bytes_kept x.frame not_it)
         where
           not_it : x.frame ≢ e.frame
           not_it same =
@@ -264,7 +317,13 @@ module _ {names : Names} {s : KernelState} {a : AbstractState} (h : StandsFor na
       still_named : IsNamed names sp.pages a.shared things a.next_name p x.frame
       still_named =
           let was = h.named n p x counts shared_page in
-          record { home = was.home; kind = was.kind; shows = still_shows (names.is_object its) refl was.shows; old = was.old }
+          record {
+            home = was.home;
+            kind = was.kind;
+            of_pipe = was.of_pipe;
+            shows = still_shows (names.is_object its) (names.is_pipe its) refl was.shows;
+            old = was.old;
+          }
 
     -- ---- all of it
 
@@ -287,6 +346,11 @@ module _ {names : Names} {s : KernelState} {a : AbstractState} (h : StandsFor na
       users = λ m q x hx. h.users m q x (sym (counts_kept m q) ∙ hx);
       whole = λ m q x hx. still_whole m q x (sym (counts_kept m q) ∙ hx);
       beside = λ m q r x y hx is. h.beside m q r x y (sym (counts_kept m q) ∙ hx) (sym (row_kept home r) ∙ is);
+      ends = λ m. ends_stand m (a.slots m) (h.ends m);
+      locks = locks_same (λ m. refl) (λ m q is. counts_kept m q)
+          (λ m q x pipes hx shared_page. bytes_kept x.frame (no_pipe m q x hx shared_page pipes)) h.locks;
+      runs = h.runs;
+      old = h.old;
       free_slots = h.free_slots;
       first = h.first;
       server = server_so;
@@ -306,4 +370,4 @@ module _ {names : Names} {s : KernelState} {a : AbstractState} (h : StandsFor na
       let put = word_comes s 0 (place_page number) (place_below number below) e there FD_OFFSET (omega arith) offset (omega arith) step.0 in
       let mid_is : mid ≡ with_spaces s put.spaces = step.1 ∙ ap (λ (done : CallStep (Unit {0})). done.state) put.step_is in
       subst (λ (z : KernelState). StandsFor names z after) (sym mid_is)
-      (rewritten_stands put.spaces put.rewritten (subst IsInOrder mid_is in_order))
+      (let order : IsInOrder (with_spaces s put.spaces) = subst IsInOrder mid_is in_order in rewritten_stands put.spaces put.rewritten order.frames order)

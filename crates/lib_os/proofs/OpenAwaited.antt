@@ -29,7 +29,8 @@ use Rattle.lib_os.specs.LibraryPages.{View, has_copy, has_working}
 use Rattle.lib_os.specs.LibrarySteps.{KeepsStanding, gone_back, service_answered}
 use Rattle.lib_os.specs.Places.{place_of, words_at}
 use Rattle.lib_os.specs.Rows.{Names, rows_of}
-use Rattle.lib_os.specs.StandsFor.{AwaitsFileOrHas, HasAsked, HasOpened, IsAwaitingFile, IsLowestFree, IsStatusFor, StandsAt, StandsFor, StandsForBorn}
+use Rattle.lib_os.specs.InService.{IsLowestFree}
+use Rattle.lib_os.specs.StandsFor.{AwaitsFileOrHas, HasAsked, HasOpened, IsAwaitingFile, IsStatusFor, StandsAt, StandsFor, StandsForBorn}
 use Rattle.lib_os.specs.StandsFor.{awaits_file, borne_in, has_opened, opened_answer, upcall_at, view_of}
 use Rattle.lib_os.specs.UserCalls.{CallStep, got, system}
 use Rattle.lib_os.proofs.Answering.{back_stands}
@@ -41,6 +42,7 @@ use Rattle.lib_os.proofs.Logical.{is_plain}
 use Rattle.lib_os.proofs.Numbered.{named_at}
 use Rattle.lib_os.proofs.PageGiven.{give_removes, given_puts, given_row, given_tables, without_working}
 use Rattle.lib_os.proofs.PageTaken.{working_page, working_stands}
+use Rattle.lib_os.proofs.PipesStand.{calm_places, descriptors_turned, is_calm}
 use Rattle.lib_os.proofs.Serving.{IsServed, holds_page, library_moved, plain_copy, plain_upcall, plain_working, printed_nothing, served, service_step}
 use Rattle.lib_os.proofs.Slots.{words_put}
 use Rattle.lib_os.proofs.SlotsStand.{born_live}
@@ -113,7 +115,8 @@ module _ {names : Names} {s : KernelState} {a : AbstractState} (h : StandsFor na
         env_type = own.env_type;
         runs = tt;
         upcall = own.upcall ∙ plain_upcall (place_of k) plain ∙ sym (ap upcall_at j_place);
-        descriptors = own.descriptors;
+        descriptors = descriptors_turned names s.spaces k.directory (place_of k) (place_of j) v.b.descriptors (ap is_calm stands) (ap is_calm j_place)
+            own.descriptors;
         memory = own.memory;
         library = library_moved (place_of k) (place_of j) k.extra j.extra (rows_of s.spaces k.directory)
             (plain_copy (place_of k) plain ∙ sym (ap has_copy j_place))
@@ -145,14 +148,15 @@ module _ {names : Names} {s : KernelState} {a : AbstractState} (h : StandsFor na
       ≡ with_slot_at s n (record asleep { extra = after_words }) =
       ap (λ (x : CallStep Called). with_extra x.state n after_words) (open_call rest) ∙ words_put s n asleep after_words in
       subst (λ (x : KernelState). StandsFor names x (await_reply a n v.b call)) (sym after)
-      (slot_changed h n v.b v.is j waiting refl (stopped_settles k j refl refl refl) (ap is_plain stands) (ap is_plain j_place) waiting_own)
+      (slot_changed h n v.b v.is j waiting refl (stopped_settles k j refl refl refl refl) (ap is_plain stands) (ap is_plain j_place) waiting_own
+      (calm_places (ap is_calm stands) (ap is_calm j_place)) (λ fd. refl))
 
 -- what the step comes to
 pub open_awaiting_keeps : (s : KernelState) (n path mode id fd : ℕ) →
     place_of (slot_at s n) ≡ place.InService (service.OpenFile path mode) (step.OpenAwaiting id fd) →
     KeepsStanding progress.Visible n s
     (with_extra (system s n SYS_IPC_RECV (descriptor_va fd ∷ FIRST_ENV_ID ∷ 0 ∷ 0 ∷ 0 ∷ [])).state n (words_at SERVICE_OPEN_FILE (step.OpenClearing id fd))) []
-open_awaiting_keeps s n path mode id fd stands a h quiet = (
+open_awaiting_keeps s n path mode id fd stands a h turn quiet = (
   _,
   open_awaiting_step h.1 n path mode id fd stands,
   printed_nothing a,
@@ -177,7 +181,8 @@ awake_opened v k b s fd runs awake (awaits_file h) = absurd (never k.status b.bl
 module _ {names : Names} {s : KernelState} {a : AbstractState} {sp : SpacesState} (h : StandsFor names s a) (n path mode id fd : ℕ)
     (stands : place_of (slot_at s n) ≡ place.InService (service.OpenFile path mode) (step.OpenClearing id fd))
     (runs : (is_runnable (slot_at s n).status || is_running (slot_at s n).status) ≡ true)
-    (removed : Removed s.spaces sp (slot_at s n).directory working_page) (in_order : IsInOrder (with_spaces s sp)) where
+    (removed : Removed s.spaces sp (slot_at s n).directory working_page) (in_order : IsInOrder (with_spaces s sp))
+    (last : s.last ≡ Some n) where
   abbrev opens : Service
   opens = service.OpenFile path mode
 
@@ -214,8 +219,9 @@ module _ {names : Names} {s : KernelState} {a : AbstractState} {sp : SpacesState
 
   open_cleared_stands : StandsFor names (with_extra (with_spaces s sp) n words) a
   open_cleared_stands =
-      working_stands h n w.b w.is w.own w.outside (ap borne_in w.place) (given_puts h n w.b w.is removed) (slot_at s n).registers words
-      (place.InService opens (step.ReadingOpened id fd)) there refl refl refl refl
+      working_stands h n w.b w.is w.own w.outside (ap borne_in w.place) (ap is_calm w.place) (given_puts h n w.b w.is removed) last
+      (slot_at s n).registers words
+      (place.InService opens (step.ReadingOpened id fd)) there refl refl refl refl refl
       (λ is. absurd (let contradiction : false ≡ true = is in cc)) (λ is. refl) (given_tables h n w.b w.is removed)
       (waited.0, still_has) (given_row h n w.b w.is removed) in_order
 
@@ -224,8 +230,8 @@ pub open_clearing_keeps : (s : KernelState) (n path mode id fd : ℕ) →
     place_of (slot_at s n) ≡ place.InService (service.OpenFile path mode) (step.OpenClearing id fd) →
     (is_runnable (slot_at s n).status || is_running (slot_at s n).status) ≡ true → IsInOrder (with_spaces s (without_working s n)) →
     KeepsStanding progress.Hidden n s (with_extra (with_spaces s (without_working s n)) n (words_at SERVICE_OPEN_FILE (step.ReadingOpened id fd))) []
-open_clearing_keeps s n path mode id fd stands runs in_order a h quiet =
-    (refl, (h.0, open_cleared_stands h.1 n path mode id fd stands runs (give_removes s n h.1) in_order))
+open_clearing_keeps s n path mode id fd stands runs in_order a h turn quiet =
+    (refl, (h.0, open_cleared_stands h.1 n path mode id fd stands runs (give_removes s n h.1) in_order turn.last))
 
 -- ---- and is answered
 
@@ -261,5 +267,5 @@ module _ {names : Names} {s : KernelState} {a : AbstractState} (h : StandsFor na
       let flags : answers.eflags ≡ (slot_at s n).registers.eflags = sym (ap (λ (x : Regs). x.eflags) it.registers) in
       let still : StandsFor names (loaded s n address) a = quiet_stands h (touched_quiet s.spaces (slot_at s n).directory address Read) order in
       subst (λ (t : KernelState). StandsFor names t (answered a n reading_served.b it.regs told)) (sym same)
-      (back_stands still n reading_served.b reading_served.is answers (ap borne_in stands) (ap holds_page stands) it.silent it.awake
+      (back_stands still n reading_served.b reading_served.is answers (ap borne_in stands) (ap holds_page stands) (ap is_calm stands) it.silent it.awake
       reading_served.outside stack flags)

@@ -26,9 +26,10 @@ use Rattle.lib_os.specs.LibraryPages.{View}
 use Rattle.lib_os.specs.LibrarySteps.{KeepsStanding, service_answered}
 use Rattle.lib_os.specs.Places.{place_of, words_at}
 use Rattle.lib_os.specs.Rows.{EntryRow, Names, descriptor_page, rows_of}
-use Rattle.lib_os.specs.StandsFor.{EachIsOpenBelow, HasWholePath, IsIn, IsLookingForFree, IsOpen, StandsFor, borne_in, view_of}
+use Rattle.lib_os.specs.InService.{EachIsOpenBelow, IsIn, IsOpen}
+use Rattle.lib_os.specs.StandsFor.{HasWholePath, IsLookingForFree, StandsFor, borne_in, view_of}
 use Rattle.lib_os.proofs.Answering.{back_stands}
-use Rattle.lib_os.proofs.DescriptorLooks.{entry_va, no_table_row, none_there, page_told, page_word, read_goes_on, table_told, table_va, table_word}
+use Rattle.lib_os.proofs.DescriptorLooks.{entry_va, no_table_row, none_there, page_told, page_word, read_goes_on, seen_calm, table_told, table_va, table_word}
 use Rattle.lib_os.proofs.Effects.{Removed}
 use Rattle.lib_os.proofs.FreeSeen.{all_seen}
 use Rattle.lib_os.proofs.Loading.{loaded}
@@ -36,6 +37,7 @@ use Rattle.lib_os.proofs.Numbered.{number_of}
 use Rattle.lib_os.proofs.PageGiven.{give_removes, given_puts, given_row, given_tables, without_working}
 use Rattle.lib_os.proofs.PageTaken.{working_back, working_page}
 use Rattle.lib_os.proofs.Paths.{path_ends}
+use Rattle.lib_os.proofs.PipesStand.{is_calm}
 use Rattle.lib_os.proofs.RequestPages.{whole_moved}
 use Rattle.lib_os.proofs.Serving.{IsServed, holds_page, printed_nothing, served, step_in, words_of_none}
 
@@ -45,7 +47,7 @@ use Rattle.lib_os.proofs.Serving.{IsServed, holds_page, printed_nothing, served,
 pub open_mode_keeps : (s : KernelState) (n path mode : ℕ) → place_of (slot_at s n) ≡ place.InService (service.OpenFile path mode) step.Entered →
     is_mode mode ≡ false → KeepsStanding progress.Finished n s (service_answered s n (negated E_INVAL)) []
 unfolding library_step
-open_mode_keeps s n path mode stands off a h quiet =
+open_mode_keeps s n path mode stands off a h turn quiet =
     let v = served h.1 n (service.OpenFile path mode) step.Entered stands in
     let here : IsIn (slot_at s n) v.b (service.OpenFile path mode) entered = v.at in (
       refused a n v.b (slot_at s n).registers E_INVAL,
@@ -54,7 +56,7 @@ open_mode_keeps s n path mode stands off a h quiet =
       (
         h.0,
         back_stands h.1 n v.b v.is (record (slot_at s n).registers { eax = negated E_INVAL }) (ap borne_in v.place) (ap holds_page v.place)
-            here.silent here.awake v.outside refl refl,
+            (ap is_calm v.place) here.silent here.awake v.outside refl refl,
       ),
     )
 
@@ -77,7 +79,7 @@ module _ {names : Names} {s : KernelState} {a : AbstractState} (h : StandsFor na
   pub free_table_there : (bit_and (table_word s n) PTE_P == PTE_P) ≡ true →
       StandsFor names (with_extra (loaded s n table_va) n (words_at (number_of (service.OpenFile path mode)) (step.FreeEntry 0))) a
   free_table_there told =
-      read_goes_on h n call step.FreeRegion v refl table_va order (step.FreeEntry 0) refl refl (record {
+      read_goes_on h n call step.FreeRegion v refl refl table_va order (step.FreeEntry 0) refl refl refl (record {
         whole = whole_with (words_at (number_of call) (step.FreeEntry 0));
         most = omega arith;
         lower = λ fd lt. absurd (omega (arith, lt));
@@ -88,7 +90,7 @@ module _ {names : Names} {s : KernelState} {a : AbstractState} (h : StandsFor na
   pub free_table_missing : (bit_and (table_word s n) PTE_P == PTE_P) ≡ false →
       StandsFor names (with_extra (loaded s n table_va) n (words_at (number_of (service.OpenFile path mode)) (step.StoringMode 0))) a
   free_table_missing told =
-      read_goes_on h n call step.FreeRegion v refl table_va order (step.StoringMode 0) refl refl (record {
+      read_goes_on h n call step.FreeRegion v refl refl table_va order (step.StoringMode 0) refl refl refl (record {
         whole = whole_with (words_at (number_of call) (step.StoringMode 0));
         lowest = record {
           below = omega arith;
@@ -127,7 +129,7 @@ module _ {names : Names} {s : KernelState} {a : AbstractState} (h : StandsFor na
     pub free_entry_vacant : (bit_and (page_word s n fd) PTE_P == PTE_P) ≡ false →
         StandsFor names (with_extra (loaded s n (entry_va fd)) n (words_at (number_of (service.OpenFile path mode)) (step.StoringMode fd))) a
     free_entry_vacant told =
-        read_goes_on h n opening (step.FreeEntry fd) at_entry refl (entry_va fd) order (step.StoringMode fd) refl refl (record {
+        read_goes_on h n opening (step.FreeEntry fd) at_entry refl refl (entry_va fd) order (step.StoringMode fd) refl refl refl (record {
           whole = still_whole (words_at (number_of opening) (step.StoringMode fd));
           lowest = record {
             below = below;
@@ -139,7 +141,7 @@ module _ {names : Names} {s : KernelState} {a : AbstractState} (h : StandsFor na
     pub free_entry_taken : (bit_and (page_word s n fd) PTE_P == PTE_P) ≡ true →
         StandsFor names (with_extra (loaded s n (entry_va fd)) n (words_at (number_of (service.OpenFile path mode)) (step.FreeEntry (fd + 1)))) a
     free_entry_taken told =
-        read_goes_on h n opening (step.FreeEntry fd) at_entry refl (entry_va fd) order (step.FreeEntry (fd + 1)) refl refl (record {
+        read_goes_on h n opening (step.FreeEntry fd) at_entry refl refl (entry_va fd) order (step.FreeEntry (fd + 1)) refl refl refl (record {
           whole = still_whole (words_at (number_of opening) (step.FreeEntry (fd + 1)));
           most = omega (arith, below);
           lower = each_up_to space.row fd it.lower (sym (page_told h n at_entry.b at_entry.is fd below) ∙ told);
@@ -150,7 +152,8 @@ module _ {names : Names} {s : KernelState} {a : AbstractState} (h : StandsFor na
 
 module _ {names : Names} {s : KernelState} {a : AbstractState} {sp : SpacesState} (h : StandsFor names s a) (n path mode fd : ℕ)
     (past : DESCRIPTORS ≤ fd) (stands : place_of (slot_at s n) ≡ place.InService (service.OpenFile path mode) (step.FreeEntry fd))
-    (removed : Removed s.spaces sp (slot_at s n).directory working_page) (in_order : IsInOrder (with_spaces s sp)) where
+    (removed : Removed s.spaces sp (slot_at s n).directory working_page) (in_order : IsInOrder (with_spaces s sp))
+    (last : s.last ≡ Some n) where
   abbrev opens : Service
   opens = service.OpenFile path mode
 
@@ -164,7 +167,7 @@ module _ {names : Names} {s : KernelState} {a : AbstractState} {sp : SpacesState
   looks = w.at
 
   none_free : lowest_free w.b ≡ None
-  none_free = all_seen h n w.b w.is (λ q low. looks.lower q (omega (arith, low, past)))
+  none_free = all_seen h n w.b w.is (seen_calm h n w.b w.is (ap is_calm w.place)) (λ q low. looks.lower q (omega (arith, low, past)))
 
   full_step : abs_step a n ≡ Some (refused a n w.b (slot_at s n).registers E_MAX_OPEN)
   unfolding library_step
@@ -176,17 +179,18 @@ module _ {names : Names} {s : KernelState} {a : AbstractState} {sp : SpacesState
 
   full_stands : StandsFor names (service_answered (with_spaces s sp) n (negated E_MAX_OPEN)) (refused a n w.b (slot_at s n).registers E_MAX_OPEN)
   full_stands =
-      working_back h n w.b w.is w.own w.outside (ap borne_in w.place) (given_puts h n w.b w.is removed) regs no_extra place.Guest
-      (words_of_none regs no_extra w.outside refl) refl refl refl refl refl looks.whole.is_in.silent looks.whole.is_in.awake refl refl
+      working_back h n w.b w.is w.own w.outside (ap borne_in w.place) (ap is_calm w.place) (given_puts h n w.b w.is removed) last
+      regs no_extra place.Guest (words_of_none regs no_extra w.outside refl) refl refl refl refl refl refl
+      looks.whole.is_in.silent looks.whole.is_in.awake refl refl
       (given_tables h n w.b w.is removed) (given_row h n w.b w.is removed) in_order
 
 -- what the step comes to
 pub full_keeps : (s : KernelState) (n path mode fd : ℕ) → DESCRIPTORS ≤ fd →
     place_of (slot_at s n) ≡ place.InService (service.OpenFile path mode) (step.FreeEntry fd) → IsInOrder (with_spaces s (without_working s n)) →
     KeepsStanding progress.Finished n s (service_answered (with_spaces s (without_working s n)) n (negated E_MAX_OPEN)) []
-full_keeps s n path mode fd past stands in_order a h quiet = (
+full_keeps s n path mode fd past stands in_order a h turn quiet = (
   _,
-  full_step h.1 n path mode fd past stands (give_removes s n h.1) in_order,
+  full_step h.1 n path mode fd past stands (give_removes s n h.1) in_order turn.last,
   printed_nothing a,
-  (h.0, full_stands h.1 n path mode fd past stands (give_removes s n h.1) in_order),
+  (h.0, full_stands h.1 n path mode fd past stands (give_removes s n h.1) in_order turn.last),
 )

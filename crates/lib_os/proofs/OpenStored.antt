@@ -22,7 +22,8 @@ use Rattle.lib_os.specs.LibraryPages.{HasTaken, IsOwnWritable, View}
 use Rattle.lib_os.specs.Places.{place_of, words_at}
 use Rattle.lib_os.specs.Rows.{EntryRow, IsPage, Names, Rows, logical, rows_of}
 use Rattle.lib_os.specs.Services.{named_service, service_of}
-use Rattle.lib_os.specs.StandsFor.{HasFoundFree, HasWholePath, HasWordAt, IsLowestFree, StandsAt, StandsFor, borne_in, view_of}
+use Rattle.lib_os.specs.InService.{IsLowestFree}
+use Rattle.lib_os.specs.StandsFor.{HasFoundFree, HasWholePath, HasWordAt, StandsAt, StandsFor, borne_in, view_of}
 use Rattle.lib_os.specs.UserCalls.{store}
 use Rattle.lib_os.proofs.BytesKept.{PutsBytes, store_puts, unseen_rewritten, working_below}
 use Rattle.lib_os.proofs.BytesPut.{bytes_put, put_before, put_whole}
@@ -32,10 +33,11 @@ use Rattle.lib_os.proofs.Logical.{is_plain, logical_plain}
 use Rattle.lib_os.proofs.Numbered.{named_at, number_of}
 use Rattle.lib_os.proofs.PageBytes.{word_bytes}
 use Rattle.lib_os.proofs.PageTaken.{working_no_descriptor, working_outside, working_page}
+use Rattle.lib_os.proofs.PipesStand.{is_calm}
 use Rattle.lib_os.proofs.RequestPages.{whole_moved}
 use Rattle.lib_os.proofs.Serving.{IsServed, holds_page, plain_working, served}
 use Rattle.lib_os.proofs.SlotsStand.{born_at}
-use Rattle.lib_os.proofs.StatesStand.{clients_live}
+use Rattle.lib_os.proofs.StatesStand.{clients_live, others_counts}
 use Rattle.lib_os.proofs.WordsTell.{is_in_handler}
 use Rattle.jos_base.proofs.Maps.{upd-at}
 
@@ -156,12 +158,13 @@ module _ {names : Names} {s : KernelState} {a : AbstractState} (h : StandsFor na
       record {
         spaces = sp;
         step_is = puts.step_is;
-        stands = λ order.
+        stands = λ order last.
             let still : StandsFor names (with_spaces s sp) a =
             unseen_rewritten h n v.b v.is plain working_page working_outside working_no_descriptor page.entry page.stands page.own_page page.writes
-            now now_whole puts.rewritten order
+            now now_whole puts.rewritten order (others_counts h n last sp)
             (subst (λ (q : Place). StandsAt q after (slot_at s n) v.b) (sym stands) (record { whole = whole_there; lowest = lowest_there })) in
-            words_stand still n (number_of call) v.b v.is (born_at still n v.b v.is) v.outside (ap borne_in stands) call to (ap holds_page stands) refl
+            words_stand still n (number_of call) v.b v.is (born_at still n v.b v.is) v.outside (ap borne_in stands) (ap is_calm stands) call to
+            (ap holds_page stands) refl refl
             (named_at (slot_at s n) call (step.StoringMode fd) stands)
             (lowest_there, record { whole = whole_moved after (slot_at s n) v.b (slot_at s n).status words call whole_there; mode_told = mode_there });
       }

@@ -8,13 +8,14 @@ use Rattle.jos_base.specs.declared.numbers.TheConstants.{NENV}
 use Rattle.jos_base.specs.Below.{some_below}
 use Rattle.jos_base.specs.Words.{upd}
 use Rattle.jos_base.proofs.Below.{some_below-at}
-use Rattle.jos_base.proofs.Maps.{upd-at, upd-other}
+use Rattle.jos_base.proofs.Maps.{upd-all, upd-at, upd-other}
 use Rattle.fs_layout.specs.FileTree.{FileAct, FileSystem, open_path, read_file, remove_path, set_file_size, stat_file, sync_files, write_file}
 use Rattle.fs_layout.specs.FileActs.{Acted}
 use Rattle.lib_os.specs.declared.numbers.TheConstants.{DESCRIPTORS}
 use Rattle.lib_os.specs.declared.service.Service.{Service}
 use Rattle.lib_os.specs.AbstractLaws.{AsksOrLeaves, IsNewName, IsNobodys, LeavesFiles, OpensNobodys, asks, leaves, opened_by}
-use Rattle.lib_os.specs.AbstractState.{AbstractSlot, AbstractState, Born, Object, Phase, Request, Server, act, acted, awaiting, born, busy, file, idle}
+use Rattle.lib_os.specs.AbstractRun.{pipe_of}
+use Rattle.lib_os.specs.AbstractState.{AbstractSlot, AbstractState, Born, Object, OpenFile, Phase, Request, Server, act, acted, awaiting, born, busy, file, idle}
 use Rattle.lib_os.specs.AbstractState.{in_service, leaving, looking, replied, seek}
 use Rattle.lib_os.specs.Descriptors.{holds_in, is_held, is_name, lowest_free}
 use Rattle.lib_os.specs.FileServer.{act_done, after_act, file_opened, given, is_count, looked, moved_on, reply, reply_at, reply_to, request_begun, served}
@@ -40,6 +41,10 @@ module _ (a b : AbstractState) (n : ℕ) (h : OpensNobodys a) (left : LeavesFile
   still_nobodys name was = record {
     old = let more = left.names in let below = was.old in omega (arith, more, below);
     page = left.pages name (inl was.old) was.page;
+    ends = λ end is. elim (left.ends end name is) [
+      | inl same ↦ was.ends end same
+      | inr new ↦ let least = new.0 in let below = was.old in omega (arith, least, below)
+    ];
     held = by_held (is_held b name) refl;
   }
     where
@@ -56,6 +61,10 @@ module _ (a b : AbstractState) (n : ℕ) (h : OpensNobodys a) (left : LeavesFile
         let more = left.names in
         left.pages name (inr above) (h.pages name (omega (arith, more, above)));
     held = λ name is. by_held name (left.held name is);
+    ends = λ end pipe is. elim (left.ends end pipe is) [
+      | inl same ↦ let more = left.names in let below = h.ends end pipe same in omega (arith, more, below)
+      | inr new ↦ new.1
+    ];
     opened = by_server how;
   }
     where
@@ -75,13 +84,14 @@ opens_by_client a b n h left how = opens_left a b n h left how
 
 module _ (a : AbstractState) (h : OpensNobodys a) where
   -- The slots and the pages are as they were; and no name was given, or one, to what it has opened.
-  record Keeps (slots : ℕ → AbstractSlot) (shared : ℕ → List ℕ) (next : ℕ) (server : Server) : Type 0 where
+  record Keeps (slots : ℕ → AbstractSlot) (shared : ℕ → List ℕ) (next : ℕ) (server : Server) (objects : ℕ → Object) : Type 0 where
     slots_are : slots ≡ a.slots
     shared_are : shared ≡ a.shared
+    ends_are : (end pipe : ℕ) → pipe_of (Some (objects end)) ≡ Some pipe → pipe_of (Some (a.objects end)) ≡ Some pipe
     names : ((next ≡ a.next_name) × (opened_by server ≡ None)) ⊎ ((next ≡ a.next_name + 1) × (opened_by server ≡ Some a.next_name))
 
   abbrev Kept : AbstractState → Type 0
-  Kept x = Keeps x.slots x.shared x.next_name x.server
+  Kept x = Keeps x.slots x.shared x.next_name x.server x.objects
 
   held_still : (x : AbstractState) → x.slots ≡ a.slots → (name : ℕ) → is_held x name ≡ is_held a name
   held_still x same name = ap (λ (slots : ℕ → AbstractSlot). some_below NENV (λ k. holds_in (born_in (slots k)) name)) same
@@ -104,21 +114,31 @@ module _ (a : AbstractState) (h : OpensNobodys a) where
       by_names (inl (same, none)) = record {
         pages = λ name above. page_none name (omega (arith, same, above));
         held = below (omega (arith, same));
+        ends = λ end pipe is. let less = h.ends end pipe (k.ends_are end pipe is) in omega (arith, same, less);
         opened = λ name is. absurd (none-some name (sym none ∙ is));
       }
       by_names (inr (one, some)) = record {
         pages = λ name above. page_none name (omega (arith, one, above));
         held = below (omega (arith, one));
+        ends = λ end pipe is. let less = h.ends end pipe (k.ends_are end pipe is) in omega (arith, one, less);
         opened = λ name is.
             subst (λ (m : ℕ). IsNobodys x m) (same_Some a.next_name name (sym some ∙ is)) (record {
               old = omega (arith, one);
               page = page_none a.next_name (omega arith);
+              ends = λ end is. let less = h.ends end a.next_name (k.ends_are end a.next_name is) in omega (arith, less);
               held = held_still x k.slots_are a.next_name ∙ nobody_has (is_held a a.next_name) refl;
             });
       }
 
-  same_kept : (server : Server) → opened_by server ≡ None → Keeps a.slots a.shared a.next_name server
-  same_kept server none = record { slots_are = refl; shared_are = refl; names = inl (refl, none) }
+  same_kept : (server : Server) → opened_by server ≡ None → Keeps a.slots a.shared a.next_name server a.objects
+  same_kept server none = record { slots_are = refl; shared_are = refl; ends_are = λ end pipe is. is; names = inl (refl, none) }
+
+  -- a file is no end
+  file_at : (objects : ℕ → Object) → ((end pipe : ℕ) → pipe_of (Some (objects end)) ≡ Some pipe → pipe_of (Some (a.objects end)) ≡ Some pipe) →
+      (name : ℕ) (f : OpenFile) (end pipe : ℕ) → pipe_of (Some (upd objects name (file f) end)) ≡ Some pipe → pipe_of (Some (a.objects end)) ≡ Some pipe
+  file_at objects are name f =
+      upd-all (λ end (o : Object). (pipe : ℕ) → pipe_of (Some o) ≡ Some pipe → pipe_of (Some (a.objects end)) ≡ Some pipe) objects name (file f)
+      (λ pipe is. absurd (none-some pipe is)) (λ end ne. are end)
 
   if_kept : (c : Bool) (x y : AbstractState) → Kept x → Kept y → Kept (if c then x else y)
   if_kept true x y k l = k
@@ -129,7 +149,12 @@ module _ (a : AbstractState) (h : OpensNobodys a) where
     looked_kept request k = search (if_kept, same_kept)
 
     offset_kept : (x : AbstractState) (name offset : ℕ) (object : Object) → Kept x → Kept (with_offset_of x name offset object)
-    offset_kept x name offset (file f) k = record { slots_are = k.slots_are; shared_are = k.shared_are; names = k.names }
+    offset_kept x name offset (file f) k = record {
+      slots_are = k.slots_are;
+      shared_are = k.shared_are;
+      ends_are = file_at x.objects k.ends_are name (record f { offset = offset });
+      names = k.names;
+    }
     offset_kept x name offset _ k = k
 
     moved_kept : (x : AbstractState) (object : Option ℕ) (answer : ℕ) → Kept x → Kept (moved_on x object answer)
@@ -140,7 +165,12 @@ module _ (a : AbstractState) (h : OpensNobodys a) where
         Kept (file_opened (record a { files = files }) client answer place way mode)
     opened_kept files answer place None mode = same_kept _ refl
     opened_kept files answer None (Some way) mode = same_kept _ refl
-    opened_kept files answer (Some k) (Some way) mode = record { slots_are = refl; shared_are = refl; names = inr (refl, refl) }
+    opened_kept files answer (Some k) (Some way) mode = record {
+      slots_are = refl;
+      shared_are = refl;
+      ends_are = file_at a.objects (λ end pipe is. is) a.next_name (record { way = way; offset = 0; mode = mode });
+      names = inr (refl, refl);
+    }
 
     act_kept : (request : FileAct) (object place : Option ℕ) (did : Acted) → Kept (after_act a client request object place did)
     act_kept (open_path path mode) object place did = if_kept (did.answer == 0) _ _ (opened_kept did.files 0 place _ _) (same_kept _ refl)
@@ -209,7 +239,7 @@ module _ (a : AbstractState) (h : OpensNobodys a) where
           ]
 
       reply_opens : (o : Option ℕ) → OpensNobodys (behind o)
-      reply_opens o = record { pages = h.pages; held = all_old o; opened = λ name so. absurd (none-some name so) }
+      reply_opens o = record { pages = h.pages; held = all_old o; ends = h.ends; opened = λ name so. absurd (none-some name so) }
 
     phase_opens : (c : Born) → born_in (a.slots client) ≡ Some c → (p : Phase) → IfSome (reply_at a client c answer bytes object p) OpensNobodys
     phase_opens c at (in_service service awaiting) = reply_opens c at service (lowest_free c)

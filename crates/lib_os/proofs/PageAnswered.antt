@@ -17,6 +17,7 @@ use Rattle.lib_os.specs.Rows.{Names}
 use Rattle.lib_os.specs.StandsFor.{HasReply, StandsFor, borne_in}
 use Rattle.lib_os.proofs.Answering.{back_stands}
 use Rattle.lib_os.proofs.Loading.{loaded}
+use Rattle.lib_os.proofs.PipesStand.{is_calm}
 use Rattle.lib_os.proofs.RequestPages.{asks_with_page}
 use Rattle.lib_os.proofs.Serving.{holds_page, service_step}
 use Rattle.lib_os.proofs.StatesStand.{quiet_stands}
@@ -24,7 +25,8 @@ use Rattle.lib_os.proofs.Touching.{touched_quiet}
 
 module _ {names : Names} {s : KernelState} {a : AbstractState} (h : StandsFor names s a) (n : ℕ) (b : Born) (at : a.slots n ≡ born b)
     (outside : is_handlers (slot_at s n).registers.esp ≡ false) (unborne : borne_in (place_of (slot_at s n)) ≡ None)
-    (holds : holds_page (place_of (slot_at s n)) ≡ false) (call : Service) (with_page : asks_with_page call ≡ true)
+    (holds : holds_page (place_of (slot_at s n)) ≡ false) (calm : is_calm (place_of (slot_at s n)) ≡ true)
+    (call : Service) (with_page : asks_with_page call ≡ true)
     (has : HasReply (slot_at s n) b call) where
   abbrev reply : ℕ
   reply = (slot_at s n).rendezvous.value
@@ -55,4 +57,4 @@ module _ {names : Names} {s : KernelState} {a : AbstractState} (h : StandsFor na
       let flags : told.eflags ≡ (slot_at s n).registers.eflags = sym (ap (λ (x : Regs). x.eflags) has.registers) in
       let still : StandsFor names (loaded s n address) a = quiet_stands h (touched_quiet s.spaces (slot_at s n).directory address Read) order in
       subst (λ (t : KernelState). StandsFor names t (answered a n b has.regs reply)) (sym same)
-      (back_stands still n b at told unborne holds has.silent has.awake outside stack flags)
+      (back_stands still n b at told unborne holds calm has.silent has.awake outside stack flags)

@@ -33,7 +33,8 @@ use Rattle.lib_os.specs.LibrarySteps.{asking_step, request_perm, service_answere
 use Rattle.lib_os.specs.Places.{place_of, words_at, is_handlers}
 use Rattle.lib_os.specs.Rows.{MayBeHad, Names, is_shared, lasting, logical, rows_of}
 use Rattle.lib_os.specs.Services.{service_of}
-use Rattle.lib_os.specs.StandsFor.{AwaitsRequest, HasAsked, IsIn, IsServerStatus, StandsAt, StandsAtStep, StandsFor, StandsForBorn, StandsForServer}
+use Rattle.lib_os.specs.InService.{IsIn}
+use Rattle.lib_os.specs.StandsFor.{AwaitsRequest, HasAsked, IsServerStatus, StandsAt, StandsAtStep, StandsFor, StandsForBorn, StandsForServer}
 use Rattle.lib_os.specs.StandsFor.{TellsRequest}
 use Rattle.lib_os.specs.LibraryPages.{View}
 use Rattle.lib_os.specs.StandsFor.{borne_in, upcall_at, view_of}
@@ -48,8 +49,10 @@ use Rattle.lib_os.proofs.Logical.{clients_so, is_plain, logical_plain}
 use Rattle.lib_os.proofs.Numbered.{named_at, number_of}
 use Rattle.lib_os.proofs.NumbersKept.{KeepsCopies, sent_copies}
 use Rattle.lib_os.proofs.PassedOn.{given_with}
+use Rattle.lib_os.proofs.PipesStand.{calm_places, descriptors_turned, is_calm}
 use Rattle.lib_os.proofs.Placing.{inserted_given}
 use Rattle.lib_os.proofs.Remapping.{lasting_write}
+use Rattle.lib_os.proofs.RequestPages.{asked_calm, asking_calm, asking_unpiped, identifying_calm, pausing_calm}
 use Rattle.lib_os.proofs.RequestPages.{told_put, asking_told, pausing_told, request_brought, IsBeside, asked_held, asking_held, brings_page}
 use Rattle.lib_os.proofs.RequestPages.{brings_plain, brings_unborne, identifying_held, identifying_step, pausing_held, pausing_step}
 use Rattle.lib_os.specs.StandsInHandler.{MayPut, hands_back}
@@ -60,8 +63,8 @@ use Rattle.lib_os.proofs.ServerAsked.{word_got}
 use Rattle.lib_os.proofs.ServerStands.{IsPlacePage, OthersKept, OwnKept, first_slot, lent, placed_others, placed_own, server_moves}
 use Rattle.lib_os.proofs.Serving.{IsServed, holds_page, library_moved, plain_copy, plain_upcall, plain_working, printed_nothing, served}
 use Rattle.lib_os.proofs.Slots.{slot_kept}
-use Rattle.lib_os.proofs.SlotsStand.{born_at, born_live}
-use Rattle.lib_os.proofs.StatesStand.{born_not_first, slot_changed, slot_was_in_order, status_stands, stopped_settles}
+use Rattle.lib_os.proofs.SlotsStand.{born_at, born_live, is_piped}
+use Rattle.lib_os.proofs.StatesStand.{born_not_first, counts_beside, slot_changed, slot_was_in_order, status_stands, stopped_settles}
 use Rattle.lib_os.proofs.Trying.{IsAnswered, try_send_answered}
 use Rattle.lib_os.proofs.WordsTell.{handler_runs, is_in_handler, place_at}
 use Rattle.jos_base.proofs.Maps.{upd-at}
@@ -165,12 +168,13 @@ request_page {s = s} {n = n} id fd call with_page v =
 
 -- its own part, where it has asked
 asked_page_own : {names : Names} {s : SpacesState} {k : Slot} {b : Born} (call : Service) → brings_page call ≡ true → (id fd : ℕ) (stage : Stage) →
-    StandsForBorn names s k b → is_handlers k.registers.esp ≡ false → holds_page (place_of k) ≡ true → IsIn k b call stage → id ≡ k.id →
+    StandsForBorn names s k b → is_handlers k.registers.esp ≡ false → holds_page (place_of k) ≡ true → is_calm (place_of k) ≡ true →
+    IsIn k b call stage → id ≡ k.id →
     IsBeside (rows_of s k.directory) call fd → (hands_back call ≡ true → MayPut call) →
     service_of (record k.registers { eax = (number_of call) }) ≡ call →
     StandsForBorn names s (record k { extra = words_at (number_of call) (asked_step call id fd) })
     (record b { phase = in_service call asked })
-asked_page_own {s = s} {k = k} {b = b} call with_page id fd stage own outside holds is_in self beside put names_it =
+asked_page_own {names = names} {s = s} {k = k} {b = b} call with_page id fd stage own outside holds calm is_in self beside put names_it =
     let j : Slot = record k { extra = words_at (number_of call) (asked_step call id fd) } in
     let c : Born = record b { phase = in_service call asked } in
     let there : place_of j ≡ place.InService call (asked_step call id fd) =
@@ -184,7 +188,8 @@ asked_page_own {s = s} {k = k} {b = b} call with_page id fd stage own outside ho
       env_type = own.env_type;
       runs = own.runs;
       upcall = own.upcall ∙ plain_upcall (place_of k) plain ∙ sym (ap upcall_at there);
-      descriptors = own.descriptors;
+      descriptors = descriptors_turned names s k.directory (place_of k) (place_of j) b.descriptors calm (ap is_calm there ∙ asked_calm call id fd)
+          own.descriptors;
       memory = own.memory;
       library = library_moved (place_of k) (place_of j) k.extra j.extra (rows_of s k.directory)
           (plain_copy (place_of k) plain ∙ sym (plain_copy (place_of j) (ap is_in_handler there)))
@@ -202,7 +207,7 @@ asked_page_own {s = s} {k = k} {b = b} call with_page id fd stage own outside ho
 
 module _ {names : Names} {s : KernelState} {a : AbstractState} (h : StandsFor names s a) (n id fd : ℕ) (call : Service)
     (with_page : brings_page call ≡ true) (v : IsServed names s a n call (asking_step call id fd)) (sp : SpacesState) (comes : PageComes s sp n)
-    (in_order : IsInOrder (page_asked s sp n (word_asked call))) where
+    (in_order : IsInOrder (page_asked s sp n (word_asked call))) (last : s.last ≡ Some n) where
   abbrev told_word : ℕ
   told_word = word_asked call
 
@@ -290,8 +295,9 @@ module _ {names : Names} {s : KernelState} {a : AbstractState} (h : StandsFor na
   -- the request has come to the server
   pub page_request_stands : (request : Request) → StandsFor names (page_asked s sp n (word_asked call)) (with_request_of a n request)
   page_request_stands request =
-      server_moves h sp others own (server_told s n told_word) (with_request_of a n request).server refl
-      (stopped_settles (slot_at s 0) (server_told s n told_word) refl refl refl) told_stands (begun_status request) in_order
+      server_moves h sp others own (λ m ne. counts_beside h n last (ap is_piped v.place ∙ asking_unpiped call id fd) sp m)
+      (server_told s n told_word) (with_request_of a n request).server refl
+      (stopped_settles (slot_at s 0) (server_told s n told_word) refl refl refl refl) told_stands (begun_status request) in_order
     where
       -- it may run, whatever is asked
       begun_status : (x : Request) → IsServerStatus (request_begun n x) (server_told s n told_word)
@@ -320,7 +326,7 @@ module _ {names : Names} {s : KernelState} {a : AbstractState} (h : StandsFor na
       subst (λ (p : Place). StandsAt p (view_of sp k.directory) k v.b) place_is (born_at request n v.b v.is).at in
       let beside : IsBeside (rows_of sp k.directory) call fd = (told_asking (view_of sp k.directory) k v.b call with_page id fd standing).1 in
       let own_part = asked_page_own call with_page id fd stage.0 (born_at request n v.b v.is) outside
-      (ap holds_page place_is ∙ asking_held call with_page id fd)
+      (ap holds_page place_is ∙ asking_held call with_page id fd) (ap is_calm place_is ∙ asking_calm call id fd)
       (subst (λ (x : Slot). IsIn x v.b call stage.0) (sym kept) stage.1)
       (told.0 ∙ sym (ap (λ (x : Slot). x.id) kept)) beside
       (told_put (view_of s.spaces (slot_at s n).directory) (slot_at s n) v.b call told.2) names_it in
@@ -328,8 +334,9 @@ module _ {names : Names} {s : KernelState} {a : AbstractState} (h : StandsFor na
       let there : place_of j ≡ place.InService call (asked_step call id fd) =
       place_at k.registers (number_of call) (asked_step call id fd) outside ∙ ap (λ (x : Service). place.InService x (asked_step call id fd)) names_it in
       slot_changed request n v.b v.is j (record v.b { phase = in_service call asked }) refl
-      (record { id = refl; env_type = refl; calm = λ runs. runs }) (ap is_plain place_is ∙ brings_plain call with_page (asking_step call id fd))
+      (record { id = refl; env_type = refl; turns = refl; calm = λ runs. runs }) (ap is_plain place_is ∙ brings_plain call with_page (asking_step call id fd))
       (ap is_plain there ∙ brings_plain call with_page (asked_step call id fd)) own_part
+      (calm_places (ap is_calm place_is ∙ asking_calm call id fd) (ap is_calm there ∙ asked_calm call id fd)) (λ which. refl)
 
 -- ---- by its answer
 
@@ -351,7 +358,8 @@ module _ (s : KernelState) (n id fd : ℕ) (call : Service) (with_page : brings_
   asking : {names : Names} {a : AbstractState} → (h : StandsFor names s a) → IsAsking a n (served h n call (asking_step call id fd) stands).b call
   asking h =
       let v = served h n call (asking_step call id fd) stands in
-      request_told h n v.b v.is (ap borne_in v.place ∙ brings_unborne call with_page (asking_step call id fd)) call fd
+      request_told h n v.b v.is (ap borne_in v.place ∙ brings_unborne call with_page (asking_step call id fd))
+      (ap is_calm v.place ∙ asking_calm call id fd) call fd
       (told_asking (view_of s.spaces (slot_at s n).directory) (slot_at s n) v.b call with_page id fd v.at).1 (tells h)
 
   outcome : {names : Names} {a : AbstractState} → StandsFor names s a → PageAsksOrWaits s a n code
@@ -370,7 +378,7 @@ module _ (s : KernelState) (n id fd : ℕ) (call : Service) (with_page : brings_
   -- the word and the page have come
   pub page_asked_keeps : IsInOrder mid → (page_ask_call s n code).gives ≡ got (Answered 0) →
       KeepsStanding progress.Visible n s (with_extra mid n (words_at (number_of call) (asked_step call id fd))) []
-  page_asked_keeps order gives a h quiet = by_outcome (outcome h.1)
+  page_asked_keeps order gives a h turn quiet = by_outcome (outcome h.1)
     where
       by_outcome : PageAsksOrWaits s a n code → AbstractFollows progress.Visible n (with_extra mid n (words_at (number_of call) (asked_step call id fd))) a []
       by_outcome (waits not_idle call_is) =
@@ -388,14 +396,14 @@ module _ (s : KernelState) (n id fd : ℕ) (call : Service) (with_page : brings_
             (
               h.0,
               subst (λ (t : KernelState). StandsFor h.0 (with_extra t n (words_at (number_of call) (asked_step call id fd))) end) (sym it)
-                  (page_asking_stands h.1 n id fd call with_page v sp comes (subst (λ (t : KernelState). IsInOrder t) it order) does.request),
+                  (page_asking_stands h.1 n id fd call with_page v sp comes (subst (λ (t : KernelState). IsInOrder t) it order) turn.last does.request),
             ),
           )
 
   -- the server does not wait
   pub page_waiting_keeps : (page_ask_call s n code).gives ≡ got (Answered (negated E_IPC_NOT_RECV)) →
       KeepsStanding progress.Waited n s (with_extra mid n (words_at (number_of call) (pausing_step call id fd))) []
-  page_waiting_keeps gives a h quiet = by_outcome (outcome h.1)
+  page_waiting_keeps gives a h turn quiet = by_outcome (outcome h.1)
     where
       by_outcome : PageAsksOrWaits s a n code → AbstractFollows progress.Waited n (with_extra mid n (words_at (number_of call) (pausing_step call id fd))) a []
       by_outcome (asks is so sp comes call_is) =
@@ -413,10 +421,12 @@ module _ (s : KernelState) (n id fd : ℕ) (call : Service) (with_page : brings_
                 h.0,
                 subst (λ (t : KernelState). StandsFor h.0 (with_extra t n words) a) (sym (came_to s (negated E_IPC_NOT_RECV) call_is))
                     (words_stand h.1 n (number_of call) v.b v.is v.own v.outside
-                    (ap borne_in v.place ∙ brings_unborne call with_page (asking_step call id fd)) call (pausing_step call id fd)
+                    (ap borne_in v.place ∙ brings_unborne call with_page (asking_step call id fd)) (ap is_calm v.place ∙ asking_calm call id fd) call
+                    (pausing_step call id fd)
                     (ap holds_page v.place ∙ asking_held call with_page id fd
                     ∙ sym (pausing_held call with_page id fd))
-                    (brings_unborne call with_page (pausing_step call id fd)) (named_at (slot_at s n) call (asking_step call id fd) stands)
+                    (brings_unborne call with_page (pausing_step call id fd)) (pausing_calm call id fd)
+                    (named_at (slot_at s n) call (asking_step call id fd) stands)
                     (pausing_told (view_of s.spaces (slot_at s n).directory) (record (slot_at s n) { extra = words }) v.b call with_page id fd
                     (told.0, told.1, told_moved (view_of s.spaces (slot_at s n).directory) (slot_at s n) v.b (slot_at s n).status words call told.2))),
               ),
@@ -427,7 +437,7 @@ module _ (s : KernelState) (n id fd : ℕ) (call : Service) (with_page : brings_
   -- there was no frame for a table, of which nothing is said
   pub page_lacking_keeps : (word : ℕ) → (page_ask_call s n code).gives ≡ got (Answered word) → word ≢ 0 → word ≢ negated E_IPC_NOT_RECV →
       KeepsStanding progress.Finished n s (service_answered mid n word) []
-  page_lacking_keeps word gives some other a h quiet = by_outcome (outcome h.1)
+  page_lacking_keeps word gives some other a h turn quiet = by_outcome (outcome h.1)
     where
       by_outcome : PageAsksOrWaits s a n code → AbstractFollows progress.Finished n (service_answered mid n word) a []
       by_outcome (asks is so sp comes call_is) = absurd (some (gave (page_asked s sp n code) 0 word call_is gives))
@@ -476,7 +486,7 @@ page_asking_answered s n word live = try_send_answered s n FIRST_ENV_ID word UTE
 pub identified_keeps : (s : KernelState) (n fd : ℕ) (call : Service) → brings_page call ≡ true →
     place_of (slot_at s n) ≡ place.InService call (identifying_step call fd) →
     KeepsStanding progress.Hidden n s (with_extra s n (words_at (number_of call) (asking_step call (slot_at s n).id fd))) []
-identified_keeps s n fd call with_page stands a h quiet =
+identified_keeps s n fd call with_page stands a h turn quiet =
     let v = served h.1 n call (identifying_step call fd) stands in
     let seen : View = view_of s.spaces (slot_at s n).directory in
     let told = told_identifying seen (slot_at s n) v.b call with_page fd v.at in
@@ -484,11 +494,12 @@ identified_keeps s n fd call with_page stands a h quiet =
       refl,
       (
         h.0,
-        words_stand h.1 n (number_of call) v.b v.is v.own v.outside (ap borne_in v.place ∙ brings_unborne call with_page (identifying_step call fd)) call
-            (asking_step call (slot_at s n).id fd)
+        words_stand h.1 n (number_of call) v.b v.is v.own v.outside (ap borne_in v.place ∙ brings_unborne call with_page (identifying_step call fd))
+            (ap is_calm v.place ∙ identifying_calm call fd) call (asking_step call (slot_at s n).id fd)
             (ap holds_page v.place ∙ identifying_held call with_page fd
             ∙ sym (asking_held call with_page (slot_at s n).id fd))
-            (brings_unborne call with_page (asking_step call (slot_at s n).id fd)) (named_at (slot_at s n) call (identifying_step call fd) stands)
+            (brings_unborne call with_page (asking_step call (slot_at s n).id fd)) (asking_calm call (slot_at s n).id fd)
+            (named_at (slot_at s n) call (identifying_step call fd) stands)
             (asking_told seen (record (slot_at s n) { extra = w }) v.b call with_page (slot_at s n).id fd
             (refl, told.0, told_moved seen (slot_at s n) v.b (slot_at s n).status w call told.1)),
       ),
@@ -497,7 +508,7 @@ identified_keeps s n fd call with_page stands a h quiet =
 pub page_pausing_keeps : (s : KernelState) (n id fd : ℕ) (call : Service) → brings_page call ≡ true →
     place_of (slot_at s n) ≡ place.InService call (pausing_step call id fd) →
     KeepsStanding progress.Hidden n s (with_extra (with_status s n Runnable) n (words_at (number_of call) (asking_step call id fd))) []
-page_pausing_keeps s n id fd call with_page stands a h quiet =
+page_pausing_keeps s n id fd call with_page stands a h turn quiet =
     let v = served h.1 n call (pausing_step call id fd) stands in
     let seen : View = view_of s.spaces (slot_at s n).directory in
     let told = told_pausing seen (slot_at s n) v.b call with_page id fd v.at in
@@ -511,11 +522,11 @@ page_pausing_keeps s n id fd call with_page stands a h quiet =
         h.0,
         words_stand ran n (number_of call) v.b v.is (born_at ran n v.b v.is)
             (ap (λ (x : Slot). is_handlers x.registers.esp) slot_is ∙ v.outside)
-            (ap (λ (x : Slot). borne_in (place_of x)) slot_is ∙ ap borne_in v.place ∙ brings_unborne call with_page (pausing_step call id fd)) call
-            (asking_step call id fd)
+            (ap (λ (x : Slot). borne_in (place_of x)) slot_is ∙ ap borne_in v.place ∙ brings_unborne call with_page (pausing_step call id fd))
+            (ap (λ (x : Slot). is_calm (place_of x)) slot_is ∙ ap is_calm v.place ∙ pausing_calm call id fd) call (asking_step call id fd)
             (ap (λ (x : Slot). holds_page (place_of x)) slot_is ∙ ap holds_page v.place ∙ pausing_held call with_page id fd
             ∙ sym (asking_held call with_page id fd))
-            (brings_unborne call with_page (asking_step call id fd))
+            (brings_unborne call with_page (asking_step call id fd)) (asking_calm call id fd)
             (subst (λ (x : Slot). service_of (record x.registers { eax = number_of call }) ≡ call) (sym slot_is)
             (named_at (slot_at s n) call (pausing_step call id fd) stands))
             (subst (λ (x : Slot). StandsAtStep (view_of s.spaces x.directory) (record x { extra = w }) v.b call (asking_step call id fd)) (sym slot_is)

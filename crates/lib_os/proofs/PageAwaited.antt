@@ -29,7 +29,8 @@ use Rattle.lib_os.proofs.Logical.{is_plain, unborne_plain}
 use Rattle.lib_os.proofs.Numbered.{number_of}
 use Rattle.lib_os.specs.StandsInHandler.{MayPut, hands_back}
 use Rattle.lib_os.proofs.AskedPlaces.{awaiting_step}
-use Rattle.lib_os.proofs.RequestPages.{awaiting_held, asks_with_page, request_plain, there_awaited}
+use Rattle.lib_os.proofs.PipesStand.{calm_places, calm_unmade, descriptors_turned, is_calm}
+use Rattle.lib_os.proofs.RequestPages.{awaiting_calm, awaiting_held, asks_with_page, request_plain, there_awaited}
 use Rattle.lib_os.proofs.Serving.{service_step, holds_page, plain_upcall, plain_copy, plain_working, library_moved}
 use Rattle.lib_os.proofs.Slots.{words_put}
 use Rattle.lib_os.proofs.SlotsStand.{born_at, born_live}
@@ -57,10 +58,10 @@ abbrev pub page_waiting : Service → Born → Born
 page_waiting call b = record b { phase = in_service call awaiting; blocked = true }
 
 page_awaiting_own : {names : Names} {s : SpacesState} {k : Slot} {b : Born} (call : Service) → asks_with_page call ≡ true → (id : ℕ) → StandsForBorn names s k b →
-    is_handlers k.registers.esp ≡ false → holds_page (place_of k) ≡ true → id ≡ k.id → HasAsked k b call →
+    is_handlers k.registers.esp ≡ false → holds_page (place_of k) ≡ true → is_calm (place_of k) ≡ true → id ≡ k.id → HasAsked k b call →
     (hands_back call ≡ true → MayPut call) → service_of (record k.registers { eax = number_of call }) ≡ call →
     StandsForBorn names s (page_awaiting_slot call k id) (page_waiting call b)
-page_awaiting_own {s = s} {k = k} {b = b} call with_page id own outside holds self has put names_it =
+page_awaiting_own {names = names} {s = s} {k = k} {b = b} call with_page id own outside holds calm self has put names_it =
     let j : Slot = page_awaiting_slot call k id in
     let at : place_of j ≡ place.InService call (awaiting_step call id 0) = page_awaiting_place k call id outside names_it in
     let plain : is_in_handler (place_of k) ≡ false = handler_runs k.registers k.extra ∙ outside in
@@ -79,7 +80,8 @@ page_awaiting_own {s = s} {k = k} {b = b} call with_page id own outside holds se
       env_type = own.env_type;
       runs = tt;
       upcall = own.upcall ∙ plain_upcall (place_of k) plain ∙ sym (ap upcall_at at);
-      descriptors = own.descriptors;
+      descriptors = descriptors_turned names s k.directory (place_of k) (place_of j) b.descriptors calm (ap is_calm at ∙ awaiting_calm call id 0)
+          own.descriptors;
       memory = own.memory;
       library = library_moved (place_of k) (place_of j) k.extra j.extra (rows_of s k.directory) (plain_copy (place_of k) plain ∙ sym (ap has_copy at))
           (plain_working (place_of k) k.extra plain ∙ holds
@@ -107,7 +109,8 @@ page_awaiting_call s n rest live =
 
 module _ {names : Names} {s : KernelState} {a : AbstractState} (h : StandsFor names s a) (n : ℕ) (b : Born) (at : a.slots n ≡ born b)
     (outside : is_handlers (slot_at s n).registers.esp ≡ false) (unborne : borne_in (place_of (slot_at s n)) ≡ None)
-    (holds : holds_page (place_of (slot_at s n)) ≡ true) (call : Service) (with_page : asks_with_page call ≡ true) where
+    (holds : holds_page (place_of (slot_at s n)) ≡ true) (calm : is_calm (place_of (slot_at s n)) ≡ true)
+    (call : Service) (with_page : asks_with_page call ≡ true) where
   -- its step
   pub page_awaiting_step : HasAsked (slot_at s n) b call → abs_step a n ≡ Some (await_reply a n b call)
   unfolding library_step
@@ -137,7 +140,9 @@ module _ {names : Names} {s : KernelState} {a : AbstractState} (h : StandsFor na
       ∙ words_put s n k words in
       subst (λ (x : KernelState). StandsFor names x (await_reply a n b call)) (sym after)
       (slot_changed h n b at (page_awaiting_slot call (slot_at s n) id) (page_waiting call b) refl
-      (stopped_settles (slot_at s n) (page_awaiting_slot call (slot_at s n) id) refl refl refl)
-      (unborne_plain (place_of (slot_at s n)) (handler_runs (slot_at s n).registers (slot_at s n).extra ∙ outside) unborne)
+      (stopped_settles (slot_at s n) (page_awaiting_slot call (slot_at s n) id) refl refl refl refl)
+      (unborne_plain (place_of (slot_at s n)) (handler_runs (slot_at s n).registers (slot_at s n).extra ∙ outside) unborne
+      (calm_unmade (place_of (slot_at s n)) calm))
       (ap is_plain (page_awaiting_place (slot_at s n) call id outside names_it) ∙ request_plain call with_page (awaiting_step call id 0))
-      (page_awaiting_own call with_page id (born_at h n b at) outside holds self has put names_it))
+      (page_awaiting_own call with_page id (born_at h n b at) outside holds calm self has put names_it)
+      (calm_places calm (ap is_calm (page_awaiting_place (slot_at s n) call id outside names_it) ∙ awaiting_calm call id 0)) (λ fd. refl))

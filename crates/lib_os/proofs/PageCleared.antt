@@ -1,5 +1,5 @@
 -- One that asked the file server with a page gives that back, once the reply has come: nobody sees it, and the word is read behind it.
-use Rattle.std.proofs.Common.{◌≡◌, ◌∙◌, ◌||◌, ℕ, true, false, [], List, refl, sym, ap}
+use Rattle.std.proofs.Common.{◌≡◌, ◌∙◌, ◌||◌, ℕ, true, false, Some, [], List, refl, sym, ap}
 use Rattle.jos_base.specs.Environments.{Slot, is_runnable, is_running}
 use Rattle.jos_base.specs.KernelState.{KernelState, slot_at, with_extra, with_spaces}
 use Rattle.jos_base.specs.SpacesState.{SpacesState}
@@ -18,6 +18,7 @@ use Rattle.lib_os.proofs.Effects.{Removed}
 use Rattle.lib_os.proofs.Numbered.{named_at, number_of}
 use Rattle.lib_os.proofs.PageGiven.{give_removes, given_puts, given_row, given_tables, without_working}
 use Rattle.lib_os.proofs.PageTaken.{working_page, working_stands}
+use Rattle.lib_os.proofs.PipesStand.{is_calm}
 use Rattle.lib_os.proofs.ReplyRead.{awake_reply}
 use Rattle.lib_os.proofs.RequestPages.{asks_with_page, awaited_there, request_unborne, request_unheld, there_replied}
 use Rattle.lib_os.proofs.Serving.{IsServed, plain_working, served}
@@ -26,7 +27,8 @@ use Rattle.lib_os.proofs.WordsTell.{place_at}
 module _ {names : Names} {s : KernelState} {a : AbstractState} {sp : SpacesState} (h : StandsFor names s a) (n id : ℕ) (call : Service)
     (with_page : asks_with_page call ≡ true) (stands : place_of (slot_at s n) ≡ place.InService call (step.Clearing id))
     (runs : (is_runnable (slot_at s n).status || is_running (slot_at s n).status) ≡ true)
-    (removed : Removed s.spaces sp (slot_at s n).directory working_page) (in_order : IsInOrder (with_spaces s sp)) where
+    (removed : Removed s.spaces sp (slot_at s n).directory working_page) (in_order : IsInOrder (with_spaces s sp))
+    (last : s.last ≡ Some n) where
   abbrev d : ℕ
   d = (slot_at s n).directory
 
@@ -68,8 +70,8 @@ module _ {names : Names} {s : KernelState} {a : AbstractState} {sp : SpacesState
   pub page_cleared_stands : StandsFor names (with_extra (with_spaces s sp) n words) a
   page_cleared_stands =
       working_stands h n v.b v.is v.own v.outside (ap borne_in v.place ∙ request_unborne call with_page (step.Clearing id))
-      (given_puts h n v.b v.is removed) (slot_at s n).registers words (place.InService call (step.ReadingReply id)) there refl
-      (request_unborne call with_page (step.ReadingReply id)) refl refl
+      (ap is_calm v.place) (given_puts h n v.b v.is removed) last (slot_at s n).registers words (place.InService call (step.ReadingReply id)) there refl
+      (request_unborne call with_page (step.ReadingReply id)) refl refl refl
       (λ is. absurd (let contradiction : false ≡ true = sym gone ∙ is in cc)) (λ is. refl) (given_tables h n v.b v.is removed)
       (there_replied (view_of sp (slot_at s n).directory) moved v.b call with_page id (waited.0, still_has)) (given_row h n v.b v.is removed) in_order
 
@@ -78,5 +80,5 @@ pub clearing_keeps : (s : KernelState) (n id : ℕ) (call : Service) → asks_wi
     place_of (slot_at s n) ≡ place.InService call (step.Clearing id) →
     (is_runnable (slot_at s n).status || is_running (slot_at s n).status) ≡ true → IsInOrder (with_spaces s (without_working s n)) →
     KeepsStanding progress.Hidden n s (with_extra (with_spaces s (without_working s n)) n (words_at (number_of call) (step.ReadingReply id))) []
-clearing_keeps s n id call with_page stands runs in_order a h quiet =
-    (refl, (h.0, page_cleared_stands h.1 n id call with_page stands runs (give_removes s n h.1) in_order))
+clearing_keeps s n id call with_page stands runs in_order a h turn quiet =
+    (refl, (h.0, page_cleared_stands h.1 n id call with_page stands runs (give_removes s n h.1) in_order turn.last))

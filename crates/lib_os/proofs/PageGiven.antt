@@ -1,6 +1,6 @@
 -- write gives back the page at UTEMP, in which it kept the bytes of its buffer, and goes back to its program with the answer. In the abstract
 -- system its program goes on already, so that the kernel's state goes on standing for the same abstract one, and fewer hidden steps are left.
-use Rattle.std.proofs.Common.{◌≡◌, ◌∙◌, ◌<◌, ◌≤◌, ◌*◌, ◌+◌, ℕ, true, false, [], ◌∷◌, Ok, refl, sym, ap, subst, arith}
+use Rattle.std.proofs.Common.{◌≡◌, ◌∙◌, ◌<◌, ◌≤◌, ◌*◌, ◌+◌, inl, ℕ, true, false, Some, [], ◌∷◌, Ok, refl, sym, ap, subst, arith}
 use Rattle.std.specs.Prelude.{None}
 use Rattle.std.proofs.lemmas.Option.{none-some}
 use Rattle.jos_base.specs.declared.called.Called.{Called}
@@ -30,6 +30,7 @@ use Rattle.lib_os.proofs.EntriesStand.{PutsRow, named_bytes}
 use Rattle.lib_os.proofs.FreeFrames.{unmapped_more}
 use Rattle.lib_os.proofs.PagesStand.{Puts, bytes_elsewhere}
 use Rattle.lib_os.proofs.PageTaken.{working_page, working_stands}
+use Rattle.lib_os.proofs.PipesStand.{is_calm}
 use Rattle.lib_os.proofs.Removing.{unmapped_removed}
 use Rattle.lib_os.proofs.Serving.{IsServed, served, words_of_none}
 use Rattle.lib_os.proofs.Slots.{slot_put}
@@ -108,7 +109,8 @@ module _ {names : Names} {s : KernelState} {a : AbstractState} {sp : SpacesState
 
 module _ {names : Names} {s : KernelState} {a : AbstractState} {sp : SpacesState} (h : StandsFor names s a) (n fd va len : ℕ)
     (stands : place_of (slot_at s n) ≡ place.InService (service.Write fd va len) step.Releasing)
-    (removed : Removed s.spaces sp (slot_at s n).directory working_page) (in_order : IsInOrder (with_spaces s sp)) where
+    (removed : Removed s.spaces sp (slot_at s n).directory working_page) (in_order : IsInOrder (with_spaces s sp))
+    (last : s.last ≡ Some n) where
   -- the registers of the program, with the answer
   abbrev regs : Regs
   regs = record (slot_at s n).registers { eax = wanted_of len }
@@ -133,8 +135,8 @@ module _ {names : Names} {s : KernelState} {a : AbstractState} {sp : SpacesState
 
   pub page_given_stands : StandsFor names (service_answered (with_spaces s sp) n (wanted_of len)) a
   page_given_stands =
-      working_stands h n v.b v.is v.own v.outside (ap borne_in v.place) (given_puts h n v.b v.is removed) regs no_extra place.Guest
-      (words_of_none regs no_extra v.outside refl) refl refl refl refl (λ is. absurd (let contradiction : false ≡ true = is in cc)) (λ is. refl)
+      working_stands h n v.b v.is v.own v.outside (ap borne_in v.place) (ap is_calm v.place) (given_puts h n v.b v.is removed) last regs no_extra place.Guest
+      (words_of_none regs no_extra v.outside refl) refl refl refl refl refl (λ is. absurd (let contradiction : false ≡ true = is in cc)) (λ is. refl)
       (given_tables h n v.b v.is removed) given_at (given_row h n v.b v.is removed) in_order
 
 -- ---- what the step comes to
@@ -144,7 +146,7 @@ module _ (s : KernelState) (n fd va len : ℕ) (stands : place_of (slot_at s n) 
   after = service_answered (with_spaces s (without_working s n)) n (wanted_of len)
 
   pub releasing_keeps : IsInOrder (with_spaces s (without_working s n)) → KeepsStanding progress.Hidden n s after []
-  releasing_keeps in_order a h quiet = (refl, (h.0, page_given_stands h.1 n fd va len stands (give_removes s n h.1) in_order))
+  releasing_keeps in_order a h turn quiet = (refl, (h.0, page_given_stands h.1 n fd va len stands (give_removes s n h.1) in_order turn.last))
 
   abbrev answered_slot : Slot
   answered_slot = record (slot_at s n) { registers = record (slot_at s n).registers { eax = wanted_of len }; extra = no_extra }
@@ -172,4 +174,4 @@ module _ (s : KernelState) (n fd va len : ℕ) (stands : place_of (slot_at s n) 
       less = let fewer = given_copies s n in omega (arith, fewer)
 
   pub releasing_lowers : Lowers (Ok progress.Hidden) n s after
-  releasing_lowers a h quiet = released_lower
+  releasing_lowers a h turn quiet = inl released_lower

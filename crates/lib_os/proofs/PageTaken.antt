@@ -32,10 +32,12 @@ use Rattle.lib_os.specs.Fence.{in_fence, is_resident}
 use Rattle.lib_os.specs.InOrder.{IsInOrder}
 use Rattle.lib_os.specs.LibraryPages.{IsOwnWritable, LibraryPages, has_working, is_library_region, region_index, HasTaken}
 use Rattle.lib_os.specs.LibrarySteps.{KeepsStanding, TakesAtMost, copies_left, is_to_copy, service_answered, steps_left}
+use Rattle.lib_os.specs.PipeEnds.{EndsStand, LocksStand, is_made, locked_at}
 use Rattle.lib_os.specs.Places.{is_handlers, place_of, words_at}
-use Rattle.lib_os.specs.Rows.{IsPage, IsUsers, Names, Rows, descriptor_page, descriptor_seen, is_descriptor, is_programs, is_shared, logical}
+use Rattle.lib_os.specs.Rows.{IsPage, IsUsers, Names, Rows, descriptor_page, descriptor_seen, is_of_descriptor, is_programs, is_shared, logical, pipe_page}
 use Rattle.lib_os.specs.Rows.{is_clients, is_cow, lasting, page_by, page_seen, rows_of, seen_where, shown_at}
-use Rattle.lib_os.specs.StandsFor.{HasTakenFrom, IsIn, IsStatusFor, IsTaking, StandsAt, StandsFor, StandsForBorn, borne_in, things_in, view_of}
+use Rattle.lib_os.specs.InService.{IsIn}
+use Rattle.lib_os.specs.StandsFor.{HasTakenFrom, IsStatusFor, IsTaking, StandsAt, StandsFor, StandsForBorn, borne_in, seen_unless, things_in, view_of}
 use Rattle.lib_os.specs.StandsInHandler.{IsGiven, on_console, wanted_of}
 use Rattle.lib_os.specs.UserCalls.{CallStep, giving, system}
 use Rattle.lib_os.proofs.CallersStay.{alloc_answers}
@@ -50,13 +52,14 @@ use Rattle.lib_os.proofs.Logical.{is_plain, logical_plain, unborne_plain}
 use Rattle.lib_os.proofs.Numbered.{named_at}
 use Rattle.lib_os.proofs.PagesStand.{Puts, bytes_elsewhere, elsewhere, other_regions, others_seen, row_elsewhere}
 use Rattle.lib_os.proofs.PageBytes.{zero_page_whole}
+use Rattle.lib_os.proofs.PipesStand.{PlacesAlike, calm_places, calm_unmade, descriptors_turned, ends_moved, is_calm, locks_beside}
 use Rattle.lib_os.proofs.Placing.{allocated_made}
 use Rattle.lib_os.proofs.Serving.{IsServed, plain_copy, plain_upcall, served}
 use Rattle.lib_os.proofs.SlotsStand.{HasTables, SeenAlike, born_at, descriptors_off}
-use Rattle.lib_os.proofs.StatesStand.{clients_live, others_count, own_moves, slot_in_order}
+use Rattle.lib_os.proofs.StatesStand.{clients_live, ends_at, others_count, others_counts, own_moves, slot_in_order}
 use Rattle.lib_os.proofs.Trying.{LivesOn}
 use Rattle.lib_os.proofs.WordsTell.{handler_runs, is_in_handler, place_at}
-use Rattle.jos_base.proofs.Maps.{upd-at}
+use Rattle.jos_base.proofs.Maps.{upd-alike, upd-at}
 use Rattle.jos_base.proofs.Puts.{Elsewhere, put-at, put-other}
 
 -- ---- the page at UTEMP
@@ -70,7 +73,7 @@ unfolding in_fence
 working_outside = refl
 
 -- nor is it that of a descriptor
-pub working_no_descriptor : is_descriptor working_page ≡ false
+pub working_no_descriptor : is_of_descriptor working_page ≡ false
 working_no_descriptor = refl
 
 -- so that nothing is seen of it
@@ -84,8 +87,8 @@ stack_beside same = absurd (omega (arith, same))
 copy_beside : page_number PFTEMP ≢ working_page
 copy_beside same = absurd (omega (arith, same))
 
-descriptor_beside : (p : ℕ) → is_descriptor p ≡ true → p ≢ working_page
-descriptor_beside p is same = let contradiction : true ≡ false = sym is ∙ ap is_descriptor same ∙ working_no_descriptor in cc
+descriptor_beside : (p : ℕ) → is_of_descriptor p ≡ true → p ≢ working_page
+descriptor_beside p is same = let contradiction : true ≡ false = sym is ∙ ap is_of_descriptor same ∙ working_no_descriptor in cc
 
 -- its region is one of the library's
 working_region : (r : ℕ) → (r == working_page / NPTENTRIES) ≡ true → is_library_region r ≡ true
@@ -146,12 +149,12 @@ module _ {names : Names} {s t : SpacesState} {d : ℕ} {v : Option Entry} (puts 
   own_part : (k : Slot) (b : Born) (program : ProgramState) (phase : Phase) (blocked : Bool) (regs : Regs) (words : List ℕ) (after : Place) →
       IsStatusFor k.status blocked → k.directory ≡ d → StandsForBorn names s k b →
       place_of (record k { registers = regs; extra = words }) ≡ after → is_in_handler (place_of k) ≡ false → is_in_handler after ≡ false →
-      regs.esp ≡ k.registers.esp → regs.eflags ≡ k.registers.eflags →
+      is_calm (place_of k) ≡ true → is_calm after ≡ true → regs.esp ≡ k.registers.esp → regs.eflags ≡ k.registers.eflags →
       (has_working after words ≡ true → IsOwnWritable (rows_of t d) working_page) → (has_working after words ≡ false → v ≡ None) →
       HasTables t d b.regions →
       StandsAt after (view_of t d) (record k { registers = regs; extra = words }) (record b { program = program; phase = phase; blocked = blocked }) →
       StandsForBorn names t (record k { registers = regs; extra = words }) (record b { program = program; phase = phase; blocked = blocked })
-  own_part k b program phase blocked regs words after runs home h there outside outside_after esp eflags working no_working tables at =
+  own_part k b program phase blocked regs words after runs home h there outside outside_after calm calm_after esp eflags working no_working tables at =
       let moved : Slot = record k { registers = regs; extra = words } in
       let later : Born = record b { program = program; phase = phase; blocked = blocked } in
       record {
@@ -161,8 +164,10 @@ module _ {names : Names} {s t : SpacesState} {d : ℕ} {v : Option Entry} (puts 
         env_type = h.env_type;
         runs = runs;
         upcall = h.upcall ∙ plain_upcall (place_of k) outside ∙ sym (plain_upcall (place_of moved) (ap is_in_handler there ∙ outside_after));
-        descriptors = λ fd. h.descriptors fd
-            ∙ subst (λ (e : ℕ). descriptor_seen names s e fd ≡ descriptor_seen names t e fd) (sym home) (sym (descriptors_kept fd));
+        descriptors = λ fd still.
+            descriptors_turned names s k.directory (place_of k) (place_of moved) b.descriptors calm (ap is_calm there ∙ calm_after) h.descriptors fd still
+            ∙ ap (seen_unless (is_made (place_of moved) fd))
+            (subst (λ (e : ℕ). descriptor_seen names s e fd ≡ descriptor_seen names t e fd) (sym home) (sym (descriptors_kept fd)));
         memory = λ p. h.memory p ∙ subst (λ (e : ℕ). page_seen names s e p ≡ page_seen names t e p) (sym home) (sym (memory_kept p));
         library = subst (λ (p : Place). LibraryPages p words (rows_of t k.directory)) (sym there)
             (subst (λ (e : ℕ). LibraryPages after words (rows_of t e)) (sym home)
@@ -181,7 +186,8 @@ module _ {names : Names} {s t : SpacesState} {d : ℕ} {v : Option Entry} (puts 
 
 module _ {names : Names} {s : KernelState} {a : AbstractState} {sp : SpacesState} {v : Option Entry} (h : StandsFor names s a) (n : ℕ) (b : Born)
     (is : a.slots n ≡ born b) (own : StandsForBorn names s.spaces (slot_at s n) b) (outside : is_handlers (slot_at s n).registers.esp ≡ false)
-    (unborne : borne_in (place_of (slot_at s n)) ≡ None) (puts : Puts names names s.spaces sp (slot_at s n).directory working_page v) where
+    (unborne : borne_in (place_of (slot_at s n)) ≡ None) (calm : is_calm (place_of (slot_at s n)) ≡ true)
+    (puts : Puts names names s.spaces sp (slot_at s n).directory working_page v) (last : s.last ≡ Some n) where
   abbrev dir : ℕ
   dir = (slot_at s n).directory
 
@@ -195,16 +201,16 @@ module _ {names : Names} {s : KernelState} {a : AbstractState} {sp : SpacesState
   unhandled = handler_runs (slot_at s n).registers (slot_at s n).extra ∙ outside
 
   plain : is_plain (place_of (slot_at s n)) ≡ true
-  plain = unborne_plain (place_of (slot_at s n)) unhandled unborne
+  plain = unborne_plain (place_of (slot_at s n)) unhandled unborne (calm_unmade (place_of (slot_at s n)) calm)
 
   module _ (regs : Regs) (words : List ℕ) (after : Place)
       (there : place_of (record (slot_at s n) { registers = regs; extra = words }) ≡ after) (outside_after : is_in_handler after ≡ false)
-      (unborne_after : borne_in after ≡ None) where
+      (unborne_after : borne_in after ≡ None) (calm_after : is_calm after ≡ true) where
     abbrev moved : Slot
     moved = record (slot_at s n) { registers = regs; extra = words }
 
     plain_after : is_plain (place_of moved) ≡ true
-    plain_after = ap is_plain there ∙ unborne_plain after outside_after unborne_after
+    plain_after = ap is_plain there ∙ unborne_plain after outside_after unborne_after (calm_unmade after calm_after)
 
     -- all entries count as they did, and this one with them
     counts : (m p : ℕ) → logical sp (upd s.environments.slots n moved) m p ≡ put (logical s.spaces s.environments.slots) n working_page v m p
@@ -232,6 +238,21 @@ module _ {names : Names} {s : KernelState} {a : AbstractState} {sp : SpacesState
                 (here q ∙ working_beside puts q (ne same) ∙ sym (logical_plain s.spaces s.environments.slots n counts_all plain q))
             by_slot false test = others_count h n b is moved others m (grind (arith, nat_tests)) q
 
+    places : PlacesAlike (place_of (slot_at s n)) (place_of moved)
+    places = calm_places calm (ap is_calm there ∙ calm_after)
+
+    -- the pages of pipes stand as they stood, and locks are held by whom they were
+    ends : (c : Born) → ((fd : ℕ) → c.descriptors fd ≡ b.descriptors fd) → EndsStand names a.objects (place_of moved) (rows_of sp dir) c
+    ends c descriptors =
+        ends_moved places descriptors (λ fd name it. refl)
+        (λ fd below. working_beside puts (pipe_page fd) (descriptor_beside (pipe_page fd) (grind (arith, nat_tests)))) (λ fd x below it. refl)
+        (ends_at h n b is)
+
+    locks : LocksStand sp.pages (upd s.environments.slots n moved) (logical sp (upd s.environments.slots n moved))
+    locks =
+        locks_beside n working_page v refl (upd-alike (λ (x : Slot). locked_at (place_of x)) s.environments.slots n moved places.locked) counts
+        (bytes_elsewhere h n b is puts) h.locks
+
     -- The same abstract state: what stands behind it is given.
     pub working_stands : regs.esp ≡ (slot_at s n).registers.esp → regs.eflags ≡ (slot_at s n).registers.eflags →
         (has_working after words ≡ true → IsOwnWritable (rows_of sp dir) working_page) → (has_working after words ≡ false → v ≡ None) →
@@ -240,12 +261,14 @@ module _ {names : Names} {s : KernelState} {a : AbstractState} {sp : SpacesState
         (logical s.spaces s.environments.slots) n working_page v → IsInOrder (with_spaces s sp) → StandsFor names (with_slot_at (with_spaces s sp) n moved) a
     working_stands esp eflags working no_working tables at row in_order =
         subst (λ (x : AbstractState). StandsFor names (with_slot_at (with_spaces s sp) n moved) x) (born_back a n b is)
-        (own_moves h n b is sp moved b a.shared a.next_name refl (record { id = refl; env_type = refl; calm = λ runs. runs }) unborne
+        (own_moves h n b is sp moved b a.shared a.next_name refl (record { id = refl; env_type = refl; turns = refl; calm = λ runs. runs }) unborne
         (ap borne_in there ∙ unborne_after) others
-        (own_part puts (slot_at s n) b b.program b.phase b.blocked regs words after own.runs refl own there unhandled outside_after esp eflags working no_working tables at)
+        (own_part puts (slot_at s n) b b.program b.phase b.blocked regs words after own.runs refl own there unhandled outside_after calm calm_after
+        esp eflags working no_working tables at)
         (rows_same (put (logical s.spaces s.environments.slots) n working_page v) (logical sp (upd s.environments.slots n moved)) counts
         (rows_put (rows_stand h) row))
-        (slot_in_order (with_spaces s sp) n moved refl refl in_order))
+        (slot_in_order (with_spaces s sp) n moved refl refl in_order) (others_counts h n last sp) (ends b (λ fd. refl)) locks (omega arith)
+        (λ fd name names_it. h.old n fd name b is names_it))
 
     -- The service has answered: its program goes on in both, and the page is given back.
     pub working_back : words ≡ no_extra → after ≡ place.Guest → v ≡ None → (slot_at s n).rendezvous.receiving ≡ false → b.blocked ≡ false →
@@ -255,15 +278,18 @@ module _ {names : Names} {s : KernelState} {a : AbstractState} {sp : SpacesState
         StandsFor names (with_slot_at (with_spaces s sp) n moved) (back_with a n b regs)
     working_back no_words at_program gone silent awake esp eflags tables row in_order =
         own_moves h n b is sp moved (record b { program = guest regs; phase = at_guest; blocked = false }) a.shared a.next_name refl
-        (record { id = refl; env_type = refl; calm = λ runs. runs }) unborne (ap borne_in there ∙ unborne_after) others
+        (record { id = refl; env_type = refl; turns = refl; calm = λ runs. runs }) unborne (ap borne_in there ∙ unborne_after) others
         (own_part puts (slot_at s n) b (guest regs) at_guest false regs words after
-        (subst (λ (blocked : Bool). IsStatusFor (slot_at s n).status blocked) awake own.runs) refl own there unhandled outside_after esp eflags
+        (subst (λ (blocked : Bool). IsStatusFor (slot_at s n).status blocked) awake own.runs) refl own there unhandled outside_after calm calm_after
+        esp eflags
         (λ has. absurd (let contradiction : false ≡ true = sym (ap (λ (p : Place). has_working p words) at_program) ∙ has in cc)) (λ none. gone) tables
         (subst (λ (p : Place). StandsAt p (view_of sp dir) moved (record b { program = guest regs; phase = at_guest; blocked = false })) (sym at_program)
         (record { program = refl; phase = refl; words = no_words; silent = silent; awake = refl })))
         (rows_same (put (logical s.spaces s.environments.slots) n working_page v) (logical sp (upd s.environments.slots n moved)) counts
         (rows_put (rows_stand h) row))
-        (slot_in_order (with_spaces s sp) n moved refl refl in_order)
+        (slot_in_order (with_spaces s sp) n moved refl refl in_order) (others_counts h n last sp)
+        (ends (record b { program = guest regs; phase = at_guest; blocked = false }) (λ fd. refl)) locks (omega arith)
+        (λ fd name names_it. h.old n fd name b is names_it)
 
 -- ---- the call that takes it
 
@@ -382,7 +408,8 @@ module _ {names : Names} {s : KernelState} {a : AbstractState} {sp : SpacesState
 
 module _ {names : Names} {s : KernelState} {a : AbstractState} {sp : SpacesState} (h : StandsFor names s a) (n fd va len : ℕ)
     (stands : place_of (slot_at s n) ≡ place.InService (service.Write fd va len) step.TakingPage)
-    (made : Made s.spaces sp (slot_at s n).directory working_page working_perm) (in_order : IsInOrder (with_spaces s sp)) where
+    (made : Made s.spaces sp (slot_at s n).directory working_page working_perm) (in_order : IsInOrder (with_spaces s sp))
+    (last : s.last ≡ Some n) where
   abbrev to : Step
   to = step.BufferRegion 0 0
 
@@ -441,11 +468,12 @@ module _ {names : Names} {s : KernelState} {a : AbstractState} {sp : SpacesState
 
   pub page_taken_stands : StandsFor names (with_extra (with_spaces s sp) n (words_at SERVICE_WRITE to)) a
   page_taken_stands =
-      working_stands h n v.b v.is v.own v.outside (ap borne_in v.place) puts (slot_at s n).registers (words_at SERVICE_WRITE to)
+      working_stands h n v.b v.is v.own v.outside (ap borne_in v.place) (ap is_calm v.place) puts last
+      (slot_at s n).registers (words_at SERVICE_WRITE to)
       (place.InService (service.Write fd va len) to)
       (place_at (slot_at s n).registers SERVICE_WRITE to v.outside
       ∙ ap (λ (x : Service). place.InService x to) (named_at (slot_at s n) (service.Write fd va len) step.TakingPage v.place))
-      refl refl refl refl (λ is. taken_own h n v.b v.is made) (λ is. absurd (let contradiction : true ≡ false = is in cc)) (taken_tables h n v.b v.is made)
+      refl refl refl refl refl (λ is. taken_own h n v.b v.is made) (λ is. absurd (let contradiction : true ≡ false = is in cc)) (taken_tables h n v.b v.is made)
       (taken_at, tt) (taken_row h n v.b v.is made) in_order
 
 -- ---- what the step comes to
@@ -454,20 +482,20 @@ module _ (s : KernelState) (n fd va len : ℕ) (stands : place_of (slot_at s n) 
   -- the page is there, and the service goes on
   pub taking_keeps : (made : PageMade s n UTEMP working_perm (take_asked s n)) → IsInOrder (with_spaces s made.spaces) →
       KeepsStanding progress.Hidden n s (with_extra (with_spaces s made.spaces) n (words_at SERVICE_WRITE (step.BufferRegion 0 0))) []
-  taking_keeps made in_order a h quiet = (
+  taking_keeps made in_order a h turn quiet = (
     refl,
     (
       h.0,
       page_taken_stands h.1 n fd va len stands
           (allocated_made s.spaces made.spaces (slot_at s n).directory working_page working_perm made.frame h.1.in_order.frames in_order.frames refl
           made.is)
-          in_order,
+          in_order turn.last,
     ),
   )
 
   -- it was refused, of which nothing is said
   pub refused_keeps : (word : ℕ) → KeepsStanding progress.Finished n s (service_answered (with_refusal s) n word) []
-  refused_keeps word a h quiet = absurd (refusal_is_seen s (record { stays = quiet.stays; could = quiet.could }))
+  refused_keeps word a h turn quiet = absurd (refusal_is_seen s (record { stays = quiet.stays; could = quiet.could }))
 
 -- The number falls, whatever pages wait to be copied.
 pub taking_falls : steps_left (step.BufferRegion 0 0) < steps_left step.TakingPage

@@ -1,6 +1,6 @@
 -- The kernel's state goes on standing for the abstract one where a page is put in the place of another, be it a new one or one
 -- that stands somewhere, and where a page is removed.
-use Rattle.std.proofs.Common.{◌≡◌, ◌≢◌, ◌∙◌, ◌+◌, ◌<◌, ◌==◌, ◌&&◌, ◌||◌, ◌⊎◌, inl, inr, ℕ, ◌/◌, not, Bool, true, false, List}
+use Rattle.std.proofs.Common.{◌≤◌, ◌≡◌, ◌≢◌, ◌∙◌, ◌+◌, ◌<◌, ◌==◌, ◌&&◌, ◌||◌, ◌⊎◌, inl, inr, ℕ, ◌/◌, not, Bool, true, false, List}
 use Rattle.std.proofs.Common.{refl, sym, ap, subst, arith}
 use Rattle.std.proofs.lemmas.Bool.Decides.{nat_tests}
 use Rattle.std.specs.Prelude.{Option, Some, None, is_some}
@@ -12,25 +12,27 @@ use Rattle.jos_base.specs.Reach.{Entry}
 use Rattle.jos_base.specs.SpacesState.{SpacesState, put, zero_page}
 use Rattle.jos_base.specs.SystemCalls.{has_write}
 use Rattle.jos_base.specs.Words.{page_number, upd}
-use Rattle.lib_os.specs.declared.numbers.TheConstants.{REQUEST}
+use Rattle.lib_os.specs.declared.numbers.TheConstants.{DESCRIPTORS, REQUEST}
 use Rattle.lib_os.specs.AbstractState.{AbstractState, Born, Page, own, named, born, with_born}
 use Rattle.lib_os.specs.AbstractMemory.{page_at, with_page, without_page}
 use Rattle.lib_os.specs.DescriptorPages.{lasting_words}
 use Rattle.lib_os.specs.InOrder.{IsInOrder}
 use Rattle.lib_os.specs.LibraryPages.{is_library_region}
+use Rattle.lib_os.specs.PipeEnds.{EndsStand}
 use Rattle.lib_os.specs.Places.{place_of}
 use Rattle.lib_os.specs.Rows.{is_clients, server_row, Names, Rows, rows_of, logical, page_by, page_seen, is_programs, is_shared, is_cow, may_write}
-use Rattle.lib_os.specs.Rows.{Agree, IsUsers, IsNamed, IsPage, MayBeHad, ShowsBy, is_descriptor}
+use Rattle.lib_os.specs.Rows.{Agree, IsUsers, IsNamed, IsPage, MayBeHad, ShowsBy, is_of_descriptor, is_pipe_page, pipe_page}
 use Rattle.lib_os.specs.StandsFor.{StandsFor, StandsForBorn, view_of, borne_in, things_in}
 use Rattle.lib_os.proofs.Effects.{Placed, Made, Given, Removed}
 use Rattle.lib_os.proofs.EntriesStand.{PutsRow, rows_put, rows_same, rows_stand, put_is, same_entry, shown_same, seen_own, seen_named, seen_by}
-use Rattle.lib_os.proofs.EntriesStand.{named_at, named_bytes, seen_none}
+use Rattle.lib_os.proofs.EntriesStand.{named_at, named_bytes, programs_no_pipe, seen_none}
 use Rattle.lib_os.proofs.Logical.{is_plain, logical_some, logical_plain, logical_beside, logical_alike, programs_beside, StandsAs}
-use Rattle.lib_os.proofs.Logical.{plain_unborne, programs_no_descriptor, unborne_unremapped}
+use Rattle.lib_os.proofs.Logical.{plain_unborne, programs_no_descriptor, unborne_beside}
 use Rattle.lib_os.proofs.PageBytes.{zero_page_whole}
 use Rattle.lib_os.proofs.SlotsStand.{SeenAlike, HasTables, minds_page, unminded_plain, kept_unminded, library_put, page_alike, page_put}
-use Rattle.lib_os.proofs.SlotsStand.{born_at, live_stands}
-use Rattle.lib_os.proofs.StatesStand.{clients_live, directories_apart, space_moves}
+use Rattle.lib_os.proofs.PipesStand.{ends_moved, locks_beside, pipe_shared, same_places}
+use Rattle.lib_os.proofs.SlotsStand.{CountsKept, born_at, live_stands, turn_unpiped, unminded_unpiped}
+use Rattle.lib_os.proofs.StatesStand.{clients_live, directories_apart, ends_at, others_counts, space_moves}
 use Rattle.jos_base.proofs.Maps.{upd-at, upd-other, upd-true}
 use Rattle.jos_base.proofs.Puts.{Elsewhere, place_cases, put-at, put-other}
 
@@ -71,6 +73,7 @@ module _ {names after : Names} {s : KernelState} {a : AbstractState} {sp : Space
     bytes = λ r x hx own_page. puts.bytes q r x (λ same too. ne same) hx;
     named_so = λ r x hx shared_page. puts.named_so q r x hx shared_page;
     devices = λ r x descriptor hx shared_page. ap lasting_words (puts.bytes q r x (λ same too. ne same) hx);
+    pipes = λ r x pipes hx shared_page. puts.bytes q r x (λ same too. ne same) hx;
     regions = λ r. puts.regions q r ne;
   }
 
@@ -124,14 +127,28 @@ module _ {names after : Names} {s : KernelState} {a : AbstractState} {sp : Space
       (regions : ℕ → Bool) → HasTables sp dir regions → (shared : ℕ → List ℕ) (next : ℕ) →
       PutsRow names after s.spaces.pages a.shared sp.pages shared (things_in s a) a.next_name next (logical s.spaces s.environments.slots) n p v →
       minds_page (place_of (slot_at s n)) ≡ false → IsInOrder (with_spaces s sp) →
-      StandsFor after (with_spaces s sp)
+      ((m : ℕ) → m ≢ n → CountsKept s.spaces sp (slot_at s m)) → a.next_name ≤ next → StandsFor after (with_spaces s sp)
       (with_born (record a { shared = shared; next_name = next }) n (record b { memory = upd b.memory p page; regions = regions }))
-  puts_stand inside page here regions tables shared next row unminded in_order =
+  puts_stand inside page here regions tables shared next row unminded in_order counts more =
       space_moves h n b at sp (record b { memory = upd b.memory p page; regions = regions }) shared next
       (plain_unborne (place_of (slot_at s n)) (unminded_plain (place_of (slot_at s n)) unminded)) others_seen mine
       (rows_same (put (logical s.spaces s.environments.slots) n p v) (logical sp s.environments.slots)
-      (counts_put (unminded_plain (place_of (slot_at s n)) unminded)) (rows_put (rows_stand h) row)) in_order
+      (counts_put (unminded_plain (place_of (slot_at s n)) unminded)) (rows_put (rows_stand h) row)) in_order counts ends
+      (locks_beside n p v (programs_no_pipe p inside) (λ m. refl) (counts_put (unminded_plain (place_of (slot_at s n)) unminded)) bytes_elsewhere h.locks)
+      more (λ fd name names_it. let was = h.old n fd name b at names_it in omega (arith, was, more))
     where
+      -- it is not the page of a pipe
+      beside_pipe : (fd : ℕ) → fd < DESCRIPTORS → pipe_page fd ≢ p
+      beside_pipe fd below same =
+          let one : is_pipe_page (pipe_page fd) ≡ true = grind (arith, nat_tests) in
+          let contradiction : true ≡ false = sym one ∙ ap is_pipe_page same ∙ programs_no_pipe p inside in cc
+
+      ends : EndsStand after a.objects (place_of (slot_at s n)) (rows_of sp dir) (record b { memory = upd b.memory p page; regions = regions })
+      ends =
+          ends_moved (same_places refl) (λ fd. refl) (λ fd name is. refl)
+          (λ fd below. row_kept dir (pipe_page fd) (λ same too. beside_pipe fd below too))
+          (λ fd x below is. puts.named_so dir (pipe_page fd) x is (pipe_shared (born_at h n b at).library fd x below is)) (ends_at h n b at)
+
       mine : StandsForBorn after sp (slot_at s n) (record b { memory = upd b.memory p page; regions = regions })
       mine = page_put names after s.spaces sp (slot_at s n) b p page regions (born_at h n b at) inside here
           (λ q ne. shown_same names after s.spaces sp dir q (row_kept dir q (λ same too. ne too))
@@ -139,6 +156,8 @@ module _ {names after : Names} {s : KernelState} {a : AbstractState} {sp : Space
           (library_put (place_of (slot_at s n)) (slot_at s n).extra (rows_of s.spaces dir) (rows_of sp dir) p inside
           (λ q ne. row_kept dir q (λ same too. ne too)) (born_at h n b at).library)
           tables (kept_unminded (place_of (slot_at s n)) (view_of s.spaces dir) (view_of sp dir) unminded)
+          (turn_unpiped (view_of s.spaces dir) (view_of sp dir) (slot_at s n) (place_of (slot_at s n)) (slot_at s n).status (slot_at s n).runs
+          (unminded_unpiped (place_of (slot_at s n)) unminded))
 
 -- ---- a page is put
 
@@ -191,7 +210,7 @@ module _ {names : Names} {s : KernelState} {a : AbstractState} {sp : SpacesState
     (at : a.slots n ≡ born b) (va perm : ℕ) (inside : is_programs (page_number va) ≡ true)
     (made : Made s.spaces sp (slot_at s n).directory (page_number va) perm)
     (is_user : IsUsers perm) (unminded : minds_page (place_of (slot_at s n)) ≡ false)
-    (in_order : IsInOrder (with_spaces s sp)) where
+    (in_order : IsInOrder (with_spaces s sp)) (last : s.last ≡ Some n) where
   abbrev d : ℕ
   d = (slot_at s n).directory
 
@@ -249,7 +268,7 @@ module _ {names : Names} {s : KernelState} {a : AbstractState} {sp : SpacesState
       (upd b.regions (p / NPTENTRIES) true) tables_made a.shared a.next_name
       (made_row names (λ q r x hx shared_page. refl) a.shared a.next_name
       (λ shared_page. absurd (let contradiction : true ≡ false = sym shared_page ∙ own_page in cc))
-      (λ q r x hx bytes was. named_bytes (sym bytes) was)) unminded in_order
+      (λ q r x hx bytes was. named_bytes (sym bytes) was)) unminded in_order (others_counts h n last sp) (omega arith)
     where
       or_false : (w : Bool) → (w || false) ≡ w
       or_false true = refl
@@ -264,6 +283,7 @@ module _ {names : Names} {s : KernelState} {a : AbstractState} {sp : SpacesState
     name = upd names.name made.frame a.next_name;
     frame = upd names.frame a.next_name made.frame;
     is_object = upd names.is_object a.next_name false;
+    is_pipe = upd names.is_pipe a.next_name false;
   }
 
   made_shared : is_shared perm ≡ true →
@@ -277,7 +297,8 @@ module _ {names : Names} {s : KernelState} {a : AbstractState} {sp : SpacesState
       ∙ ap (λ (m : ℕ). Some (named m (has_write perm))) (upd-at names.name made.frame a.next_name)))
       (upd b.regions (p / NPTENTRIES) true) tables_made (upd a.shared a.next_name zero_page) (a.next_name + 1)
       (made_row names_after names_kept (upd a.shared a.next_name zero_page) (a.next_name + 1) (λ is. new_named)
-      (λ q r x hx bytes was. old_named r x.frame (made.new q r x hx) bytes was)) unminded in_order
+      (λ q r x hx bytes was. old_named r x.frame (made.new q r x hx) bytes was)) unminded in_order (others_counts h n last sp)
+      (omega arith)
     where
       names_kept : (q r : ℕ) (x : Entry) → rows_of s.spaces q r ≡ Some x → is_shared x.perm ≡ true →
           names_after.name x.frame ≡ names.name x.frame
@@ -291,29 +312,39 @@ module _ {names : Names} {s : KernelState} {a : AbstractState} {sp : SpacesState
           let other : name ≢ a.next_name = (let lower = was.old in omega arith) in
           let object : upd names.is_object a.next_name false name ≡ names.is_object name = upd-other names.is_object a.next_name false name other in
           let page : upd a.shared a.next_name zero_page name ≡ a.shared name = upd-other a.shared a.next_name zero_page name other in
-          let here : ShowsBy (things_in s a) name f (names.is_object name) (a.shared name) (sp.pages f) =
+          let piped : upd names.is_pipe a.next_name false name ≡ names.is_pipe name = upd-other names.is_pipe a.next_name false name other in
+          let here : ShowsBy (things_in s a) name f (names.is_object name) (names.is_pipe name) (a.shared name) (sp.pages f) =
           (named_bytes {after = sp.pages} (sym bytes) was).shows in
-          let facts = subst (λ (m : ℕ). (names_after.frame m ≡ f) × (names_after.is_object m ≡ is_descriptor r)
-          × ShowsBy (things_in s a) m f (names_after.is_object m) (upd a.shared a.next_name zero_page m) (sp.pages f) × (m < a.next_name + 1))
+          let facts = subst (λ (m : ℕ). (names_after.frame m ≡ f) × (names_after.is_object m ≡ is_of_descriptor r)
+          × (names_after.is_pipe m ≡ is_pipe_page r)
+          × ShowsBy (things_in s a) m f (names_after.is_object m) (names_after.is_pipe m) (upd a.shared a.next_name zero_page m) (sp.pages f)
+          × (m < a.next_name + 1))
           (sym (upd-other names.name made.frame a.next_name f ne)) (
             upd-other names.frame a.next_name made.frame name other ∙ was.home,
             object ∙ was.kind,
-            subst (λ (c : Bool). ShowsBy (things_in s a) name f c (upd a.shared a.next_name zero_page name) (sp.pages f)) (sym object)
-                (subst (λ (l : List ℕ). ShowsBy (things_in s a) name f (names.is_object name) l (sp.pages f)) (sym page) here),
+            piped ∙ was.of_pipe,
+            subst (λ (c : Bool). ShowsBy (things_in s a) name f c (upd names.is_pipe a.next_name false name) (upd a.shared a.next_name zero_page name)
+                (sp.pages f)) (sym object)
+                (subst (λ (c : Bool). ShowsBy (things_in s a) name f (names.is_object name) c (upd a.shared a.next_name zero_page name) (sp.pages f))
+                (sym piped)
+                (subst (λ (l : List ℕ). ShowsBy (things_in s a) name f (names.is_object name) (names.is_pipe name) l (sp.pages f)) (sym page) here)),
             (let lower = was.old in omega arith),
           ) in
-          record { home = facts.0; kind = facts.1; shows = facts.2; old = facts.3 }
+          record { home = facts.0; kind = facts.1; of_pipe = facts.2; shows = facts.3; old = facts.4 }
 
       new_named : IsNamed names_after sp.pages (upd a.shared a.next_name zero_page) (things_in s a) (a.next_name + 1) p made.frame
       new_named =
           let name_is : upd names.name made.frame a.next_name made.frame ≡ a.next_name = upd-at names.name made.frame a.next_name in
           let object : upd names.is_object a.next_name false a.next_name ≡ false = upd-at names.is_object a.next_name false in
+          let piped : upd names.is_pipe a.next_name false a.next_name ≡ false = upd-at names.is_pipe a.next_name false in
           record {
             home = ap (λ (m : ℕ). upd names.frame a.next_name made.frame m) name_is ∙ upd-at names.frame a.next_name made.frame;
             kind = ap (λ (m : ℕ). upd names.is_object a.next_name false m) name_is ∙ object ∙ sym (programs_no_descriptor p inside);
-            shows = subst (λ (m : ℕ). ShowsBy (things_in s a) m made.frame (upd names.is_object a.next_name false m)
+            of_pipe = ap (λ (m : ℕ). upd names.is_pipe a.next_name false m) name_is ∙ piped ∙ sym (programs_no_pipe p inside);
+            shows = subst (λ (m : ℕ). ShowsBy (things_in s a) m made.frame (upd names.is_object a.next_name false m) (upd names.is_pipe a.next_name false m)
                 (upd a.shared a.next_name zero_page m) (sp.pages made.frame)) (sym name_is)
-                (subst (λ (c : Bool). ShowsBy (things_in s a) a.next_name made.frame c (upd a.shared a.next_name zero_page a.next_name)
+                (subst (λ (c : Bool). ShowsBy (things_in s a) a.next_name made.frame c (upd names.is_pipe a.next_name false a.next_name)
+                (upd a.shared a.next_name zero_page a.next_name)
                 (sp.pages made.frame)) (sym object) (upd-at a.shared a.next_name zero_page ∙ sym made.zero));
             old = subst (λ (m : ℕ). m < a.next_name + 1) (sym name_is) (omega arith);
           }
@@ -339,7 +370,8 @@ module _ {names : Names} {s : KernelState} {a : AbstractState} {sp : SpacesState
     (unborne : borne_in (place_of (slot_at s n)) ≡ None)
     (m : ℕ) (c : Born) (target_at : a.slots m ≡ born c) (va : ℕ) (inside : is_programs (page_number va) ≡ true)
     (given : Given s.spaces sp (slot_at s m).directory (page_number va) x)
-    (unminded : minds_page (place_of (slot_at s m)) ≡ false) (in_order : IsInOrder (with_spaces s sp)) where
+    (unminded : minds_page (place_of (slot_at s m)) ≡ false) (in_order : IsInOrder (with_spaces s sp))
+    (counts : (q : ℕ) → q ≢ m → CountsKept s.spaces sp (slot_at s q)) where
   abbrev from_space : ℕ
   from_space = (slot_at s n).directory
 
@@ -350,7 +382,7 @@ module _ {names : Names} {s : KernelState} {a : AbstractState} {sp : SpacesState
   counts_here : logical s.spaces s.environments.slots n (page_number from) ≡ Some x
   counts_here =
       logical_beside s.spaces s.environments.slots n (clients_live h n b at) (page_number from) (programs_beside (page_number from) from_inside).0
-      (unborne_unremapped (place_of (slot_at s n)) (page_number from) unborne)
+      (unborne_beside (place_of (slot_at s n)) (page_number from) unborne (programs_no_descriptor (page_number from) from_inside))
       ∙ hx
 
   given_bytes : (q r : ℕ) (y : Entry) → Elsewhere q r to_space (page_number va) → rows_of s.spaces q r ≡ Some y →
@@ -405,6 +437,7 @@ module _ {names : Names} {s : KernelState} {a : AbstractState} {sp : SpacesState
         (same_Some x e is)
         (λ shared_page. named_bytes (sym given.same)
         (named_at (programs_no_descriptor (page_number va) inside ∙ sym (programs_no_descriptor (page_number from) from_inside))
+        (programs_no_pipe (page_number va) inside ∙ sym (programs_no_pipe (page_number from) from_inside))
         (h.named n (page_number from) x counts_here shared_page)));
     named_old = λ q r y ne hy shared_page was. named_bytes (sym (bytes_elsewhere h m c target_at given_puts q r y ne hy)) was;
   }
@@ -422,14 +455,15 @@ module _ {names : Names} {s : KernelState} {a : AbstractState} {sp : SpacesState
   pub given_stands : StandsFor names (with_spaces s sp) (with_born a m (with_page c va page))
   given_stands =
       puts_stand h m c target_at given_puts inside (Some page) given_seen (upd c.regions (page_number va / NPTENTRIES) true)
-      (tables_placed given.placed c.regions (tables_of (born_at h m c target_at))) a.shared a.next_name given_row unminded in_order
+      (tables_placed given.placed c.regions (tables_of (born_at h m c target_at))) a.shared a.next_name given_row unminded in_order counts
+      (omega arith)
 
 -- ---- a page is removed
 
 module _ {names : Names} {s : KernelState} {a : AbstractState} {sp : SpacesState} (h : StandsFor names s a) (n : ℕ) (b : Born)
     (at : a.slots n ≡ born b) (va : ℕ) (inside : is_programs (page_number va) ≡ true)
     (removed : Removed s.spaces sp (slot_at s n).directory (page_number va))
-    (unminded : minds_page (place_of (slot_at s n)) ≡ false) (in_order : IsInOrder (with_spaces s sp)) where
+    (unminded : minds_page (place_of (slot_at s n)) ≡ false) (in_order : IsInOrder (with_spaces s sp)) (last : s.last ≡ Some n) where
   abbrev space : ℕ
   space = (slot_at s n).directory
 
@@ -467,4 +501,4 @@ module _ {names : Names} {s : KernelState} {a : AbstractState} {sp : SpacesState
       b.regions (record {
         have = λ r is. removed.regions space r ∙ (born_at h n b at).regions_have r is;
         only = λ r is. (born_at h n b at).regions_only r (sym (removed.regions space r) ∙ is);
-      }) a.shared a.next_name removed_row unminded in_order
+      }) a.shared a.next_name removed_row unminded in_order (others_counts h n last sp) (omega arith)

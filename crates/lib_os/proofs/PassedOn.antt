@@ -30,10 +30,10 @@ use Rattle.lib_os.specs.InOrder.{IsInOrder}
 use Rattle.lib_os.specs.LibraryPages.{is_library_region, region_index}
 use Rattle.lib_os.specs.Places.{place_in_words, place_of, words_at}
 use Rattle.lib_os.specs.Rows.{Agree, EntryRow, IsNamed, IsPage, IsUsers, MayBeHad, Names, Rows, as_cow, counted, cow_perm, is_clients}
-use Rattle.lib_os.specs.Rows.{is_cow, is_descriptor, is_programs, is_shared, lasting, logical, logical_by, may_write, page_by, page_seen, rows_of}
+use Rattle.lib_os.specs.Rows.{is_cow, is_of_descriptor, is_programs, is_shared, lasting, logical, logical_by, may_write, page_by, page_seen, rows_of}
 use Rattle.lib_os.specs.StandsFor.{StandsFor, StandsAtStep, IsBearing, IsMapping, borne_at, things_in, view_of}
 use Rattle.lib_os.specs.UserCalls.{asking, called_by, system}
-use Rattle.lib_os.proofs.Bearing.{IsBearer, IsChild, parent_not_first, child_not_first}
+use Rattle.lib_os.proofs.Bearing.{IsBearer, IsChild, borne_calm, parent_not_first, child_not_first}
 use Rattle.lib_os.proofs.Calls.{caller_is, made_is, made_step, system_is}
 use Rattle.lib_os.proofs.Effects.{Given}
 use Rattle.lib_os.proofs.EntriesStand.{PutsRow, RowsStand, put_is, rows_bytes, rows_put, rows_same, rows_stand}
@@ -47,7 +47,8 @@ use Rattle.lib_os.proofs.Placing.{inserted_given}
 use Rattle.lib_os.proofs.Puts.{put-found}
 use Rattle.lib_os.proofs.Remapping.{lasting_write}
 use Rattle.lib_os.proofs.Slots.{slot_kept}
-use Rattle.lib_os.proofs.SlotsStand.{SeenAlike, born_live, born_stands, live_stands, page_alike}
+use Rattle.lib_os.proofs.SlotsStand.{SeenAlike, born_live, born_stands, counts_unpiped, is_piped, live_stands, page_alike}
+use Rattle.lib_os.proofs.StatesStand.{others_counts}
 use Rattle.jos_base.proofs.Maps.{upd-at, upd-other}
 use Rattle.jos_base.proofs.Puts.{Elsewhere, place_cases, put-at, put-other}
 
@@ -218,7 +219,7 @@ or_true true t on = refl
 or_true false t on = on
 
 -- the pages of descriptors lie in a region of the library's
-descriptors_region : (p : ℕ) → is_descriptor p ≡ true → is_library_region (p / NPTENTRIES) ≡ true
+descriptors_region : (p : ℕ) → is_of_descriptor p ≡ true → is_library_region (p / NPTENTRIES) ≡ true
 descriptors_region p is =
     let there : (p / NPTENTRIES == region_index FDTABLE) ≡ true = grind (arith, nat_tests) in
     ap (λ (c : Bool). c || (p / NPTENTRIES == region_index USTACKTOP)) (or_true (p / NPTENTRIES == region_index UTEMP) _ there)
@@ -261,20 +262,20 @@ module _ {names : Names} {s : KernelState} {a : AbstractState} (h : StandsFor na
   child_guest = let outside = v.child_own.stack in let none = v.child_own.words in rw (outside, none) refl
 
   -- what fork passes on is a program's, or a descriptor's
-  page_handed : is_programs page || is_descriptor page ≡ true
+  page_handed : is_programs page || is_of_descriptor page ≡ true
   page_handed =
       let at : Step = step.MapChild id page perm in
       there_handed (slot_at s n) at at v.place v.own page mapping.entry mapping.below mapping.stands
 
   -- a descriptor's is mapped as it is
-  descriptor_kept : is_descriptor page ≡ true → is_kept ≡ true
+  descriptor_kept : is_of_descriptor page ≡ true → is_kept ≡ true
   descriptor_kept is =
       ap (λ (bits : ℕ). is_shared bits || not (may_write bits)) (v.own.library.descriptors page mapping.entry is mapping.stands)
 
   -- any other is a program's
   copied_inside : is_kept ≡ false → is_programs page ≡ true
   copied_inside is =
-      no_other (is_programs page) (is_descriptor page) page_handed
+      no_other (is_programs page) (is_of_descriptor page) page_handed
       (λ descriptor. let contradiction : false ≡ true = sym is ∙ descriptor_kept descriptor in cc)
 
   -- the parent's entries count as they stand
@@ -384,6 +385,7 @@ module _ {names : Names} {s : KernelState} {a : AbstractState} (h : StandsFor na
       bytes = λ r x hx own_page. bytes_kept q r x hx;
       named_so = λ r x hx shared_page. refl;
       devices = λ r x descriptor hx shared_page. ap lasting_words (bytes_kept q r x hx);
+      pipes = λ r x pipes hx shared_page. bytes_kept q r x hx;
       regions = λ r. other_regions given.placed q r ne;
     }
 
@@ -423,14 +425,14 @@ module _ {names : Names} {s : KernelState} {a : AbstractState} (h : StandsFor na
             ∙ child_had.passed p inside (omega (arith, from, other))
 
     -- a descriptor's page has the parent's entry
-    child_handed : (p : ℕ) → is_descriptor p ≡ true → page ≤ p → rows_of sp child_space p ≡ rows_of sp d p
+    child_handed : (p : ℕ) → is_of_descriptor p ≡ true → page ≤ p → rows_of sp child_space p ≡ rows_of sp d p
     child_handed p is from = by_page (p == page) refl ∙ sym (ap (λ (row : EntryRow). row p) (seen_beside d parent_beside).rows)
       where
         by_page : (c : Bool) → (p == page) ≡ c → rows_of sp child_space p ≡ rows_of s.spaces d p
         by_page true test =
             let same : page ≡ p = grind (arith, nat_tests) in
             subst (λ (q : ℕ). rows_of sp child_space q ≡ rows_of s.spaces d q) same
-            (row_placed given.placed ∙ ap (λ (e : Entry). Some e) (kept_entry (descriptor_kept (ap is_descriptor same ∙ is))) ∙ sym mapping.stands)
+            (row_placed given.placed ∙ ap (λ (e : Entry). Some e) (kept_entry (descriptor_kept (ap is_of_descriptor same ∙ is))) ∙ sym mapping.stands)
         by_page false test =
             let other : p ≢ page = grind (arith, nat_tests) in
             kept child_space p (λ same. other) ∙ child_had.handed p is (omega (arith, from, other))
@@ -449,7 +451,7 @@ module _ {names : Names} {s : KernelState} {a : AbstractState} (h : StandsFor na
         by_test true inside = ap (λ (c : Bool). c || is_library_region (page / NPTENTRIES)) (programs inside)
         by_test false outside =
             or_true (has_page_in v.b.memory (page / NPTENTRIES)) (is_library_region (page / NPTENTRIES))
-            (descriptors_region page (sym (ap (λ (c : Bool). c || is_descriptor page) outside) ∙ page_handed))
+            (descriptors_region page (sym (ap (λ (c : Bool). c || is_of_descriptor page) outside) ∙ page_handed))
 
     child_tables : (r : ℕ) → is_some (sp.regions child_space r) ≡ true → has_page_in v.b.memory r || is_library_region r ≡ true
     child_tables r table = by_region (r == page / NPTENTRIES) refl (sym (given.placed.regions child_space r) ∙ table)
@@ -479,7 +481,7 @@ module _ {names : Names} {s : KernelState} {a : AbstractState} (h : StandsFor na
       none = λ p outside no_descriptor.
           kept child_space p
           (λ same at. absurd (let contradiction : false ≡ true = (λ i. sym outside i || sym no_descriptor i)
-          ∙ ap (λ (q : ℕ). is_programs q || is_descriptor q) at ∙ page_handed in cc))
+          ∙ ap (λ (q : ℕ). is_programs q || is_of_descriptor q) at ∙ page_handed in cc))
           ∙ child_had.none p outside no_descriptor;
       tables = child_tables;
     }
@@ -639,7 +641,7 @@ module _ {names : Names} {s : KernelState} {a : AbstractState} (h : StandsFor na
 
     -- ---- it stands
 
-    module _ (in_order : IsInOrder (with_spaces s sp)) where
+    module _ (in_order : IsInOrder (with_spaces s sp)) (last : s.last ≡ Some n) where
       still_bearing : (next : Step) → IsBearing (moved (slot_at s n) next) v.b id
       still_bearing next =
           let at : IsBearing (slot_at s n) v.b id × IsMapping (rows_of s.spaces d) page perm = v.stands in
@@ -651,8 +653,9 @@ module _ {names : Names} {s : KernelState} {a : AbstractState} (h : StandsFor na
           StandsFor names (with_extra (with_spaces s sp) n (words_at SERVICE_FORK next)) a
       stands_at next bears so has rows =
           bearing_moves h n id (step.MapChild id page perm) next v bears sp (λ q ne apart. seen_beside q apart)
-          (own_moved (slot_at s n) (step.MapChild id page perm) next v.place
-          (born_stands (slot_at s n) v.b (seen_beside d parent_beside) v.own) so) has rows in_order
+          (own_moved (slot_at s n) (step.MapChild id page perm) next v.place refl (borne_calm next id bears)
+          (born_stands (slot_at s n) v.b (seen_beside d parent_beside) (counts_unpiped s.spaces sp (slot_at s n) (ap is_piped v.place)) v.own) so)
+          has rows in_order (others_counts h n last sp) (λ p is. ap (λ (row : EntryRow). row p) (seen_beside d parent_beside).rows) bytes_kept
 
       -- behind a page that is mapped as it is fork goes on below it
       pub below_stands : is_kept ≡ true →

@@ -44,6 +44,7 @@ use Rattle.lib_os.proofs.Numbered.{named_at, number_of}
 use Rattle.lib_os.proofs.PageBytes.{bytes_append}
 use Rattle.lib_os.proofs.Paths.{follows_fewer, follows_inside, next_asked, path_gathers, path_stepped}
 use Rattle.lib_os.proofs.PathServices.{gathering_path, has_path, path_holds, path_keeping, path_reads, path_unborne}
+use Rattle.lib_os.proofs.PipesStand.{is_calm}
 use Rattle.lib_os.proofs.Serving.{IsServed, holds_page, service_step}
 use Rattle.lib_os.proofs.StatesStand.{quiet_stands}
 use Rattle.lib_os.proofs.Touching.{touched_quiet}
@@ -283,10 +284,11 @@ module _ {names : Names} {s : KernelState} {a : AbstractState} (h : StandsFor na
   gathered_stands : (word : ℕ) → take moved (to_le_bytes w32 word) ≡ path_taken →
       StandsFor names (with_extra (loaded s n next) n (words_at (number_of call) (step.Keeping done word moved))) path_gathered
   gathered_stands word is =
-      stage_stands loaded_stands n (number_of call) v.b v.is v.outside (ap borne_in v.place ∙ path_unborne call takes (step.Gathering done)) call
+      stage_stands loaded_stands n (number_of call) v.b v.is v.outside (ap borne_in v.place ∙ path_unborne call takes (step.Gathering done))
+      (ap is_calm v.place) call
       (step.Keeping done word moved) (gathering (it.bytes ++ path_taken))
       (ap holds_page v.place ∙ path_holds call takes (step.Gathering done) ∙ sym (path_holds call takes (step.Keeping done word moved)))
-      (path_unborne call takes (step.Keeping done word moved)) (named_at k call (step.Gathering done) v.place)
+      (path_unborne call takes (step.Keeping done word moved)) refl (named_at k call (step.Gathering done) v.place)
       (subst (λ (w : View). StandsAtStep w (told word) (record v.b { phase = in_service call (gathering (it.bytes ++ path_taken)) })
       call (step.Keeping done word moved)) (sym (loaded_view s n next d))
       (path_keeping (view_of s.spaces d) (told word) (record v.b { phase = in_service call (gathering (it.bytes ++ path_taken)) }) call takes done word moved

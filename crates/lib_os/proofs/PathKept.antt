@@ -39,10 +39,11 @@ use Rattle.lib_os.proofs.Numbered.{named_at, number_of}
 use Rattle.lib_os.proofs.PageBytes.{bytes_more, bytes_none, word_bytes}
 use Rattle.lib_os.proofs.Paths.{follows_inside, gathers_path}
 use Rattle.lib_os.proofs.PathServices.{has_path, keeping_path, path_before, path_gathering, path_holds, path_keeping, path_plain, path_unborne, path_whole}
-use Rattle.lib_os.proofs.PathServices.{path_works, whole_kept, whole_step}
+use Rattle.lib_os.proofs.PathServices.{path_works, whole_calm, whole_kept, whole_step}
+use Rattle.lib_os.proofs.PipesStand.{is_calm, is_calm_step}
 use Rattle.lib_os.proofs.Serving.{IsServed, holds_page, served}
 use Rattle.lib_os.proofs.SlotsStand.{born_at}
-use Rattle.lib_os.proofs.StatesStand.{clients_live}
+use Rattle.lib_os.proofs.StatesStand.{clients_live, others_counts}
 use Rattle.jos_base.proofs.Maps.{upd-at}
 
 -- ---- the end of a path
@@ -106,7 +107,7 @@ path_step_behind_keeping call done word left =
 pub record IsPathKept (names : Names) (s : KernelState) (a : AbstractState) (n : ℕ) (call : Service) (done word left : ℕ) : Type 0 where
   pub spaces : SpacesState
   pub step_is : keeping s n done word left ≡ giving (with_spaces s spaces) tt
-  pub stands : IsInOrder (with_spaces s spaces) →
+  pub stands : IsInOrder (with_spaces s spaces) → s.last ≡ Some n →
       StandsFor names (with_extra (with_spaces s spaces) n (words_at (number_of call) (path_step_behind_keeping call done word left))) a
 
 -- the end is among these bytes, or not
@@ -205,7 +206,8 @@ module _ {names : Names} {s : KernelState} {a : AbstractState} (h : StandsFor na
       (next : (i : ℕ) → i < length put → slice_index put i ≡ slice_index it.bytes (done + i))
       (rest : kept < left → take (left - kept) (to_le_bytes w32 (word / 256)) ≡ drop (done + kept) it.bytes)
       (nul : Bool) (tells : Tells nul put)
-      (does : CallStep (Unit {0})) (puts : PutsBytes s n page.entry done put does) (order : IsInOrder (with_spaces s puts.spaces)) where
+      (does : CallStep (Unit {0})) (puts : PutsBytes s n page.entry done put does) (order : IsInOrder (with_spaces s puts.spaces))
+      (last : s.last ≡ Some n) where
     abbrev sp : SpacesState
     sp = puts.spaces
 
@@ -244,7 +246,7 @@ module _ {names : Names} {s : KernelState} {a : AbstractState} (h : StandsFor na
     still : StandsFor names (with_spaces s sp) a
     still =
         unseen_rewritten h n v.b v.is (ap is_plain stands ∙ path_plain call takes (step.Keeping done word left)) working_page working_outside working_no_descriptor page.entry page.stands page.own_page
-        page.writes now now_whole puts.rewritten order
+        page.writes now now_whole puts.rewritten order (others_counts h n last sp)
         (subst (λ (q : Place). StandsAt q (view_of sp home) (slot_at s n) v.b) (sym stands)
         (path_keeping (view_of sp home) (slot_at s n) v.b call takes done word left (record {
           bytes = it.bytes;
@@ -261,13 +263,14 @@ module _ {names : Names} {s : KernelState} {a : AbstractState} (h : StandsFor na
           kept = taken done (omega arith);
         })))
 
-    goes_on : (to : Step) → keeps_path to ≡ true →
+    goes_on : (to : Step) → keeps_path to ≡ true → is_calm_step to ≡ true →
         StandsAtStep (view_of sp home) (record (slot_at s n) { extra = words_at (number_of call) to }) v.b call to →
         StandsFor names (with_extra (with_spaces s sp) n (words_at (number_of call) to)) a
-    goes_on to keeps so =
+    goes_on to keeps calm so =
         words_stand still n (number_of call) v.b v.is (born_at still n v.b v.is) v.outside
-        (ap borne_in stands ∙ path_unborne call takes (step.Keeping done word left)) call to
-        (ap holds_page stands ∙ path_holds call takes (step.Keeping done word left) ∙ sym (path_holds call takes to ∙ keeps)) (path_unborne call takes to) (named_at (slot_at s n) call (step.Keeping done word left) stands) so
+        (ap borne_in stands ∙ path_unborne call takes (step.Keeping done word left)) (ap is_calm stands) call to
+        (ap holds_page stands ∙ path_holds call takes (step.Keeping done word left) ∙ sym (path_holds call takes to ∙ keeps))
+        (path_unborne call takes to) calm (named_at (slot_at s n) call (step.Keeping done word left) stands) so
 
     -- ---- the end is put
 
@@ -278,7 +281,7 @@ module _ {names : Names} {s : KernelState} {a : AbstractState} (h : StandsFor na
         let place : position_or_len is_nul it.bytes ≤ done + at.0 =
         end_before it.bytes (done + at.0) (ap is_nul (sym (next at.0 at.1)) ∙ at.2) in
         let many = it.many in
-        goes_on (whole_step call) (whole_kept call)
+        goes_on (whole_step call) (whole_kept call) (whole_calm call)
         (path_whole (view_of sp home) (record (slot_at s n) { extra = words_at (number_of call) (whole_step call) }) v.b call takes (record {
           bytes = it.bytes;
           is_in = record { program = it.is_in.program; phase = it.is_in.phase; silent = it.is_in.silent; awake = it.is_in.awake };
@@ -344,12 +347,12 @@ module _ {names : Names} {s : KernelState} {a : AbstractState} (h : StandsFor na
                 StandsFor names (with_extra (with_spaces s sp) n
                 (words_at (number_of call) (if c then step.BufferRegion (length it.bytes) 0 else step.Gathering (length it.bytes)))) a
             by_page follows true test =
-                goes_on (step.BufferRegion (length it.bytes) 0) refl
+                goes_on (step.BufferRegion (length it.bytes) 0) refl refl
                 (path_before (view_of sp home) (record (slot_at s n) { extra = words_at (number_of call) (step.BufferRegion (length it.bytes) 0) }) v.b call takes
                 (length it.bytes) 0 (taking (words_at (number_of call) (step.BufferRegion (length it.bytes) 0)) follows, tt))
             by_page follows false test =
                 let words = words_at (number_of call) (step.Gathering (length it.bytes)) in
-                goes_on (step.Gathering (length it.bytes)) refl
+                goes_on (step.Gathering (length it.bytes)) refl refl
                 (gathers_path (view_of sp home) (record (slot_at s n) { extra = words }) v.b call (length it.bytes) (taking words follows)
                 (next_allowed follows test))
 
@@ -360,7 +363,7 @@ module _ {names : Names} {s : KernelState} {a : AbstractState} (h : StandsFor na
             by_next true follows = by_page follows ((path + length it.bytes) % 2 ^ 32 % PGSIZE == 0) refl
             by_next false ends =
                 let words = words_at (number_of call) (step.Gathering (length it.bytes)) in
-                goes_on (step.Gathering (length it.bytes)) refl
+                goes_on (step.Gathering (length it.bytes)) refl refl
                 (path_gathering (view_of sp home) (record (slot_at s n) { extra = words }) v.b call takes (length it.bytes)
                 (subst (λ (t : Bool). IsGatheringPath t (view_of sp home) (record (slot_at s n) { extra = words }) v.b call (length it.bytes)) (sym ends)
                 (record {
@@ -378,7 +381,7 @@ module _ {names : Names} {s : KernelState} {a : AbstractState} (h : StandsFor na
       goes_keeping : kept < left →
           StandsFor names (with_extra (with_spaces s sp) n (words_at (number_of call) (step.Keeping (done + kept) (word / 256) (left - kept)))) a
       goes_keeping more =
-          goes_on (step.Keeping (done + kept) (word / 256) (left - kept)) refl
+          goes_on (step.Keeping (done + kept) (word / 256) (left - kept)) refl refl
           (path_keeping (view_of sp home) (record (slot_at s n) { extra = words_at (number_of call) (step.Keeping (done + kept) (word / 256) (left - kept)) })
           v.b call takes (done + kept) (word / 256) (left - kept) (record {
             bytes = it.bytes;
@@ -449,10 +452,10 @@ module _ {names : Names} {s : KernelState} {a : AbstractState} (h : StandsFor na
           record {
             spaces = puts.spaces;
             step_is = rw test puts.step_is;
-            stands = λ order. rw test
+            stands = λ order turn. rw test
                 (kept_goes 4 (to_le_bytes w32 word) (omega arith) (omega (arith, four)) refl (word_bytes word)
                 (λ i lt. word_byte it.bytes done word left i it.word_is (omega (arith, lt, four)))
-                (λ more. absurd (omega (arith, more, four))) (has_end 4 word) (word_tells word) (store s n (UTEMP + done % PGSIZE) word) puts order);
+                (λ more. absurd (omega (arith, more, four))) (has_end 4 word) (word_tells word) (store s n (UTEMP + done % PGSIZE) word) puts order turn);
           }
       by_word false test =
           let puts : PutsBytes s n page.entry done (word % 256 ∷ []) (store_byte s n (UTEMP + done % PGSIZE) (word % 256)) =
@@ -461,9 +464,9 @@ module _ {names : Names} {s : KernelState} {a : AbstractState} (h : StandsFor na
           record {
             spaces = puts.spaces;
             step_is = rw test puts.step_is;
-            stands = λ order. rw test
+            stands = λ order turn. rw test
                 (kept_goes 1 (word % 256 ∷ []) (omega arith) it.some refl (bytes_more (word % 256) [] (omega arith) bytes_none)
-                first_byte behind_it (has_end 1 word) (byte_tells word) (store_byte s n (UTEMP + done % PGSIZE) (word % 256)) puts order);
+                first_byte behind_it (has_end 1 word) (byte_tells word) (store_byte s n (UTEMP + done % PGSIZE) (word % 256)) puts order turn);
           }
         where
           first_byte : (i : ℕ) → i < 1 → slice_index (word % 256 ∷ []) i ≡ slice_index it.bytes (done + i)

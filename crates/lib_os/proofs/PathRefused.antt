@@ -29,7 +29,8 @@ use Rattle.lib_os.specs.LibrarySteps.{KeepsStanding, service_answered}
 use Rattle.lib_os.specs.Places.{place_of, words_at}
 use Rattle.lib_os.specs.Rows.{Names}
 use Rattle.lib_os.specs.Services.{named_service, service_of}
-use Rattle.lib_os.specs.StandsFor.{IsGatheringPath, IsIn, IsRefusingPath, StandsFor, borne_in, view_of}
+use Rattle.lib_os.specs.InService.{IsIn}
+use Rattle.lib_os.specs.StandsFor.{IsGatheringPath, IsRefusingPath, StandsFor, borne_in, view_of}
 use Rattle.lib_os.specs.StandsInHandler.{AreSmall, HasNoEnd, buffer_of, may_follow, stage_with, takes_path}
 use Rattle.lib_os.proofs.Answering.{back_stands}
 use Rattle.lib_os.proofs.Effects.{Removed}
@@ -39,6 +40,7 @@ use Rattle.lib_os.proofs.PageGiven.{give_removes, given_puts, given_row, given_t
 use Rattle.lib_os.proofs.PageTaken.{working_back, working_page}
 use Rattle.lib_os.proofs.Paths.{next_asked, path_is_long, path_leaves_fence, path_stepped}
 use Rattle.lib_os.proofs.PathServices.{gathering_path, has_path, path_given, path_holds, path_taking, path_unborne}
+use Rattle.lib_os.proofs.PipesStand.{is_calm}
 use Rattle.lib_os.proofs.Serving.{IsServed, holds_page, printed_nothing, served, step_in, words_of_none}
 
 -- ---- the path
@@ -108,16 +110,17 @@ module _ (s : KernelState) (n : ℕ) (call : Service) (takes : takes_path call �
     (stands : place_of (slot_at s n) ≡ place.InService call step.Entered) where
   -- it begins where a program may touch, and is about to be taken
   pub path_enters : is_inside (buffer_of call) ≡ true → KeepsStanding progress.Hidden n s (with_extra s n (words_at (number_of call) step.TakingPage)) []
-  path_enters inside a h quiet =
+  path_enters inside a h turn quiet =
       let v = served h.1 n call step.Entered stands in
       let here : IsIn (slot_at s n) v.b call entered = v.at in
       let words = words_at (number_of call) step.TakingPage in (
         refl,
         (
           h.0,
-          words_stand h.1 n (number_of call) v.b v.is v.own v.outside (ap borne_in v.place ∙ path_unborne call (path_given call takes) step.Entered) call step.TakingPage
+          words_stand h.1 n (number_of call) v.b v.is v.own v.outside (ap borne_in v.place ∙ path_unborne call (path_given call takes) step.Entered)
+              (ap is_calm v.place) call step.TakingPage
               (ap holds_page v.place ∙ path_holds call (path_given call takes) step.Entered ∙ sym (path_holds call (path_given call takes) step.TakingPage))
-              (path_unborne call (path_given call takes) step.TakingPage) (named_at (slot_at s n) call step.Entered stands)
+              (path_unborne call (path_given call takes) step.TakingPage) refl (named_at (slot_at s n) call step.Entered stands)
               (path_taking (view_of s.spaces (slot_at s n).directory) (record (slot_at s n) { extra = words }) v.b call (path_given call takes)
               (in_with_words words here, takes, inside)),
         ),
@@ -126,7 +129,7 @@ module _ (s : KernelState) (n : ℕ) (call : Service) (takes : takes_path call �
   -- it does not
   pub path_enters_not : AreSmall (slot_at s n).registers → is_inside (buffer_of call) ≡ false →
       KeepsStanding progress.Finished n s (service_answered s n (negated E_INVAL)) []
-  path_enters_not small off a h quiet =
+  path_enters_not small off a h turn quiet =
       let v = served h.1 n call step.Entered stands in
       let here : IsIn (slot_at s n) v.b call entered = v.at in
       let first : buffer_of call + 0 ≡ buffer_of call = omega arith in (
@@ -139,7 +142,7 @@ module _ (s : KernelState) (n : ℕ) (call : Service) (takes : takes_path call �
           h.0,
           back_stands h.1 n v.b v.is (record (slot_at s n).registers { eax = negated E_INVAL })
               (ap borne_in v.place ∙ path_unborne call (path_given call takes) step.Entered) (ap holds_page v.place ∙ path_holds call (path_given call takes) step.Entered)
-              here.silent here.awake v.outside refl refl,
+              (ap is_calm v.place) here.silent here.awake v.outside refl refl,
         ),
       )
 
@@ -148,7 +151,8 @@ module _ (s : KernelState) (n : ℕ) (call : Service) (takes : takes_path call �
 module _ {names : Names} {s : KernelState} {a : AbstractState} {sp : SpacesState} (h : StandsFor names s a) (n : ℕ) (call : Service)
     (takes : has_path call ≡ true) (done : ℕ) (stands : place_of (slot_at s n) ≡ place.InService call (step.Gathering done))
     (ends : may_follow (buffer_of call) done ≡ false)
-    (removed : Removed s.spaces sp (slot_at s n).directory working_page) (in_order : IsInOrder (with_spaces s sp)) where
+    (removed : Removed s.spaces sp (slot_at s n).directory working_page) (in_order : IsInOrder (with_spaces s sp))
+    (last : s.last ≡ Some n) where
   abbrev d : ℕ
   d = (slot_at s n).directory
 
@@ -177,16 +181,18 @@ module _ {names : Names} {s : KernelState} {a : AbstractState} {sp : SpacesState
 
   refused_stands : StandsFor names (service_answered (with_spaces s sp) n answer) (refused a n v.b (slot_at s n).registers (path_error done))
   refused_stands =
-      working_back h n v.b v.is v.own v.outside (ap borne_in v.place ∙ path_unborne call takes (step.Gathering done)) (given_puts h n v.b v.is removed) regs no_extra place.Guest
-      (words_of_none regs no_extra v.outside refl) refl refl refl refl refl it.is_in.silent it.is_in.awake refl refl (given_tables h n v.b v.is removed) (given_row h n v.b v.is removed) in_order
+      working_back h n v.b v.is v.own v.outside (ap borne_in v.place ∙ path_unborne call takes (step.Gathering done)) (ap is_calm v.place)
+      (given_puts h n v.b v.is removed) last regs no_extra place.Guest
+      (words_of_none regs no_extra v.outside refl) refl refl refl refl refl refl it.is_in.silent it.is_in.awake refl refl
+      (given_tables h n v.b v.is removed) (given_row h n v.b v.is removed) in_order
 
 -- what the step comes to
 pub path_refused_keeps : (s : KernelState) (n : ℕ) (call : Service) → has_path call ≡ true → (done : ℕ) → place_of (slot_at s n) ≡ place.InService call (step.Gathering done) →
     AreSmall (slot_at s n).registers → may_follow (buffer_of call) done ≡ false → IsInOrder (with_spaces s (without_working s n)) →
     KeepsStanding progress.Finished n s (service_answered (with_spaces s (without_working s n)) n (negated (path_error done))) []
-path_refused_keeps s n call takes done stands small ends in_order a h quiet = (
+path_refused_keeps s n call takes done stands small ends in_order a h turn quiet = (
   _,
-  refused_step h.1 n call takes done stands ends (give_removes s n h.1) in_order small,
+  refused_step h.1 n call takes done stands ends (give_removes s n h.1) in_order turn.last small,
   printed_nothing a,
-  (h.0, refused_stands h.1 n call takes done stands ends (give_removes s n h.1) in_order),
+  (h.0, refused_stands h.1 n call takes done stands ends (give_removes s n h.1) in_order turn.last),
 )

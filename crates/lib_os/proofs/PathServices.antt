@@ -11,10 +11,12 @@ use Rattle.lib_os.specs.declared.service.Service.TheVariants as service
 use Rattle.lib_os.specs.AbstractState.{Born, entered}
 use Rattle.lib_os.specs.Fence.{is_inside}
 use Rattle.lib_os.specs.LibraryPages.{View, has_working, keeps_path}
-use Rattle.lib_os.specs.StandsFor.{HasWholePath, IsGatheringPath, IsIn, IsKeepingPath, IsTakingPath, StandsAtStep, StandsBefore, borne_in}
+use Rattle.lib_os.specs.InService.{IsIn}
+use Rattle.lib_os.specs.StandsFor.{HasWholePath, IsGatheringPath, IsKeepingPath, IsTakingPath, StandsAtStep, StandsBefore, borne_in}
 use Rattle.lib_os.specs.StandsFor.{writes_buffer}
 use Rattle.lib_os.specs.StandsInHandler.{buffer_of, may_follow, takes_path}
 use Rattle.lib_os.proofs.Logical.{is_plain}
+use Rattle.lib_os.proofs.PipesStand.{is_calm_step}
 use Rattle.lib_os.proofs.Serving.{holds_page}
 
 -- a path is one of the things that it is given
@@ -67,6 +69,11 @@ whole_step _ = step.Identifying
 pub whole_kept : (s : Service) → keeps_path (whole_step s) ≡ true
 whole_kept (service.OpenFile path mode) = refl
 whole_kept _ = refl
+
+-- nothing is done to pipes there
+pub whole_calm : (s : Service) → is_calm_step (whole_step s) ≡ true
+whole_calm (service.OpenFile path mode) = refl
+whole_calm _ = refl
 
 module _ (v : View) (k : Slot) (b : Born) where
   pub taking_path : (s : Service) → has_path s ≡ true → StandsAtStep v k b s step.TakingPage →

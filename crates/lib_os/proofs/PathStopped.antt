@@ -1,7 +1,7 @@
 -- A service that is given a path raises the fault of a byte of it that its page refuses, and the handler of page faults gets that: the kernel's state goes on
 -- standing for the same abstract one, and fewer hidden steps are left.
 use Rattle.std.proofs.Common.{◌≡◌, ◌∙◌, ◌+◌, ◌%◌, ◌^◌, ◌<◌, ℕ, Bool, true, false, refl, sym, ap}
-use Rattle.std.specs.Prelude.{None, is_none}
+use Rattle.std.specs.Prelude.{None, Some}
 use Rattle.jos_base.specs.declared.memory.Access.TheVariants.{Read}
 use Rattle.jos_base.specs.KernelState.{KernelState, slot_at}
 use Rattle.jos_base.specs.Words.{page_number}
@@ -20,7 +20,7 @@ use Rattle.lib_os.specs.UserCalls.{load_byte}
 use Rattle.lib_os.proofs.BufferLooks.{next_small}
 use Rattle.lib_os.proofs.BytesRefused.{handed_over, handing, load_byte_faults, stopped_lowers, stopped_raised, stopped_stands}
 use Rattle.lib_os.proofs.Paths.{follows_inside, taking_follows}
-use Rattle.lib_os.proofs.PathServices.{before_path, has_path, path_reads, path_unborne}
+use Rattle.lib_os.proofs.PathServices.{before_path, has_path, path_plain, path_reads, path_unborne}
 use Rattle.lib_os.proofs.Serving.{IsServed}
 
 module _ {names : Names} {s : KernelState} {a : AbstractState} (h : StandsFor names s a) (n : ℕ) (call : Service) (takes : has_path call ≡ true)
@@ -50,21 +50,22 @@ module _ {names : Names} {s : KernelState} {a : AbstractState} (h : StandsFor na
 
   abbrev pub path_stopped_after : KernelState
   path_stopped_after =
-      handed_over h n v.b v.is (place.InService call (step.Faulting done word)) v.place refl (ap is_none unborne)
+      handed_over h n v.b v.is (place.InService call (step.Faulting done word)) v.place refl (path_plain call takes (step.Faulting done word)) refl
       (page_fault (page_at v.b (path + done)) (path + done) Read)
 
   pub path_stopped : load_byte s n ((path + done) % 2 ^ 32) ≡ handing path_stopped_after
   path_stopped =
       ap (load_byte s n) path_place.0
-      ∙ load_byte_faults h n v.b v.is (place.InService call (step.Faulting done word)) v.place refl (ap is_none unborne)
+      ∙ load_byte_faults h n v.b v.is (place.InService call (step.Faulting done word)) v.place refl (path_plain call takes (step.Faulting done word)) refl
       (page_fault (page_at v.b (path + done)) (path + done) Read) (path + done)
-      (stopped_raised h n v.b v.is call done word v.place unborne (path + done) path_place.1 false refused)
+      (stopped_raised h n v.b v.is call done word v.place (path_plain call takes (step.Faulting done word)) (path + done) path_place.1 false refused)
 
-  pub path_stopped_stands : AreSmall (slot_at s n).registers → IsInOrder path_stopped_after → StandsFor names path_stopped_after a
+  pub path_stopped_stands : AreSmall (slot_at s n).registers → IsInOrder path_stopped_after → s.last ≡ Some n → StandsFor names path_stopped_after a
   path_stopped_stands small =
-      stopped_stands h n v.b v.is call done word v.place unborne (path + done) path_place.1 false refused small (slot_at s n).registers.eax
+      stopped_stands h n v.b v.is call done word v.place (path_plain call takes (step.Faulting done word)) (path + done)
+      path_place.1 false refused small (slot_at s n).registers.eax
       taking.program taking.silent taking.awake (following call taking.bytes refl taking.wants (ap (λ (m : ℕ). path + m) (sym taking.many)))
 
   pub path_stopped_lowers : hidden_left path_stopped_after n < hidden_left s n
   path_stopped_lowers =
-      stopped_lowers h n v.b v.is call done word v.place unborne (path + done) path_place.1 false refused
+      stopped_lowers h n v.b v.is call done word v.place (path_plain call takes (step.Faulting done word)) (path + done) path_place.1 false refused

@@ -25,12 +25,13 @@ use Rattle.lib_os.specs.AbstractState.{AbstractState, own}
 use Rattle.lib_os.specs.DescriptorPages.{lasting_words}
 use Rattle.lib_os.specs.InOrder.{IsInOrder}
 use Rattle.lib_os.specs.LibrarySteps.{TakesAtMost}
+use Rattle.lib_os.specs.PipeEnds.{is_made}
 use Rattle.lib_os.specs.Places.{place_of, words_at}
 use Rattle.lib_os.specs.Rows.{EntryRow, IsUsers, Names, Rows, as_cow, counted, cow_perm}
-use Rattle.lib_os.specs.Rows.{is_descriptor, is_programs, is_shared, logical, may_write, page_seen, rows_of, seen_where, shown_at}
-use Rattle.lib_os.specs.StandsFor.{IsBearing, IsRemapping, StandsAt, StandsFor, StandsForBorn, top_page, view_of}
+use Rattle.lib_os.specs.Rows.{is_of_descriptor, is_pipe_page, is_programs, is_shared, logical, may_write, page_seen, rows_of, seen_where, shown_at}
+use Rattle.lib_os.specs.StandsFor.{IsBearing, IsRemapping, StandsAt, StandsFor, StandsForBorn, seen_unless, top_page, view_of}
 use Rattle.lib_os.specs.UserCalls.{CallStep, giving, system}
-use Rattle.lib_os.proofs.Bearing.{IsBearer, bearer}
+use Rattle.lib_os.proofs.Bearing.{IsBearer, bearer, borne_calm}
 use Rattle.lib_os.proofs.BearingCounts.{child_seen, other_counts, parent_counted, parent_counts, parent_lives, spaces_apart}
 use Rattle.lib_os.proofs.Calls.{made_step}
 use Rattle.lib_os.proofs.Effects.{Given}
@@ -43,11 +44,16 @@ use Rattle.lib_os.proofs.Logical.{logical_some}
 use Rattle.lib_os.proofs.PagesStand.{other_regions, row_elsewhere, row_placed}
 use Rattle.lib_os.proofs.Remapping.{inserted_already, page_map_is}
 use Rattle.lib_os.proofs.SlotsStand.{SeenAlike, descriptors_beside, library_put}
+use Rattle.lib_os.proofs.StatesStand.{others_counts}
 use Rattle.jos_base.proofs.Puts.{Elsewhere}
 
 no_other : (t u : Bool) → (t || u) ≡ true → (u ≡ true → ⊥) → t ≡ true
 no_other true u is other = refl
 no_other false u is other = absurd (other is)
+
+-- a page that is no descriptor's is no pipe's
+pipe_elsewhere : (p : ℕ) → (is_of_descriptor p ≡ true → ⊥) → is_pipe_page p ≡ true → ⊥
+pipe_elsewhere p none is = none (grind (arith, nat_tests))
 
 cow_user : IsUsers cow_perm
 cow_user = record { page = refl; copied = λ is. (refl, refl) }
@@ -70,7 +76,7 @@ module _ {names : Names} {s : KernelState} {a : AbstractState} {sp : SpacesState
     (stands : place_of (slot_at s n) ≡ place.InService service.Fork (step.Remap id page)) (old : Entry)
     (old_is : rows_of s.spaces (slot_at s n).directory page ≡ Some old)
     (given : Given s.spaces sp (slot_at s n).directory page (record { frame = old.frame; perm = cow_perm }))
-    (in_order : IsInOrder (with_spaces s sp)) where
+    (in_order : IsInOrder (with_spaces s sp)) (last : s.last ≡ Some n) where
   abbrev at : Step
   at = step.Remap id page
 
@@ -108,13 +114,13 @@ module _ {names : Names} {s : KernelState} {a : AbstractState} {sp : SpacesState
   old_writes = ap (λ (e : Entry). may_write e.perm) (sym same_entry) ∙ remapping.writes
 
   -- a page of its own is no descriptor's
-  no_descriptor : is_descriptor page ≡ true → ⊥
+  no_descriptor : is_of_descriptor page ≡ true → ⊥
   no_descriptor is =
       let contradiction : false ≡ true = sym old_own ∙ ap (λ (bits : ℕ). is_shared bits) (v.own.library.descriptors page old is old_is) in cc
 
   inside : is_programs page ≡ true
   inside =
-      no_other (is_programs page) (is_descriptor page) (there_handed parent at next stands v.own page old remapping.below old_is) no_descriptor
+      no_other (is_programs page) (is_of_descriptor page) (there_handed parent at next stands v.own page old remapping.below old_is) no_descriptor
 
   -- ---- the spaces after it
 
@@ -137,6 +143,7 @@ module _ {names : Names} {s : KernelState} {a : AbstractState} {sp : SpacesState
     bytes = λ r x hx own_page. bytes_kept q r x hx;
     named_so = λ r x hx shared_page. refl;
     devices = λ r x descriptor hx shared_page. ap lasting_words (bytes_kept q r x hx);
+    pipes = λ r x pipes hx shared_page. bytes_kept q r x hx;
     regions = λ r. other_regions given.placed q r ne;
   }
 
@@ -191,7 +198,8 @@ module _ {names : Names} {s : KernelState} {a : AbstractState} {sp : SpacesState
     env_type = v.own.env_type;
     runs = v.own.runs;
     upcall = v.own.upcall;
-    descriptors = λ fd. v.own.descriptors fd ∙ sym (descriptors_beside names names s.spaces sp d page inside shown_kept fd);
+    descriptors = λ fd still. v.own.descriptors fd still
+        ∙ sym (ap (seen_unless (is_made (place_of parent) fd)) (descriptors_beside names names s.spaces sp d page inside shown_kept fd));
     memory = λ p. v.own.memory p ∙ sym (memory_kept p);
     library = library_put (place_of parent) parent.extra (rows_of s.spaces d) (rows_of sp d) page inside row_kept v.own.library;
     regions_have = λ r is. table_is r ∙ v.own.regions_have r is;
@@ -217,7 +225,7 @@ module _ {names : Names} {s : KernelState} {a : AbstractState} {sp : SpacesState
       (λ inner. table_is (page / NPTENTRIES) ∙ stood)
       (has_from at refl refl
       (child_seen (others_alike child.directory (λ same. spaces_apart h n id at v (sym same)))
-      (λ p is. row_kept p (λ same. no_descriptor (sym (ap is_descriptor same) ∙ is))) v.child))
+      (λ p is. row_kept p (λ same. no_descriptor (sym (ap is_of_descriptor same) ∙ is))) v.child))
 
   -- ---- entries as they count
 
@@ -262,8 +270,9 @@ module _ {names : Names} {s : KernelState} {a : AbstractState} {sp : SpacesState
 
   pub remapped_stands : StandsFor names (with_extra (with_spaces s sp) n (words_at SERVICE_FORK next)) a
   remapped_stands =
-      bearing_moves h n id at next v way.bears sp (λ q ne apart. others_alike q ne) (own_moved parent at next stands parent_stands way.stands)
+      bearing_moves h n id at next v way.bears sp (λ q ne apart. others_alike q ne) (own_moved parent at next stands refl (borne_calm next id way.bears) parent_stands way.stands)
       way.has (rows_bytes sp.pages counted_bytes (rows_same before behind counts (rows_stand h))) in_order
+      (others_counts h n last sp) (λ p is. row_kept p (λ same. pipe_elsewhere page no_descriptor (sym (ap is_pipe_page same) ∙ is))) bytes_kept
 
 -- ---- the call
 

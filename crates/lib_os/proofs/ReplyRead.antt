@@ -37,6 +37,7 @@ use Rattle.lib_os.proofs.Answering.{back_stands}
 use Rattle.lib_os.proofs.Calls.{ipc_recv_is, waits_is}
 use Rattle.lib_os.proofs.Loading.{loaded}
 use Rattle.lib_os.proofs.Logical.{is_plain, unborne_plain}
+use Rattle.lib_os.proofs.PipesStand.{calm_places, calm_unmade, descriptors_turned, is_calm}
 use Rattle.lib_os.proofs.Serving.{service_step, holds_page, plain_upcall, plain_copy, plain_working, library_moved}
 use Rattle.lib_os.proofs.Slots.{words_put}
 use Rattle.lib_os.proofs.SlotsStand.{born_at, born_live}
@@ -65,9 +66,9 @@ abbrev pub waiting : Born → Born
 waiting b = record b { phase = in_service service.Sync awaiting; blocked = true }
 
 awaiting_own : {names : Names} {s : SpacesState} {k : Slot} {b : Born} (id : ℕ) → StandsForBorn names s k b → is_handlers k.registers.esp ≡ false →
-    holds_page (place_of k) ≡ false → id ≡ k.id → HasAsked k b service.Sync → service_of (record k.registers { eax = SERVICE_SYNC }) ≡ service.Sync →
-    StandsForBorn names s (awaiting_in_slot k id) (waiting b)
-awaiting_own {s = s} {k = k} {b = b} id own outside holds self has names_it =
+    holds_page (place_of k) ≡ false → is_calm (place_of k) ≡ true → id ≡ k.id → HasAsked k b service.Sync →
+    service_of (record k.registers { eax = SERVICE_SYNC }) ≡ service.Sync → StandsForBorn names s (awaiting_in_slot k id) (waiting b)
+awaiting_own {names = names} {s = s} {k = k} {b = b} id own outside holds calm self has names_it =
     let j : Slot = awaiting_in_slot k id in
     let at : place_of j ≡ place.InService service.Sync (step.ReadingReply id) = awaiting_place k id outside names_it in
     let plain : is_in_handler (place_of k) ≡ false = handler_runs k.registers k.extra ∙ outside in
@@ -86,7 +87,7 @@ awaiting_own {s = s} {k = k} {b = b} id own outside holds self has names_it =
       env_type = own.env_type;
       runs = tt;
       upcall = own.upcall ∙ plain_upcall (place_of k) plain ∙ sym (ap upcall_at at);
-      descriptors = own.descriptors;
+      descriptors = descriptors_turned names s k.directory (place_of k) (place_of j) b.descriptors calm (ap is_calm at) own.descriptors;
       memory = own.memory;
       library = library_moved (place_of k) (place_of j) k.extra j.extra (rows_of s k.directory) (plain_copy (place_of k) plain ∙ sym (ap has_copy at))
           (plain_working (place_of k) k.extra plain ∙ holds ∙ sym (ap (λ (p : Place). has_working p j.extra) at)) own.library;
@@ -111,7 +112,7 @@ awaiting_call s n rest live =
 
 module _ {names : Names} {s : KernelState} {a : AbstractState} (h : StandsFor names s a) (n : ℕ) (b : Born) (at : a.slots n ≡ born b)
     (outside : is_handlers (slot_at s n).registers.esp ≡ false) (unborne : borne_in (place_of (slot_at s n)) ≡ None)
-    (holds : holds_page (place_of (slot_at s n)) ≡ false) where
+    (holds : holds_page (place_of (slot_at s n)) ≡ false) (calm : is_calm (place_of (slot_at s n)) ≡ true) where
   -- its step
   pub awaiting_step : HasAsked (slot_at s n) b service.Sync → abs_step a n ≡ Some (await_reply a n b service.Sync)
   unfolding library_step
@@ -130,10 +131,12 @@ module _ {names : Names} {s : KernelState} {a : AbstractState} (h : StandsFor na
       ∙ words_put s n k words in
       subst (λ (x : KernelState). StandsFor names x (await_reply a n b service.Sync)) (sym after)
       (slot_changed h n b at (awaiting_in_slot (slot_at s n) id) (waiting b) refl
-      (stopped_settles (slot_at s n) (awaiting_in_slot (slot_at s n) id) refl refl refl)
-      (unborne_plain (place_of (slot_at s n)) (handler_runs (slot_at s n).registers (slot_at s n).extra ∙ outside) unborne)
+      (stopped_settles (slot_at s n) (awaiting_in_slot (slot_at s n) id) refl refl refl refl)
+      (unborne_plain (place_of (slot_at s n)) (handler_runs (slot_at s n).registers (slot_at s n).extra ∙ outside) unborne
+      (calm_unmade (place_of (slot_at s n)) calm))
       (ap is_plain (awaiting_place (slot_at s n) id outside names_it))
-      (awaiting_own id (born_at h n b at) outside holds self has names_it))
+      (awaiting_own id (born_at h n b at) outside holds calm self has names_it)
+      (calm_places calm (ap is_calm (awaiting_place (slot_at s n) id outside names_it))) (λ fd. refl))
 
 -- ---- the reply
 
@@ -169,7 +172,7 @@ awake_reply k b s runs awake (awaits h) = absurd (never k.status b.blocked runs 
 
 module _ {names : Names} {s : KernelState} {a : AbstractState} (h : StandsFor names s a) (n : ℕ) (b : Born) (at : a.slots n ≡ born b)
     (outside : is_handlers (slot_at s n).registers.esp ≡ false) (unborne : borne_in (place_of (slot_at s n)) ≡ None)
-    (holds : holds_page (place_of (slot_at s n)) ≡ false) (has : HasReply (slot_at s n) b service.Sync) where
+    (holds : holds_page (place_of (slot_at s n)) ≡ false) (calm : is_calm (place_of (slot_at s n)) ≡ true) (has : HasReply (slot_at s n) b service.Sync) where
   abbrev reply : ℕ
   reply = (slot_at s n).rendezvous.value
 
@@ -189,4 +192,4 @@ module _ {names : Names} {s : KernelState} {a : AbstractState} (h : StandsFor na
       let flags : told.eflags ≡ (slot_at s n).registers.eflags = sym (ap (λ (x : Regs). x.eflags) has.registers) in
       let still : StandsFor names (loaded s n address) a = quiet_stands h (touched_quiet s.spaces (slot_at s n).directory address Read) order in
       subst (λ (t : KernelState). StandsFor names t (answered a n b has.regs reply)) (sym same)
-      (back_stands still n b at told unborne holds has.silent has.awake outside stack flags)
+      (back_stands still n b at told unborne holds calm has.silent has.awake outside stack flags)

@@ -15,11 +15,14 @@ use Rattle.lib_os.specs.LibrarySteps.{BringsRequest, BringsWithPage, frames_at, 
 use Rattle.lib_os.specs.Rows.{EntryRow}
 use Rattle.jos_base.specs.KernelState.{KernelState}
 use Rattle.lib_os.specs.StandsInHandler.{MayPut, hands_back}
-use Rattle.lib_os.specs.StandsFor.{IsAwaiting, awaits, awaits_bytes, has_reply, AsksOfFile, AwaitsOrHas, HasAsked, HasReply, IsIn, StandsAtStep}
-use Rattle.lib_os.specs.StandsFor.{TellsOfFile, TellsRequest, borne_in, HasWholePath, IsLowestFree}
+use Rattle.lib_os.specs.InService.{IsIn, IsLowestFree}
+use Rattle.lib_os.specs.StandsFor.{IsAwaiting, awaits, awaits_bytes, has_reply, AsksOfFile, AwaitsOrHas, HasAsked, HasReply, StandsAtStep}
+use Rattle.lib_os.specs.StandsFor.{TellsOfFile, TellsRequest, borne_in, HasWholePath}
 use Rattle.lib_os.proofs.AskedPlaces.{awaiting_step, asked_step}
 use Rattle.lib_os.proofs.Logical.{is_plain}
+use Rattle.lib_os.proofs.PipesStand.{is_calm_step}
 use Rattle.lib_os.proofs.Serving.{holds_page}
+use Rattle.lib_os.proofs.SlotsStand.{is_piped}
 
 abbrev pub asks_with_page : Service → Bool
 asks_with_page (service.Remove path) = true
@@ -163,6 +166,37 @@ asked_held (service.Write given va len) is id fd = refl
 asked_held (service.Read given va len) is id fd = refl
 asked_held (service.Stat given va) is id fd = refl
 asked_held _ is id fd = absurd (false≢true is)
+
+-- it is on no pipe
+pub identifying_calm : (s : Service) (fd : ℕ) → is_calm_step (identifying_step s fd) ≡ true
+identifying_calm (service.OpenFile path mode) fd = refl
+identifying_calm _ fd = refl
+
+pub asking_calm : (s : Service) (id fd : ℕ) → is_calm_step (asking_step s id fd) ≡ true
+asking_calm (service.OpenFile path mode) id fd = refl
+asking_calm _ id fd = refl
+
+pub pausing_calm : (s : Service) (id fd : ℕ) → is_calm_step (pausing_step s id fd) ≡ true
+pausing_calm (service.OpenFile path mode) id fd = refl
+pausing_calm _ id fd = refl
+
+pub asked_calm : (s : Service) (id fd : ℕ) → is_calm_step (asked_step s id fd) ≡ true
+asked_calm (service.OpenFile path mode) id fd = refl
+asked_calm _ id fd = refl
+
+pub awaiting_calm : (s : Service) (id fd : ℕ) → is_calm_step (awaiting_step s id fd) ≡ true
+awaiting_calm (service.Remove path) id fd = refl
+awaiting_calm (service.OpenFile path mode) id fd = refl
+awaiting_calm (service.Seek given offset) id fd = refl
+awaiting_calm (service.SetSize given size) id fd = refl
+awaiting_calm (service.Write given va len) id fd = refl
+awaiting_calm (service.Read given va len) id fd = refl
+awaiting_calm (service.Stat given va) id fd = refl
+awaiting_calm _ id fd = refl
+
+pub asking_unpiped : (s : Service) (id fd : ℕ) → is_piped (place.InService s (asking_step s id fd)) ≡ false
+asking_unpiped (service.OpenFile path mode) id fd = refl
+asking_unpiped _ id fd = refl
 
 -- it bears no child, and entries count as they stand
 pub brings_unborne : (s : Service) → brings_page s ≡ true → (at : Step) → borne_in (place.InService s at) ≡ None

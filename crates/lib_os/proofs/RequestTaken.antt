@@ -20,14 +20,16 @@ use Rattle.lib_os.specs.LibraryPages.{keeps_page}
 use Rattle.lib_os.specs.LibrarySteps.{KeepsStanding}
 use Rattle.lib_os.specs.Places.{place_of, words_at}
 use Rattle.lib_os.specs.Rows.{Names, descriptor_page}
-use Rattle.lib_os.specs.StandsFor.{IsIn, StandsAtStep, StandsFor, borne_in, view_of}
-use Rattle.lib_os.specs.StandsInHandler.{BeginsAt, IsGivenBytes, IsWritableFile, in_file, on_console}
+use Rattle.lib_os.specs.InService.{IsIn}
+use Rattle.lib_os.specs.StandsFor.{StandsAtStep, StandsFor, borne_in, view_of}
+use Rattle.lib_os.specs.StandsInHandler.{BeginsAt, IsGivenBytes, IsWritableFile, in_file, in_pipe, on_console}
 use Rattle.lib_os.proofs.Calls.{PageMade}
 use Rattle.lib_os.proofs.Effects.{Made}
 use Rattle.lib_os.proofs.Numbered.{named_at}
 use Rattle.lib_os.proofs.PagesStand.{Puts}
 use Rattle.lib_os.proofs.PageTaken.{take_asked, taken_none_from, taken_own, taken_puts, taken_row, taken_tables, working_beside, working_page}
 use Rattle.lib_os.proofs.PageTaken.{working_perm, working_stands}
+use Rattle.lib_os.proofs.PipesStand.{is_calm, is_calm_step}
 use Rattle.lib_os.proofs.Placing.{allocated_made}
 use Rattle.lib_os.proofs.Serving.{IsServed, served}
 use Rattle.lib_os.proofs.WordsTell.{place_at}
@@ -45,7 +47,8 @@ taken_keeps_page len = by_len (len == 0)
 
 module _ {names : Names} {s : KernelState} {a : AbstractState} {sp : SpacesState} (h : StandsFor names s a) (n fd va len : ℕ)
     (stands : place_of (slot_at s n) ≡ place.InService (service.Write fd va len) step.TakingRequest)
-    (made : Made s.spaces sp (slot_at s n).directory working_page working_perm) (in_order : IsInOrder (with_spaces s sp)) where
+    (made : Made s.spaces sp (slot_at s n).directory working_page working_perm) (in_order : IsInOrder (with_spaces s sp))
+    (last : s.last ≡ Some n) where
   abbrev call : Service
   call = service.Write fd va len
 
@@ -70,6 +73,7 @@ module _ {names : Names} {s : KernelState} {a : AbstractState} {sp : SpacesState
       by_start : BeginsAt (view_of s.spaces home) fd REQUEST_BYTES → IsWritableFile (view_of s.spaces home) fd
       by_start (on_console is console) = absurd (omega (arith, is))
       by_start (in_file is it) = it
+      by_start (in_pipe is it) = absurd (omega (arith, is))
 
   puts : Puts names names s.spaces sp home working_page (Some (record { frame = made.frame; perm = working_perm }))
   puts = taken_puts h n v.b v.is made
@@ -97,15 +101,15 @@ module _ {names : Names} {s : KernelState} {a : AbstractState} {sp : SpacesState
   in_still : (to : Step) → IsIn (moved to) v.b (service.Write fd va len) entered
   in_still to = record { program = is_in.program; phase = is_in.phase; silent = is_in.silent; awake = is_in.awake }
 
-  goes_to : (to : Step) → keeps_page to ≡ true → borne_in (place.InService (service.Write fd va len) to) ≡ None →
+  goes_to : (to : Step) → keeps_page to ≡ true → borne_in (place.InService (service.Write fd va len) to) ≡ None → is_calm_step to ≡ true →
       StandsAtStep (view_of sp home) (moved to) v.b (service.Write fd va len) to →
       StandsFor names (with_extra (with_spaces s sp) n (words_at SERVICE_WRITE to)) a
-  goes_to to keeps unborne so =
-      working_stands h n v.b v.is v.own v.outside (ap borne_in v.place) puts (slot_at s n).registers (words_at SERVICE_WRITE to)
+  goes_to to keeps unborne calm so =
+      working_stands h n v.b v.is v.own v.outside (ap borne_in v.place) (ap is_calm v.place) puts last (slot_at s n).registers (words_at SERVICE_WRITE to)
       (place.InService call to)
       (place_at (slot_at s n).registers SERVICE_WRITE to v.outside
       ∙ ap (λ (x : Service). place.InService x to) (named_at (slot_at s n) call step.TakingRequest v.place))
-      refl unborne refl refl (λ working. taken_own h n v.b v.is made)
+      refl unborne calm refl refl (λ working. taken_own h n v.b v.is made)
       (λ none. absurd (let contradiction : true ≡ false = sym keeps ∙ none in cc)) (taken_tables h n v.b v.is made) so (taken_row h n v.b v.is made)
       in_order
 
@@ -117,7 +121,7 @@ module _ {names : Names} {s : KernelState} {a : AbstractState} {sp : SpacesState
           (words_at SERVICE_WRITE (if t then step.ReadingNumber else step.BufferRegion 0 REQUEST_BYTES))) a
       by_len true test =
           let none : len ≡ 0 = grind (arith, nat_tests) in
-          goes_to step.ReadingNumber refl refl (record {
+          goes_to step.ReadingNumber refl refl refl (record {
             stage = entered;
             of_file = record { is_in = in_still step.ReadingNumber; below = given.below; file = file_still.file };
             allowed = file_still.writable;
@@ -131,7 +135,7 @@ module _ {names : Names} {s : KernelState} {a : AbstractState} {sp : SpacesState
           })
       by_len false test =
           let some : len ≢ 0 = grind (arith, nat_tests) in
-          goes_to (step.BufferRegion 0 REQUEST_BYTES) refl refl (
+          goes_to (step.BufferRegion 0 REQUEST_BYTES) refl refl refl (
             record {
               bytes = [];
               program = is_in.program;
@@ -150,12 +154,12 @@ pub request_taking_keeps : (s : KernelState) (n fd va len : ℕ) →
     place_of (slot_at s n) ≡ place.InService (service.Write fd va len) step.TakingRequest →
     (made : PageMade s n UTEMP working_perm (take_asked s n)) → IsInOrder (with_spaces s made.spaces) →
     KeepsStanding progress.Hidden n s (with_extra (with_spaces s made.spaces) n (words_at SERVICE_WRITE (step_taken len))) []
-request_taking_keeps s n fd va len stands made in_order a h quiet = (
+request_taking_keeps s n fd va len stands made in_order a h turn quiet = (
   refl,
   (
     h.0,
     request_page_stands h.1 n fd va len stands
         (allocated_made s.spaces made.spaces (slot_at s n).directory working_page working_perm made.frame h.1.in_order.frames in_order.frames refl made.is)
-        in_order,
+        in_order turn.last,
   ),
 )

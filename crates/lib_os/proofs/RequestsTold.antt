@@ -26,10 +26,13 @@ use Rattle.lib_os.specs.LibraryCall.{library_step}
 use Rattle.lib_os.specs.LibraryPages.{View}
 use Rattle.lib_os.specs.Places.{place_of}
 use Rattle.lib_os.specs.Rows.{Names, rows_of}
-use Rattle.lib_os.specs.StandsFor.{AsksOfFile, HasWholePath, IsIn, StandsFor, TellsRequest, borne_in, view_of, IsLowestFree}
+use Rattle.lib_os.specs.InService.{IsIn, IsLowestFree}
+use Rattle.lib_os.specs.StandsFor.{AsksOfFile, HasWholePath, StandsFor, TellsRequest, borne_in, view_of}
 use Rattle.lib_os.specs.StandsInHandler.{stage_with, wanted_from}
+use Rattle.lib_os.proofs.DescriptorLooks.{seen_calm}
 use Rattle.lib_os.proofs.DeviceLooks.{NamesFile, names_file}
 use Rattle.lib_os.proofs.Paths.{path_ends}
+use Rattle.lib_os.proofs.PipesStand.{calm_unmade, is_calm}
 use Rattle.lib_os.proofs.FreeSeen.{lowest_seen}
 use Rattle.lib_os.proofs.RequestPages.{IsBeside, brings_page}
 use Rattle.lib_os.proofs.Serving.{step_in}
@@ -124,11 +127,11 @@ writes_file a n b regs fd va len f name (byte ∷ rest) object named mode buffer
     rw (object, all, named) refl
 
 module _ {names : Names} {s : KernelState} {a : AbstractState} (h : StandsFor names s a) (n : ℕ) (b : Born) (at : a.slots n ≡ born b)
-    (unborne : borne_in (place_of (slot_at s n)) ≡ None) (fd : ℕ) where
+    (unborne : borne_in (place_of (slot_at s n)) ≡ None) (calm : is_calm (place_of (slot_at s n)) ≡ true) (fd : ℕ) where
   -- the file that the descriptor names
   pub file_named_so : {call : Service} → (it : AsksOfFile (view_of s.spaces (slot_at s n).directory) (slot_at s n) b call fd) →
       NamesFile s a b fd it.of_file.file.entry
-  file_named_so it = names_file h n b at unborne fd it.of_file.below it.of_file.file
+  file_named_so it = names_file h n b at unborne (calm_unmade (place_of (slot_at s n)) calm) (seen_calm h n b at calm) fd it.of_file.below it.of_file.file
 
   seek_asked : (offset : ℕ) → AsksOfFile (view_of s.spaces (slot_at s n).directory) (slot_at s n) b (service.Seek fd offset) fd →
       IsAsking a n b (service.Seek fd offset)
@@ -219,13 +222,13 @@ module _ {names : Names} {s : KernelState} {a : AbstractState} (h : StandsFor na
 
 -- that a file is opened, where a descriptor is free
 open_told : {names : Names} {s : KernelState} {a : AbstractState} → StandsFor names s a → (n : ℕ) (b : Born) → a.slots n ≡ born b →
-    (path mode fd : ℕ) → IsLowestFree (rows_of s.spaces (slot_at s n).directory) fd →
+    is_calm (place_of (slot_at s n)) ≡ true → (path mode fd : ℕ) → IsLowestFree (rows_of s.spaces (slot_at s n).directory) fd →
     HasWholePath (view_of s.spaces (slot_at s n).directory) (slot_at s n) b (service.OpenFile path mode) → IsAsking a n b (service.OpenFile path mode)
 unfolding library_step
-open_told {s = s} {a = a} h n b at path mode fd lowest it =
+open_told {s = s} {a = a} h n b at calm path mode fd lowest it =
     let call = service.OpenFile path mode in
     let regs = (slot_at s n).registers in
-    let free : is_none (lowest_free b) ≡ false = ap is_none (lowest_seen h n b at fd lowest) in
+    let free : is_none (lowest_free b) ≡ false = ap is_none (lowest_seen h n b at (seen_calm h n b at calm) fd lowest) in
     record {
       request = act (open_path (before_first is_nul it.bytes) mode) None;
       asks = λ server.
@@ -237,14 +240,15 @@ open_told {s = s} {a = a} h n b at path mode fd lowest it =
 
 -- what its page tells
 pub request_told : {names : Names} {s : KernelState} {a : AbstractState} → StandsFor names s a → (n : ℕ) (b : Born) → a.slots n ≡ born b →
-    borne_in (place_of (slot_at s n)) ≡ None → (call : Service) (fd : ℕ) → IsBeside (rows_of s.spaces (slot_at s n).directory) call fd →
+    borne_in (place_of (slot_at s n)) ≡ None → is_calm (place_of (slot_at s n)) ≡ true → (call : Service) (fd : ℕ) →
+    IsBeside (rows_of s.spaces (slot_at s n).directory) call fd →
     TellsRequest (view_of s.spaces (slot_at s n).directory) (slot_at s n) b call → IsAsking a n b call
-request_told {s = s} {a = a} h n b at unborne (service.Remove path) fd beside it =
+request_told {s = s} {a = a} h n b at unborne calm (service.Remove path) fd beside it =
     path_asked a n b (slot_at s n) path (view_of s.spaces (slot_at s n).directory) at it
-request_told h n b at unborne (service.OpenFile path mode) fd beside it = open_told h n b at path mode fd beside it.whole
-request_told h n b at unborne (service.Seek given offset) fd beside it = seek_asked h n b at unborne given offset it.asks
-request_told h n b at unborne (service.SetSize given size) fd beside it = set_size_asked h n b at unborne given size it.asks
-request_told h n b at unborne (service.Write given va len) fd beside it = write_asked h n b at unborne given va len it.asks
-request_told h n b at unborne (service.Read given va len) fd beside it = read_asked h n b at unborne given va len it.asks
-request_told h n b at unborne (service.Stat given va) fd beside it = stat_asked h n b at unborne given va it.asks
-request_told h n b at unborne _ fd beside it = absurd it
+request_told h n b at unborne calm (service.OpenFile path mode) fd beside it = open_told h n b at calm path mode fd beside it.whole
+request_told h n b at unborne calm (service.Seek given offset) fd beside it = seek_asked h n b at unborne calm given offset it.asks
+request_told h n b at unborne calm (service.SetSize given size) fd beside it = set_size_asked h n b at unborne calm given size it.asks
+request_told h n b at unborne calm (service.Write given va len) fd beside it = write_asked h n b at unborne calm given va len it.asks
+request_told h n b at unborne calm (service.Read given va len) fd beside it = read_asked h n b at unborne calm given va len it.asks
+request_told h n b at unborne calm (service.Stat given va) fd beside it = stat_asked h n b at unborne calm given va it.asks
+request_told h n b at unborne calm _ fd beside it = absurd it

@@ -33,10 +33,11 @@ use Rattle.lib_os.proofs.Effects.{Given}
 use Rattle.lib_os.proofs.EntriesStand.{seen_by}
 use Rattle.lib_os.proofs.Logical.{page_inside_programs}
 use Rattle.lib_os.proofs.MessagesStand.{word_alone, page_stands}
+use Rattle.lib_os.proofs.PipesStand.{is_calm}
 use Rattle.lib_os.proofs.Sends.{received_in, with_message}
 use Rattle.lib_os.proofs.Serving.{holds_page, step_in}
 use Rattle.lib_os.proofs.Slots.{slot_kept}
-use Rattle.lib_os.proofs.SlotsStand.{born_at}
+use Rattle.lib_os.proofs.SlotsStand.{CountsKept, born_at}
 use Rattle.lib_os.proofs.Waiters.{IsTaken, not_accepted, taken_is_sent}
 use Rattle.std.proofs.lemmas.Bool.{and_parts}
 use Rattle.jos_base.proofs.Maps.{upd-other}
@@ -165,16 +166,17 @@ module _ {names : Names} {s : KernelState} {a : AbstractState} (h : StandsFor na
 -- where its slot is as it was, whatever else is another
 pub answered_stands : {names : Names} {s : KernelState} {a : AbstractState} → StandsFor names s a → (n : ℕ) (b : Born) →
     a.slots n ≡ born b → (k : Slot) (word : ℕ) → slot_at s n ≡ k → borne_in (place_of k) ≡ None → holds_page (place_of k) ≡ false →
-    k.rendezvous.receiving ≡ false → b.blocked ≡ false → is_handlers k.registers.esp ≡ false → StandsFor names (service_answered s n word) (answered a n b k.registers word)
-answered_stands {names = names} {s = s} {a = a} h n b at k word same unborne holds silent awake outside =
+    is_calm (place_of k) ≡ true → k.rendezvous.receiving ≡ false → b.blocked ≡ false → is_handlers k.registers.esp ≡ false → StandsFor names (service_answered s n word) (answered a n b k.registers word)
+answered_stands {names = names} {s = s} {a = a} h n b at k word same unborne holds calm silent awake outside =
     subst (λ (x : Slot). StandsFor names (service_answered s n word) (answered a n b x.registers word)) same
     (back_stands h n b at (record (slot_at s n).registers { eax = word }) (ap (λ (x : Slot). borne_in (place_of x)) same ∙ unborne)
-    (ap (λ (x : Slot). holds_page (place_of x)) same ∙ holds) (ap (λ (x : Slot). x.rendezvous.receiving) same ∙ silent) awake
+    (ap (λ (x : Slot). holds_page (place_of x)) same ∙ holds) (ap (λ (x : Slot). is_calm (place_of x)) same ∙ calm)
+    (ap (λ (x : Slot). x.rendezvous.receiving) same ∙ silent) awake
     (ap (λ (x : Slot). is_handlers x.registers.esp) same ∙ outside) refl refl)
 
 module _ {names : Names} {s : KernelState} {a : AbstractState} (h : StandsFor names s a) (n : ℕ) (b : Born) (at : a.slots n ≡ born b)
     (unborne : borne_in (place_of (slot_at s n)) ≡ None) (holds : holds_page (place_of (slot_at s n)) ≡ false)
-    (silent : (slot_at s n).rendezvous.receiving ≡ false) (awake : b.blocked ≡ false) (outside : is_handlers (slot_at s n).registers.esp ≡ false)
+    (calm : is_calm (place_of (slot_at s n)) ≡ true) (silent : (slot_at s n).rendezvous.receiving ≡ false) (awake : b.blocked ≡ false) (outside : is_handlers (slot_at s n).registers.esp ≡ false)
     (t : ℕ) (ne : t ≢ n) (c : Born) (there : a.slots t ≡ born c) (taken : IsTaken (slot_at s t) c b.id) (value : ℕ) (small : value < 2 ^ 32)
     (va : ℕ) where
   abbrev come : AbstractState
@@ -188,15 +190,16 @@ module _ {names : Names} {s : KernelState} {a : AbstractState} (h : StandsFor na
       StandsFor names (service_answered (with_message s n t value 0) n 0) (sent a n b (slot_at s n).registers t value va c taken.w)
   word_sent none =
       answered_stands (word_alone h n b at t c there taken value small va none) n b still (slot_at s n) 0
-      (slot_kept s t (received_in (slot_at s t) (slot_at s n).id value 0) n (λ e. ne (sym e))) unborne holds silent awake outside
+      (slot_kept s t (received_in (slot_at s t) (slot_at s n).id value 0) n (λ e. ne (sym e))) unborne holds calm silent awake outside
 
   -- a page came with it
   pub page_sent : {sp : SpacesState} → is_page_inside va ≡ true → (x : Entry) → rows_of s.spaces (slot_at s n).directory (page_number va) ≡ Some x →
       (is_shared x.perm || not (may_write x.perm)) ≡ true →
       Given s.spaces sp (slot_at s t).directory (page_number taken.w.va) x → va ≢ 0 → taken.w.va ≢ 0 →
-      IsInOrder (with_message (with_spaces s sp) n t value x.perm) →
+      IsInOrder (with_message (with_spaces s sp) n t value x.perm) → ((q : ℕ) → q ≢ t → CountsKept s.spaces sp (slot_at s q)) →
       StandsFor names (service_answered (with_message (with_spaces s sp) n t value x.perm) n 0)
       (sent a n b (slot_at s n).registers t value va c taken.w)
-  page_sent {sp = sp} inside x hx passes given some wanted in_order =
-      answered_stands (page_stands h n b at t c there taken value small va inside x hx passes unborne given some wanted in_order) n b still (slot_at s n) 0
-      (slot_kept (with_spaces s sp) t (received_in (slot_at s t) (slot_at s n).id value x.perm) n (λ e. ne (sym e))) unborne holds silent awake outside
+  page_sent {sp = sp} inside x hx passes given some wanted in_order counts =
+      answered_stands (page_stands h n b at t c there taken value small va inside x hx passes unborne given some wanted in_order counts) n b
+      still (slot_at s n) 0
+      (slot_kept (with_spaces s sp) t (received_in (slot_at s t) (slot_at s n).id value x.perm) n (λ e. ne (sym e))) unborne holds calm silent awake outside

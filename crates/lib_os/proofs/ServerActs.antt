@@ -20,6 +20,7 @@ use Rattle.fs_layout.specs.FileActs.{there, with_new_file, write_act, write_to}
 use Rattle.fs_layout.specs.FileTree.{FileAct, FileSystem, NamedNode, Node, a_directory, a_file, named_at, node_at, open_path, read_file, remove_path}
 use Rattle.fs_layout.specs.FileTree.{directory_size, listed, set_file_size, stat_file, sync_files, write_file}
 use Rattle.lib_os.specs.declared.numbers.TheConstants.{DESCRIPTORS, DISKMAP, MAXOPEN, OPEN_RECORDS, REQUEST}
+use Rattle.lib_os.specs.declared.place.Place.{Place}
 use Rattle.lib_os.specs.AbstractState.{AbstractSlot, AbstractState, Born, Object, OpenFile, Request, Server, TablePlace, act, acted, born, busy, file}
 use Rattle.lib_os.specs.AbstractState.{free, idle, leaving, looking, read_end, seek, serving, terminal, unborn, write_end}
 use Rattle.lib_os.specs.DescriptorPages.{HasObject, Things, number_of}
@@ -27,10 +28,13 @@ use Rattle.lib_os.specs.Descriptors.{holds_in, is_held, is_name}
 use Rattle.lib_os.specs.FileServer.{act_done, file_opened, is_count, is_file_open, is_held_by, looked, low_mode, moved_on, offset_in}
 use Rattle.lib_os.specs.FileServer.{served, server_step, with_offset}
 use Rattle.lib_os.specs.GuestStep.{born_in}
-use Rattle.lib_os.specs.Rows.{AreNamed, IsNamed, Names, ShowsBy, descriptor_page, is_descriptor, is_programs, logical, rows_of}
+use Rattle.lib_os.specs.Rows.{AreNamed, IsNamed, Names, ShowsBy, descriptor_page, is_of_descriptor, is_programs, logical, rows_of, is_clients, is_pipe_page, is_shared}
 use Rattle.lib_os.specs.StandsFor.{IsServerStatus, StandsFor, StandsForSlot, is_passed, is_servers_page, things_in}
-use Rattle.lib_os.proofs.Holders.{second_so}
-use Rattle.lib_os.proofs.DescriptorLooks.{name_seen}
+use Rattle.lib_os.specs.PipeEnds.{EndsStandAt, is_made}
+use Rattle.lib_os.specs.Places.{place_of}
+use Rattle.lib_os.specs.AbstractRun.{pipe_of}
+use Rattle.lib_os.proofs.Holders.{logical_unmade, second_so, stands_named}
+use Rattle.lib_os.proofs.PipesStand.{ends_moved, same_places}
 use Rattle.lib_os.proofs.FilesLeft.{name-same}
 use Rattle.lib_os.proofs.Logical.{clients_are, logical_of}
 use Rattle.lib_os.proofs.ServerReplies.{server_goes_on, status_at}
@@ -102,45 +106,53 @@ blocks_stay is_open files sync_files = refl
 -- ---- what a client has a descriptor's page of is held
 
 module _ {names : Names} {s : KernelState} {a : AbstractState} (h : StandsFor names s a) where
-  its_holder : (n p : ℕ) (x : Entry) (b : Born) → n < NENV → a.slots n ≡ born b → is_descriptor p ≡ true →
+  its_holder : (n p : ℕ) (x : Entry) (b : Born) → n < NENV → a.slots n ≡ born b → is_of_descriptor p ≡ true → is_pipe_page p ≡ false →
+      is_made (place_of (slot_at s n)) (p - page_number FDTABLE) ≡ false →
       rows_of s.spaces (slot_at s n).directory p ≡ Some x → is_held a (names.name x.frame) ≡ true
-  its_holder n p x b small at descriptor is =
+  its_holder n p x b small at descriptor no_pipe unmade is =
       let fd : ℕ = p - page_number FDTABLE in
       let below : fd < DESCRIPTORS = grind (arith, nat_tests) in
       let page : descriptor_page fd ≡ p = grind (arith, nat_tests) in
       let names_it : b.descriptors fd ≡ Some (names.name x.frame) =
-      name_seen h n b at fd x below (ap (rows_of s.spaces (slot_at s n).directory) page ∙ is) in
+      stands_named h n b at fd x below (ap (rows_of s.spaces (slot_at s n).directory) page ∙ is) unmade in
       some_below-at (λ k. holds_in (born_in (a.slots k)) (names.name x.frame)) NENV n small
       (ap (λ (slot : AbstractSlot). holds_in (born_in slot) (names.name x.frame)) at
       ∙ some_below-at (λ k. is_name (b.descriptors k) (names.name x.frame)) DESCRIPTORS fd below
       (ap (λ (o : Option ℕ). is_name o (names.name x.frame)) names_it ∙ name-same (names.name x.frame)))
 
   -- a child that is not born has it from its parent
-  slots_held : (m p : ℕ) (x : Entry) → 0 ≢ m → is_live (slot_at s m) ≡ true → is_descriptor p ≡ true → (slot : AbstractSlot) → a.slots m ≡ slot →
+  slots_held : (m p : ℕ) (x : Entry) → 0 ≢ m → is_live (slot_at s m) ≡ true → is_of_descriptor p ≡ true → is_pipe_page p ≡ false →
+      is_made (place_of (slot_at s m)) (p - page_number FDTABLE) ≡ false → (slot : AbstractSlot) → a.slots m ≡ slot →
       rows_of s.spaces (slot_at s m).directory p ≡ Some x → StandsForSlot names s.spaces (slot_at s m) slot → is_held a (names.name x.frame) ≡ true
-  slots_held m p x other live descriptor (free id) at is k =
+  slots_held m p x other live descriptor no_pipe unmade (free id) at is k =
       absurd (let contradiction : false ≡ true = sym (ap (λ (j : Slot). is_live j) k) ∙ live in cc)
-  slots_held m p x other live descriptor (serving id) at is k =
+  slots_held m p x other live descriptor no_pipe unmade (serving id) at is k =
       absurd (other (sym (sym (h.tabled.ids m live) ∙ ap (λ (i : ℕ). i % NENV) (k.id_is ∙ k.first))))
-  slots_held m p x other live descriptor (born b) at is k =
-      let small : m < NENV = let named_by = h.tabled.ids m live in omega (arith, named_by) in its_holder m p x b small at descriptor is
-  slots_held m p x other live descriptor (unborn id parent) at is k = by_passed (is_passed (h.children.borne m id parent at).step p) refl
+  slots_held m p x other live descriptor no_pipe unmade (born b) at is k =
+      let small : m < NENV = let named_by = h.tabled.ids m live in omega (arith, named_by) in its_holder m p x b small at descriptor no_pipe unmade is
+  slots_held m p x other live descriptor no_pipe unmade (unborn id parent) at is k = by_passed (is_passed (h.children.borne m id parent at).step p) refl
     where
       by_passed : (t : Bool) → is_passed (h.children.borne m id parent at).step p ≡ t → is_held a (names.name x.frame) ≡ true
       by_passed true passed =
           let c = h.children.borne m id parent at in
-          its_holder (parent % NENV) p x c.b (omega arith) c.born_by descriptor (sym (c.handed p descriptor passed) ∙ is)
+          its_holder (parent % NENV) p x c.b (omega arith) c.born_by descriptor no_pipe
+          (ap (λ (q : Place). is_made q (p - page_number FDTABLE)) c.at) (sym (c.handed p descriptor passed) ∙ is)
       by_passed false off =
           let c = h.children.borne m id parent at in
-          absurd (none-some x (sym (c.rest p (second_so (is_programs p) (is_descriptor p) descriptor) off) ∙ is))
+          absurd (none-some x (sym (c.rest p (second_so (is_programs p) (is_of_descriptor p) descriptor) off) ∙ is))
 
-  counted_held : (n p : ℕ) (x : Entry) → logical s.spaces s.environments.slots n p ≡ Some x → is_descriptor p ≡ true →
-      is_held a (names.name x.frame) ≡ true
-  counted_held n p x counts descriptor =
+  counted_held : (n p : ℕ) (x : Entry) → logical s.spaces s.environments.slots n p ≡ Some x → is_shared x.perm ≡ true → is_of_descriptor p ≡ true →
+      is_pipe_page p ≡ false → is_held a (names.name x.frame) ≡ true
+  counted_held n p x counts shared_page descriptor no_pipe =
+      let fd : ℕ = p - page_number FDTABLE in
+      let below : fd < DESCRIPTORS = grind (arith, nat_tests) in
+      let page : descriptor_page fd ≡ p = grind (arith, nat_tests) in
+      let unmade = logical_unmade (is_clients n (slot_at s n)) (place_of (slot_at s n)) (rows_of s.spaces (slot_at s n).directory) fd x below
+      (ap (logical s.spaces s.environments.slots n) page ∙ counts) shared_page in
       let found = logical_of s.spaces s.environments.slots n p x counts in
       let client = clients_are n (slot_at s n) found.0 in
       ap (λ (f : ℕ). is_held a (names.name f)) (sym found.1.frame)
-      ∙ slots_held n p found.1.entry client.0 client.1 descriptor (a.slots n) refl found.1.stands (h.slots n)
+      ∙ slots_held n p found.1.entry client.0 client.1 descriptor no_pipe unmade (a.slots n) refl found.1.stands (h.slots n)
 
   -- ---- the abstract state is another
 
@@ -153,7 +165,8 @@ module _ {names : Names} {s : KernelState} {a : AbstractState} (h : StandsFor na
   still_named objects opened next more same held n p x counts shared_page = record {
     home = was.home;
     kind = was.kind;
-    shows = by_kind (names.is_object name) refl was.shows;
+    of_pipe = was.of_pipe;
+    shows = by_kind (names.is_object name) (names.is_pipe name) refl refl was.shows;
     old = more name was.old;
   }
     where
@@ -181,15 +194,19 @@ module _ {names : Names} {s : KernelState} {a : AbstractState} (h : StandsFor na
         stands = is.stands;
         same = is.same;
       }
-      by_object by (read_end pipe) is = is
-      by_object by (write_end pipe) is = is
+      by_object by (read_end pipe) is =
+          record { numbered = is.numbered; device = is.device; mode_is = is.mode_is; apart = is.apart }
+      by_object by (write_end pipe) is =
+          record { numbered = is.numbered; device = is.device; mode_is = is.mode_is; apart = is.apart }
 
-      by_kind : (object : Bool) → names.is_object name ≡ object → ShowsBy (things_in s a) name x.frame object (a.shared name) bytes →
-          ShowsBy things name x.frame object (a.shared name) bytes
-      by_kind false kind is = is
-      by_kind true kind is =
+      by_kind : (object is_pipe : Bool) → names.is_object name ≡ object → names.is_pipe name ≡ is_pipe →
+          ShowsBy (things_in s a) name x.frame object is_pipe (a.shared name) bytes →
+          ShowsBy things name x.frame object is_pipe (a.shared name) bytes
+      by_kind false is_pipe kind so is = is
+      by_kind true true kind so is = record { holds = is.holds; few = is.few; apart = is.apart }
+      by_kind true false kind so is =
           subst (λ (o : Object). HasObject things name x.frame o bytes) (sym (same name was.old))
-          (by_object (counted_held n p x counts (sym was.kind ∙ kind)) (a.objects name) is)
+          (by_object (counted_held n p x counts shared_page (sym was.kind ∙ kind) (sym was.of_pipe ∙ so)) (a.objects name) is)
 
   -- the server does something else, with other files of as many blocks
   now_stands : (objects : ℕ → Object) (opened : ℕ → TablePlace) (next : ℕ) (files : FileSystem) (server : Server) →
@@ -206,6 +223,10 @@ module _ {names : Names} {s : KernelState} {a : AbstractState} (h : StandsFor na
     users = h.users;
     whole = h.whole;
     beside = h.beside;
+    ends = λ m. still_ends m (a.slots m) refl (h.ends m);
+    locks = h.locks;
+    runs = h.runs;
+    old = λ n fd name b is names_it. more name (h.old n fd name b is names_it);
     free_slots = h.free_slots;
     first = h.first;
     server = record {
@@ -221,6 +242,16 @@ module _ {names : Names} {s : KernelState} {a : AbstractState} (h : StandsFor na
     in_order = h.in_order;
   }
     where
+      still_ends : (m : ℕ) (slot : AbstractSlot) → a.slots m ≡ slot →
+          EndsStandAt names a.objects (place_of (slot_at s m)) (rows_of s.spaces (slot_at s m).directory) slot →
+          EndsStandAt names objects (place_of (slot_at s m)) (rows_of s.spaces (slot_at s m).directory) slot
+      still_ends m (free id) at ends = tt
+      still_ends m (unborn id parent) at ends = tt
+      still_ends m (born b) at ends =
+          ends_moved (same_places refl) (λ fd. refl) (λ fd name has. ap (λ (o : Object). pipe_of (Some o)) (same name (h.old m fd name b at has)))
+          (λ fd below. refl) (λ fd x below is. refl) ends
+      still_ends m (serving id) at ends = tt
+
       -- of four, where the last is the same and the second of the third is so, too
       by_parts : (t u v w x y z : Bool) → (y ≡ true → z ≡ true) → (t || u || (v && w && y) || x) ≡ true → (t || u || (v && w && z) || x) ≡ true
       by_parts true u v w x y z too is = refl

@@ -30,9 +30,11 @@ use Rattle.lib_os.specs.LibrarySteps.{AbstractFollows, KeepsServer, KeepsStandin
 use Rattle.lib_os.specs.Places.{place_of, words_at, is_handlers}
 use Rattle.lib_os.specs.Rows.{Names, rows_of}
 use Rattle.lib_os.specs.Services.{service_of}
-use Rattle.lib_os.specs.StandsFor.{AwaitsRequest, HasAsked, HasServer, IsIn, IsServerStatus, StandsAt, StandsFor, StandsForBorn, StandsForServer}
+use Rattle.lib_os.specs.InService.{IsIn}
+use Rattle.lib_os.specs.StandsFor.{AwaitsRequest, HasAsked, HasServer, IsServerStatus, StandsAt, StandsFor, StandsForBorn, StandsForServer}
 use Rattle.lib_os.specs.StandsFor.{borne_in, upcall_at, view_of}
 use Rattle.lib_os.specs.UserCalls.{CallStep, Got, got, giving, system}
+use Rattle.lib_os.proofs.PipesStand.{calm_places, descriptors_turned, is_calm}
 use Rattle.lib_os.proofs.GoingOn.{in_with_words, words_stand}
 use Rattle.lib_os.proofs.Logical.{is_plain}
 use Rattle.lib_os.proofs.Numbered.{named_at}
@@ -130,10 +132,10 @@ asking_may_wait a n b k at is_in not_idle quantum =
 
 -- its own part
 asked_own : {names : Names} {s : SpacesState} {k : Slot} {b : Born} (id : ℕ) → StandsForBorn names s k b →
-    is_handlers k.registers.esp ≡ false → holds_page (place_of k) ≡ false → IsIn k b service.Sync entered → id ≡ k.id →
+    is_handlers k.registers.esp ≡ false → holds_page (place_of k) ≡ false → is_calm (place_of k) ≡ true → IsIn k b service.Sync entered → id ≡ k.id →
     service_of (record k.registers { eax = SERVICE_SYNC }) ≡ service.Sync →
     StandsForBorn names s (record k { extra = words_at SERVICE_SYNC (step.Awaiting id) }) (record b { phase = in_service service.Sync asked })
-asked_own {s = s} {k = k} {b = b} id own outside holds is_in self names_it =
+asked_own {names = names} {s = s} {k = k} {b = b} id own outside holds calm is_in self names_it =
     let j : Slot = record k { extra = words_at SERVICE_SYNC (step.Awaiting id) } in
     let c : Born = record b { phase = in_service service.Sync asked } in
     let there : place_of j ≡ place.InService service.Sync (step.Awaiting id) =
@@ -147,7 +149,7 @@ asked_own {s = s} {k = k} {b = b} id own outside holds is_in self names_it =
       env_type = own.env_type;
       runs = own.runs;
       upcall = own.upcall ∙ plain_upcall (place_of k) plain ∙ sym (ap upcall_at there);
-      descriptors = own.descriptors;
+      descriptors = descriptors_turned names s k.directory (place_of k) (place_of j) b.descriptors calm (ap is_calm there) own.descriptors;
       memory = own.memory;
       library = library_moved (place_of k) (place_of j) k.extra j.extra (rows_of s k.directory)
           (plain_copy (place_of k) plain ∙ sym (plain_copy (place_of j) (ap is_in_handler there)))
@@ -184,7 +186,7 @@ module _ {names : Names} {s : KernelState} {a : AbstractState} (h : StandsFor na
   -- the word has come to the server
   pub request_stands : StandsFor names (server_asked s n) (with_request a n)
   request_stands =
-      server_set h told (with_request a n).server refl (stopped_settles (slot_at s 0) told refl refl refl) told_stands told_has
+      server_set h told (with_request a n).server refl (stopped_settles (slot_at s 0) told refl refl refl refl) told_stands told_has
 
   other : n ≢ 0
   other same = born_not_first h n v.b v.is (sym same)
@@ -201,13 +203,14 @@ module _ {names : Names} {s : KernelState} {a : AbstractState} (h : StandsFor na
       let outside : is_handlers k.registers.esp ≡ false = ap (λ (x : Slot). is_handlers x.registers.esp) kept ∙ v.outside in
       let place_is : place_of k ≡ place.InService service.Sync (step.Asking id) = ap (λ (x : Slot). place_of x) kept ∙ v.place in
       let names_it : service_of (record k.registers { eax = SERVICE_SYNC }) ≡ service.Sync = named_at k service.Sync (step.Asking id) place_is in
-      let own = asked_own id (born_at request_stands n v.b v.is) outside (ap holds_page place_is)
+      let own = asked_own id (born_at request_stands n v.b v.is) outside (ap holds_page place_is) (ap is_calm place_is)
       (subst (λ (x : Slot). IsIn x v.b service.Sync entered) (sym kept) v.at.1) (v.at.0 ∙ sym (ap (λ (x : Slot). x.id) kept)) names_it in
       let j : Slot = record k { extra = words_at SERVICE_SYNC (step.Awaiting id) } in
       let there : place_of j ≡ place.InService service.Sync (step.Awaiting id) =
       place_at k.registers SERVICE_SYNC (step.Awaiting id) outside ∙ ap (λ (x : Service). place.InService x (step.Awaiting id)) names_it in
       slot_changed request_stands n v.b v.is j (record v.b { phase = in_service service.Sync asked }) refl
-      (record { id = refl; env_type = refl; calm = λ runs. runs }) (ap is_plain place_is) (ap is_plain there) own
+      (record { id = refl; env_type = refl; turns = refl; calm = λ runs. runs }) (ap is_plain place_is) (ap is_plain there) own
+      (calm_places (ap is_calm place_is) (ap is_calm there)) (λ fd. refl)
 
 -- ---- by its answer
 
@@ -244,7 +247,7 @@ module _ (s : KernelState) (n id : ℕ) (stands : place_of (slot_at s n) ≡ pla
   -- the word has come
   pub asked_keeps : (ask_call s n).gives ≡ got (Answered 0) →
       KeepsStanding progress.Visible n s (with_extra mid n (words_at SERVICE_SYNC (step.Awaiting id))) []
-  asked_keeps gives a h quiet = by_outcome (outcome h.1)
+  asked_keeps gives a h turn quiet = by_outcome (outcome h.1)
     where
       by_outcome : AsksOrWaits s a n → AbstractFollows progress.Visible n (with_extra mid n (words_at SERVICE_SYNC (step.Awaiting id))) a []
       by_outcome (waits not_idle call_is) =
@@ -265,7 +268,7 @@ module _ (s : KernelState) (n id : ℕ) (stands : place_of (slot_at s n) ≡ pla
   -- the server does not wait
   pub waiting_keeps : (ask_call s n).gives ≡ got (Answered (negated E_IPC_NOT_RECV)) →
       KeepsStanding progress.Waited n s (with_extra mid n (words_at SERVICE_SYNC (step.Pausing id))) []
-  waiting_keeps gives a h quiet = by_outcome (outcome h.1)
+  waiting_keeps gives a h turn quiet = by_outcome (outcome h.1)
     where
       by_outcome : AsksOrWaits s a n → AbstractFollows progress.Waited n (with_extra mid n (words_at SERVICE_SYNC (step.Pausing id))) a []
       by_outcome (asks is so call_is) =
@@ -278,8 +281,8 @@ module _ (s : KernelState) (n id : ℕ) (stands : place_of (slot_at s n) ≡ pla
               (
                 h.0,
                 subst (λ (t : KernelState). StandsFor h.0 (with_extra t n words) a) (sym (came_to s (negated E_IPC_NOT_RECV) call_is))
-                    (words_stand h.1 n SERVICE_SYNC v.b v.is v.own v.outside (ap borne_in v.place) service.Sync (step.Pausing id)
-                    (ap holds_page v.place) refl (named_at (slot_at s n) service.Sync (step.Asking id) stands)
+                    (words_stand h.1 n SERVICE_SYNC v.b v.is v.own v.outside (ap borne_in v.place) (ap is_calm v.place) service.Sync
+                    (step.Pausing id) (ap holds_page v.place) refl refl (named_at (slot_at s n) service.Sync (step.Asking id) stands)
                     (v.at.0, in_with_words words v.at.1)),
               ),
             ),
@@ -329,7 +332,7 @@ asking_answered s n live = try_send_answered s n FIRST_ENV_ID FSREQ_SYNC UTOP 0 
 
 pub pausing_keeps : (s : KernelState) (n id : ℕ) → place_of (slot_at s n) ≡ place.InService service.Sync (step.Pausing id) →
     KeepsStanding progress.Hidden n s (with_extra (with_status s n Runnable) n (words_at SERVICE_SYNC (step.Asking id))) []
-pausing_keeps s n id stands a h quiet =
+pausing_keeps s n id stands a h turn quiet =
     let v = served h.1 n service.Sync (step.Pausing id) stands in
     let ran = status_stands h.1 n v.b v.is v.at.1.awake in
     let w = words_at SERVICE_SYNC (step.Asking id) in
@@ -343,8 +346,9 @@ pausing_keeps s n id stands a h quiet =
         h.0,
         words_stand ran n SERVICE_SYNC v.b v.is (born_at ran n v.b v.is)
             (ap (λ (x : Slot). is_handlers x.registers.esp) slot_is ∙ v.outside)
-            (ap (λ (x : Slot). borne_in (place_of x)) slot_is ∙ ap borne_in v.place) service.Sync (step.Asking id)
-            (ap (λ (x : Slot). holds_page (place_of x)) slot_is ∙ ap holds_page v.place) refl
+            (ap (λ (x : Slot). borne_in (place_of x)) slot_is ∙ ap borne_in v.place)
+            (ap (λ (x : Slot). is_calm (place_of x)) slot_is ∙ ap is_calm v.place) service.Sync (step.Asking id)
+            (ap (λ (x : Slot). holds_page (place_of x)) slot_is ∙ ap holds_page v.place) refl refl
             (subst (λ (x : Slot). service_of (record x.registers { eax = SERVICE_SYNC }) ≡ service.Sync) (sym slot_is)
             (named_at (slot_at s n) service.Sync (step.Pausing id) stands))
             (subst (λ (x : Slot). (id ≡ x.id) × IsIn (record x { extra = w }) v.b service.Sync entered) (sym slot_is)

@@ -44,7 +44,7 @@ use Rattle.lib_os.specs.InOrder.{HasOneUse, IsInOrder, AreFree}
 use Rattle.lib_os.specs.declared.service.Service.{Service}
 use Rattle.lib_os.specs.declared.service.Service.TheVariants as service
 use Rattle.lib_os.specs.LibrarySteps.{BringsRequest, Stands, KeepsServer, LeavesOrAsks, asked_it, left_alone}
-use Rattle.lib_os.specs.Rows.{Names, is_descriptor}
+use Rattle.lib_os.specs.Rows.{Names, is_of_descriptor}
 use Rattle.lib_os.specs.StandsFor.{StandsFor, StandsForSlot, StandsForServer}
 use Rattle.lib_os.specs.UserCalls.{CallStep, giving, accessing, by_access, faulting, user_byte, user_word, with_user_byte, with_user_word}
 use Rattle.lib_os.specs.UserCalls.{got, with_bytes_put, load, load_byte, store, store_byte, exchange, restored, restore_frame, asking, sets_own, system}
@@ -131,29 +131,29 @@ keeps_server s t n left then_so other live a h =
 
 -- a word that lies there lies in no page of a descriptor's
 abbrev pub IsWordBeside : ℕ → Type 0
-IsWordBeside va = (is_descriptor (page_number va) ≡ false) × (is_descriptor (page_number (va + 3)) ≡ false)
+IsWordBeside va = (is_of_descriptor (page_number va) ≡ false) × (is_of_descriptor (page_number (va + 3)) ≡ false)
 
 -- as it is where it lies at a multiple of four, in one page
-pub aligned_beside : (va : ℕ) → va % 4 ≡ 0 → is_descriptor (page_number va) ≡ false → IsWordBeside va
+pub aligned_beside : (va : ℕ) → va % 4 ≡ 0 → is_of_descriptor (page_number va) ≡ false → IsWordBeside va
 aligned_beside va aligned other =
     let same : (va + 3) / PGSIZE ≡ va / PGSIZE = omega (arith, aligned) in
-    (other, ap is_descriptor same ∙ other)
+    (other, ap is_of_descriptor same ∙ other)
 
 -- then each of its bytes does
-word_byte : (va i : ℕ) → i ≤ 3 → IsWordBeside va → is_descriptor (page_number (va + i)) ≡ false
+word_byte : (va i : ℕ) → i ≤ 3 → IsWordBeside va → is_of_descriptor (page_number (va + i)) ≡ false
 word_byte va i small it =
     let first = it.0 in
     let last = it.1 in
     grind (arith, nat_tests)
 
 -- nor is the frame of a fault pushed in one
-place_beside : (esp place : ℕ) → upcall_place esp ≡ Some place → is_descriptor (page_number place) ≡ false
+place_beside : (esp place : ℕ) → upcall_place esp ≡ Some place → is_of_descriptor (page_number place) ≡ false
 unfolding upcall_place
 place_beside esp place is = by_tests (nat_le exception_stack esp && nat_lt esp UXSTACKTOP) refl (nat_lt esp (exception_stack + frame_size + 4)) refl is
   where
     by_tests : (a : Bool) → (nat_le exception_stack esp && nat_lt esp UXSTACKTOP) ≡ a → (b : Bool) → nat_lt esp (exception_stack + frame_size + 4) ≡ b →
         (if a then (if b then None else Some (esp - (frame_size + 4))) else Some (UXSTACKTOP - frame_size)) ≡ Some place →
-        is_descriptor (page_number place) ≡ false
+        is_of_descriptor (page_number place) ≡ false
     by_tests false ea b eb some = let same : UXSTACKTOP - frame_size ≡ place = same_Some _ place some in grind (arith, nat_tests)
     by_tests true ea true eb none = absurd cc
     by_tests true ea false eb some =
@@ -514,7 +514,7 @@ module _ (d : ℕ) (s : KernelState) (n : ℕ) (h : IsAside d s n) where
 
   -- ---- accesses
 
-  entered_stays : (fault : PageFault) (place : ℕ) → is_descriptor (page_number place) ≡ false → (reached : Result FrameOffset PageFault) →
+  entered_stays : (fault : PageFault) (place : ℕ) → is_of_descriptor (page_number place) ≡ false → (reached : Result FrameOffset PageFault) →
       reach_in s.spaces (slot_at s n).directory place Write ≡ reached → IfSome (handler_entered s n fault place reached) Left
   entered_stays fault place apart (Err refusal) is = tt
   entered_stays fault place apart (Ok at) is =
@@ -563,7 +563,7 @@ module _ (d : ℕ) (s : KernelState) (n : ℕ) (h : IsAside d s n) where
           })
       by_reach (Err fault) = fault_stays _ fault (handled s n fault) (handled_server fault)
 
-  byte_put : (k : KernelState) (va byte : ℕ) → is_descriptor (page_number va) ≡ false → Writes k → Writes (with_user_byte k n va byte)
+  byte_put : (k : KernelState) (va byte : ℕ) → is_of_descriptor (page_number va) ≡ false → Writes k → Writes (with_user_byte k n va byte)
   byte_put k va byte apart w = record {
     slot = w.slot;
     own = w.own;
@@ -573,14 +573,14 @@ module _ (d : ℕ) (s : KernelState) (n : ℕ) (h : IsAside d s n) where
         (stored_beside home d s.spaces h.frames k.spaces va byte w.pages);
   }
 
-  bytes_put : (k : KernelState) (va : ℕ) (bytes : List ℕ) → ((i : ℕ) → i < length bytes → is_descriptor (page_number (va + i)) ≡ false) → Writes k →
+  bytes_put : (k : KernelState) (va : ℕ) (bytes : List ℕ) → ((i : ℕ) → i < length bytes → is_of_descriptor (page_number (va + i)) ≡ false) → Writes k →
       Left (with_bytes_put k n va bytes)
   bytes_put k va [] apart w = record { slot = w.slot; space = w.space }
   bytes_put k va (byte ∷ rest) apart w =
       bytes_put (with_user_byte k n va byte) (va + 1) rest
-      (λ i less. ap (λ (q : ℕ). is_descriptor (page_number q)) (let same : va + 1 + i ≡ va + (i + 1) = omega arith in same)
+      (λ i less. ap (λ (q : ℕ). is_of_descriptor (page_number q)) (let same : va + 1 + i ≡ va + (i + 1) = omega arith in same)
       ∙ apart (i + 1) (omega (arith, less)))
-      (byte_put k va byte (ap (λ (q : ℕ). is_descriptor (page_number q)) (let same : va ≡ va + 0 = omega arith in same) ∙ apart 0 (omega arith)) w)
+      (byte_put k va byte (ap (λ (q : ℕ). is_of_descriptor (page_number q)) (let same : va ≡ va + 0 = omega arith in same) ∙ apart 0 (omega arith)) w)
 
   word_put : (k : KernelState) (va word : ℕ) → IsWordBeside va → Writes k → Left (with_user_word k n va word)
   word_put k va word apart w =
@@ -600,7 +600,7 @@ module _ (d : ℕ) (s : KernelState) (n : ℕ) (h : IsAside d s n) where
   store_server va word apart =
       access_stays va Write (λ after. giving (with_user_word after n va word) tt) (λ k w. word_put k va word apart w)
 
-  pub store_byte_server : (va byte : ℕ) → is_descriptor (page_number va) ≡ false → Left (store_byte s n va byte).state
+  pub store_byte_server : (va byte : ℕ) → is_of_descriptor (page_number va) ≡ false → Left (store_byte s n va byte).state
   unfolding store_byte
   store_byte_server va byte apart =
       access_stays va Write (λ after. giving (with_user_byte after n va byte) tt)

@@ -1,11 +1,11 @@
 -- The file server replies with the page of a file that it has opened: the client that waits for it has that as its lowest free descriptor's page,
 -- which names the file, and is answered the descriptor.
 use Rattle.std.proofs.Common.{◌≡◌, ◌≢◌, ◌∙◌, ◌+◌, ◌*◌, ◌/◌, ◌%◌, ◌^◌, ◌<◌, ◌==◌, ◌&&◌, ◌||◌, ℕ, Bool, true, false, List, [], ◌∷◌}
-use Rattle.std.proofs.Common.{Option, Some, None, refl, sym, ap, subst, arith, if◌then◌else◌}
+use Rattle.std.proofs.Common.{Option, Some, None, inl, inr, refl, sym, ap, subst, arith, if◌then◌else◌}
 use Rattle.std.specs.Prelude.{is_some, nat_lt}
 use Rattle.std.specs.Option.{option_map}
 use Rattle.std.proofs.lemmas.Bool.Decides.{nat_tests}
-use Rattle.std.proofs.lemmas.Option.{same_Some}
+use Rattle.std.proofs.lemmas.Option.{same_Some, none-some}
 use Rattle.jos_base.specs.declared.called.Called.{Called}
 use Rattle.jos_base.specs.declared.called.Called.TheVariants.{Answered}
 use Rattle.jos_base.specs.declared.numbers.TheConstants.{FDTABLE, NENV, NPTENTRIES, PGSIZE, SYS_IPC_TRY_SEND}
@@ -13,7 +13,8 @@ use Rattle.jos_base.specs.Environments.{Slot, found, is_live as is_live_slot}
 use Rattle.jos_base.specs.KernelState.{KernelState, slot_at, with_spaces}
 use Rattle.jos_base.specs.Messages.{accepts}
 use Rattle.jos_base.specs.Reach.{Entry}
-use Rattle.jos_base.specs.SpacesState.{SpacesState, inserted, put}
+use Rattle.jos_base.specs.Counting.{named, page_count}
+use Rattle.jos_base.specs.SpacesState.{SpacesState, inserted, own_count, put}
 use Rattle.jos_base.specs.SystemCalls.{entry_at, has_write, shared_entry}
 use Rattle.jos_base.specs.Words.{page_number, upd}
 use Rattle.lib_os.specs.declared.numbers.TheConstants.{DESCRIPTORS, MAXOPEN, REQUEST}
@@ -22,7 +23,7 @@ use Rattle.lib_os.specs.declared.place.Place.TheVariants as place
 use Rattle.lib_os.specs.declared.place.Step.TheVariants as step
 use Rattle.lib_os.specs.declared.service.Service.{Service}
 use Rattle.lib_os.specs.declared.service.Service.TheVariants as service
-use Rattle.lib_os.specs.AbstractRun.{abs_step}
+use Rattle.lib_os.specs.AbstractRun.{abs_step, pipe_of}
 use Rattle.lib_os.specs.AbstractState.{AbstractSlot, AbstractState, Born, Object, OpenFile, Phase, acted, awaiting, born, file, in_service, leaving}
 use Rattle.lib_os.specs.AbstractState.{replied, with_born}
 use Rattle.lib_os.specs.DescriptorPages.{HasObject, IsOpenFile, place_page}
@@ -32,13 +33,15 @@ use Rattle.lib_os.specs.GuestStep.{born_in}
 use Rattle.lib_os.specs.InOrder.{IsInOrder}
 use Rattle.lib_os.specs.LibraryPages.{has_copy, has_working, is_library_region}
 use Rattle.lib_os.specs.Places.{place_of}
-use Rattle.lib_os.specs.Rows.{IsNamed, IsPage, IsUsers, MayBeHad, Names, ShowsBy, descriptor_page, descriptor_perm, descriptor_seen}
-use Rattle.lib_os.specs.Rows.{is_descriptor, is_programs, lasting, logical, name_of, page_by, page_seen, rows_of, seen_where}
+use Rattle.lib_os.specs.Rows.{IsNamed, IsPage, IsUsers, MayBeHad, Names, ShowsBy, descriptor_page, descriptor_perm, descriptor_seen, HasThing, is_pipe_page, pipe_page}
+use Rattle.lib_os.specs.Rows.{is_of_descriptor, is_programs, lasting, logical, name_of, page_by, page_seen, rows_of, seen_where}
 use Rattle.lib_os.specs.Rows.{shown_at}
-use Rattle.lib_os.specs.StandsFor.{HasOpened, IsAwaitingFile, IsServerStatus, StandsAt, StandsFor, StandsForBorn, has_opened, things_in, upcall_at, view_of}
+use Rattle.lib_os.specs.StandsFor.{HasOpened, IsAwaitingFile, IsServerStatus, StandsAt, StandsFor, StandsForBorn, has_opened, things_in, upcall_at, view_of, seen_unless}
 use Rattle.lib_os.specs.UserCalls.{CallStep, giving, system}
+use Rattle.lib_os.specs.PipeEnds.{EndsStand, LocksStand, is_on_its_way, locked_at, pipe_named}
+use Rattle.lib_os.proofs.PipesStand.{calm_made, calm_on_way, ends_at_one, is_calm, locks_beside, no_pipe_beside}
 use Rattle.lib_os.proofs.AskedPlaces.{AwaitingPlace, awaiting_place}
-use Rattle.lib_os.proofs.DescriptorLooks.{descriptor_user, is_descriptors, page_region, table_region}
+use Rattle.lib_os.proofs.DescriptorLooks.{descriptor_user, is_descriptors, page_region, table_region, none_seen, seen_calm}
 use Rattle.lib_os.proofs.DescriptorsStand.{library_kept}
 use Rattle.lib_os.proofs.Effects.{Given}
 use Rattle.lib_os.proofs.EntriesStand.{PutsRow, RowsStand, named_bytes, rows_put, rows_same, rows_stand, shown_same}
@@ -50,12 +53,13 @@ use Rattle.lib_os.proofs.PassedOn.{given_with}
 use Rattle.lib_os.proofs.Placing.{inserted_given}
 use Rattle.lib_os.proofs.Sends.{found_where, page_comes, received_in, with_message}
 use Rattle.lib_os.proofs.ServerReplies.{served_is, server_goes_on, status_at, told_at}
-use Rattle.lib_os.proofs.ServerStands.{first_slot}
-use Rattle.lib_os.proofs.Serving.{library_moved}
+use Rattle.lib_os.proofs.ServerStands.{ends_counts, first_slot, running_lives}
+use Rattle.lib_os.proofs.Serving.{library_moved, in_no_service}
 use Rattle.lib_os.proofs.Slots.{slot_kept}
-use Rattle.lib_os.proofs.SlotsStand.{born_at, born_live, descriptor_shown}
-use Rattle.lib_os.proofs.StatesStand.{born_not_first, own_moves, plain_alike, set_counts, slot_in_order, stopped_settles}
-use Rattle.jos_base.proofs.Maps.{upd-all, upd-at}
+use Rattle.lib_os.proofs.SlotsStand.{CountsKept, SameCounts, born_at, born_live, counts_unpiped, descriptor_shown, is_piped}
+use Rattle.lib_os.proofs.StatesStand.{born_not_first, old_with, own_moves, plain_alike, set_counts, slot_in_order, stopped_settles, ends_at, lasting_named, page_own}
+use Rattle.jos_base.proofs.Maps.{upd-all, upd-at, upd-alike, upd-other}
+use Rattle.jos_base.proofs.Counts.{named_is, page_count-same}
 use Rattle.jos_base.proofs.Puts.{Elsewhere}
 
 -- ---- what is opened
@@ -110,6 +114,9 @@ module _ {names : Names} {s : KernelState} {a : AbstractState} (h : StandsFor na
   abbrev after : Names
   after = named_too names name opens.source.frame
 
+  seen_before : (q : ℕ) → b.descriptors q ≡ descriptor_seen after s.spaces dir q
+  seen_before = seen_calm (given_name_stands h name opens.source.frame opens.unused) client b at (ap is_calm there)
+
   -- the frame has its name
   now : StandsFor after s a
   now = given_name_stands h name opens.source.frame opens.unused
@@ -163,7 +170,7 @@ module _ {names : Names} {s : KernelState} {a : AbstractState} (h : StandsFor na
   memory_kept q true inside =
       ap (seen_where (is_programs q))
       (shown_kept q (λ is.
-      let contradiction : true ≡ false = sym (is_descriptors fd below) ∙ ap is_descriptor (sym is) ∙ programs_no_descriptor q inside in cc))
+      let contradiction : true ≡ false = sym (is_descriptors fd below) ∙ ap is_of_descriptor (sym is) ∙ programs_no_descriptor q inside in cc))
   memory_kept q false outside =
       ap (λ (c : Bool). seen_where c (shown_at after sp dir q)) outside ∙ sym (ap (λ (c : Bool). seen_where c (shown_at after s.spaces dir q)) outside)
 
@@ -215,6 +222,12 @@ module _ {names : Names} {s : KernelState} {a : AbstractState} (h : StandsFor na
     small = let low : 0 < 2 ^ 32 = omega arith in low;
   }
 
+  all_seen : (q : ℕ) → opened_born.descriptors q ≡ descriptor_seen after sp dir q
+  all_seen =
+      upd-all (λ q (o : Option ℕ). o ≡ descriptor_seen after sp dir q) b.descriptors fd (Some name) (sym descriptor_shows)
+      (λ q ne. seen_before q
+      ∙ sym (descriptor_shown after after s.spaces sp dir q (shown_kept (descriptor_page q) (λ same. ne (omega (arith, same))))))
+
   mine : StandsForBorn after sp told_slot opened_born
   mine = record {
     id = own_part.id;
@@ -223,9 +236,8 @@ module _ {names : Names} {s : KernelState} {a : AbstractState} (h : StandsFor na
     env_type = own_part.env_type;
     runs = tt;
     upcall = own_part.upcall ∙ sym (ap upcall_at same_place);
-    descriptors = upd-all (λ q (o : Option ℕ). o ≡ descriptor_seen after sp dir q) b.descriptors fd (Some name) (sym descriptor_shows)
-        (λ q ne. own_part.descriptors q
-        ∙ sym (descriptor_shown after after s.spaces sp dir q (shown_kept (descriptor_page q) (λ same. ne (omega (arith, same))))));
+    descriptors = λ q still. all_seen q
+        ∙ sym (ap (λ (c : Bool). seen_unless c (descriptor_seen after sp dir q)) (calm_made (place_of told_slot) (ap is_calm (same_place ∙ there)) q));
     memory = λ q. own_part.memory q ∙ sym (memory_kept q (is_programs q) refl);
     library = library_moved (place_of from) (place_of told_slot) from.extra told_slot.extra (rows_of sp dir) (sym (ap has_copy same_place))
         (sym (ap (λ (x : Place). has_working x from.extra) same_place))
@@ -256,17 +268,23 @@ module _ {names : Names} {s : KernelState} {a : AbstractState} (h : StandsFor na
       let f = opens.source.frame in
       let name_is : upd names.name f name f ≡ name = upd-at names.name f name in
       let object : upd names.is_object name true name ≡ true = upd-at names.is_object name true in
+      let off : upd names.is_pipe name false name ≡ false = upd-at names.is_pipe name false in
+      let low : fd < DESCRIPTORS = below in
+      let beside : is_pipe_page p ≡ false = grind (arith, nat_tests, low) in
       let shows : HasObject (things_in s a) name f (a.objects name) (sp.pages f) =
       subst (λ (o : Object). HasObject (things_in s a) name f o (sp.pages f)) (sym opens.object)
       (subst (λ (l : List ℕ). IsOpenFile (things_in s a) name f opens.file_is l) (sym page_given.same) opens.told) in
-      let facts = subst (λ (m : ℕ). (upd names.frame name f m ≡ f) × (upd names.is_object name true m ≡ is_descriptor p)
-      × ShowsBy (things_in s a) m f (upd names.is_object name true m) (a.shared m) (sp.pages f) × (m < a.next_name)) (sym name_is) (
+      let facts = subst (λ (m : ℕ). (upd names.frame name f m ≡ f) × (upd names.is_object name true m ≡ is_of_descriptor p)
+      × (upd names.is_pipe name false m ≡ is_pipe_page p)
+      × ShowsBy (things_in s a) m f (upd names.is_object name true m) (upd names.is_pipe name false m) (a.shared m) (sp.pages f) × (m < a.next_name)) (sym name_is) (
         upd-at names.frame name f,
         object ∙ sym (is_descriptors fd below),
-        subst (λ (c : Bool). ShowsBy (things_in s a) name f c (a.shared name) (sp.pages f)) (sym object) shows,
+        off ∙ sym beside,
+        subst (λ (c : Bool). ShowsBy (things_in s a) name f c (upd names.is_pipe name false name) (a.shared name) (sp.pages f)) (sym object)
+            (subst (λ (c : Bool). HasThing (things_in s a) name f c (sp.pages f)) (sym off) shows),
         opens.old,
       ) in
-      record { home = facts.0; kind = facts.1; shows = facts.2; old = facts.3 }
+      record { home = facts.0; kind = facts.1; of_pipe = facts.2; shows = facts.3; old = facts.4 }
 
   -- beside the server's page, which is that of a place
   had : (q : ℕ) → q ≡ place_page number → MayBeHad (q == page_number REQUEST) p e
@@ -289,19 +307,102 @@ module _ {names : Names} {s : KernelState} {a : AbstractState} (h : StandsFor na
     named_old = λ m q x ne hx shared_page was. named_bytes (sym (bytes_elsewhere now client b at puts m q x ne hx)) was;
   }
 
+  counts_are : (m q : ℕ) → logical sp (upd s.environments.slots client told_slot) m q ≡ put (logical s.spaces s.environments.slots) client p (Some e) m q
+  counts_are m q =
+      set_counts (with_spaces s sp) client told_slot (sym (born_live own_part)) refl
+      (plain_alike (place_of from) (place_of told_slot) plain (ap is_plain same_place ∙ plain)) m q
+      ∙ counts_put now client b at puts plain m q
+
   rows : RowsStand after sp.pages a.shared (things_in s a) a.next_name (logical sp (upd s.environments.slots client told_slot))
   rows =
-      rows_same (put (logical s.spaces s.environments.slots) client p (Some e)) (logical sp (upd s.environments.slots client told_slot))
-      (λ m q. set_counts (with_spaces s sp) client told_slot (sym (born_live own_part)) refl
-      (plain_alike (place_of from) (place_of told_slot) plain (ap is_plain same_place ∙ plain)) m q
-      ∙ counts_put now client b at puts plain m q)
+      rows_same (put (logical s.spaces s.environments.slots) client p (Some e)) (logical sp (upd s.environments.slots client told_slot)) counts_are
       (rows_put (rows_stand now) row)
+
+  -- the page is no pipe's
+  no_pipe : is_pipe_page p ≡ false
+  no_pipe = let low : fd < DESCRIPTORS = below in grind (arith, nat_tests, low)
+
+  pipe_row : (q : ℕ) → q < DESCRIPTORS → rows_of sp dir (pipe_page q) ≡ rows_of s.spaces dir (pipe_page q)
+  pipe_row q under =
+      let low : fd < DESCRIPTORS = below in row_elsewhere page_given.placed dir (pipe_page q) (λ is too. omega (arith, low, under, too))
+
+  -- the new one is a file, and no page of a pipe stands beside it
+  ends : EndsStand after a.objects (place_of told_slot) (rows_of sp dir) opened_born
+  ends =
+      ends_at_one fd (λ q ne. ap (λ (x : Place). is_on_its_way x q) same_place) (λ q ne. upd-other b.descriptors fd (Some name) q ne) (λ q m has. refl)
+      (λ q under ne. pipe_row q under) (λ q x under has. refl) have_it only_it (ends_at now client b at)
+    where
+      have_it : (m pipe : ℕ) → fd < DESCRIPTORS → opened_born.descriptors fd ≡ Some m → pipe_named a.objects m ≡ Some pipe →
+          (entry : Entry) × (rows_of sp dir (pipe_page fd) ≡ Some entry) × (after.name entry.frame ≡ pipe)
+      have_it m pipe under has is =
+          let same : name ≡ m = same_Some name m (sym (upd-at b.descriptors fd (Some name)) ∙ has) in
+          absurd (none-some pipe (sym (ap (λ (o : Object). pipe_of (Some o)) opens.object) ∙ ap (λ (k : ℕ). pipe_named a.objects k) same ∙ is))
+
+      only_it : (entry : Entry) → fd < DESCRIPTORS → is_on_its_way (place_of told_slot) fd ≡ false → rows_of sp dir (pipe_page fd) ≡ Some entry →
+          (m : ℕ) × (opened_born.descriptors fd ≡ Some m) × (pipe_named a.objects m ≡ Some (after.name entry.frame))
+      only_it entry under off lies =
+          let none : b.descriptors fd ≡ None = none_seen now client b at seen_before fd waits.lowest.vacant in
+          let beside = no_pipe_beside (ends_at now client b at) fd under (calm_on_way (place_of from) (ap is_calm there) fd) none in
+          absurd (none-some entry (sym beside ∙ sym (pipe_row fd under) ∙ lies))
+
+  locks : LocksStand sp.pages (upd s.environments.slots client told_slot) (logical sp (upd s.environments.slots client told_slot))
+  locks =
+      locks_beside client p (Some e) no_pipe
+      (upd-alike (λ (x : Slot). locked_at (place_of x)) s.environments.slots client told_slot (ap locked_at same_place)) counts_are
+      (λ m q x ne hx. bytes_elsewhere now client b at puts m q x ne hx) now.locks
+
+  -- The page that is put has a frame of the file server's, and nothing stood in its place: others are mapped as often.
+  mapped_so : (f : ℕ) → e.frame ≢ f → page_count sp.entries f ≡ page_count s.spaces.entries f
+  unfolding rows_of
+  mapped_so f other =
+      page_count-same sp.entries s.spaces.entries f (λ d q. lasting_named f (sp.entries d q) ∙ by_tests d q (d == dir) (q == p) refl refl
+      ∙ sym (lasting_named f (s.spaces.entries d q)))
+    where
+      never : named f (Some e) ≡ 0
+      never = elim (named_is f e) [
+        | inl here ↦ absurd (other (sym here.0))
+        | inr off ↦ off.1
+      ]
+
+      by_tests : (d q : ℕ) (c t : Bool) → (d == dir) ≡ c → (q == p) ≡ t → named f (rows_of sp d q) ≡ named f (rows_of s.spaces d q)
+      by_tests d q true true space_is page_is =
+          let here : d ≡ dir = grind (arith, nat_tests) in
+          let there : q ≡ p = grind (arith, nat_tests) in
+          (λ i. named f (rows_of sp (here i) (there i))) ∙ ap (named f) (row_placed page_given.placed) ∙ never
+          ∙ sym (ap (named f) waits.lowest.vacant) ∙ sym (λ i. named f (rows_of s.spaces (here i) (there i)))
+      by_tests d q false t space_is page_is =
+          let off : d ≢ dir = grind (arith, nat_tests) in ap (named f) (row_elsewhere page_given.placed d q (λ is too. off is))
+      by_tests d q true false space_is page_is =
+          let off : q ≢ p = grind (arith, nat_tests) in ap (named f) (row_elsewhere page_given.placed d q (λ is too. off too))
+
+  counted_alike : (m : ℕ) → m ≢ client → CountsKept s.spaces sp (slot_at s m)
+  counted_alike m ne piped runs = by_slot (m == 0) refl
+    where
+      off_pipes : is_piped (place_of (slot_at s 0)) ≡ false
+      off_pipes =
+          let first = first_slot h in ap is_piped (in_no_service (slot_at s 0).registers (slot_at s 0).extra first.stack first.words)
+
+      by_slot : (c : Bool) → (m == 0) ≡ c → SameCounts (view_of s.spaces (slot_at s m).directory) (view_of sp (slot_at s m).directory)
+      by_slot true test =
+          let is : m ≡ 0 = grind (arith, nat_tests) in
+          counts_unpiped s.spaces sp (slot_at s m) (ap (λ (j : ℕ). is_piped (place_of (slot_at s j))) is ∙ off_pipes) piped runs
+      by_slot false test =
+          ends_counts h sp m (grind (arith, nat_tests))
+          (λ q x is counts shared_page apart.
+          let other : (slot_at s m).directory ≢ dir =
+          (λ same. ne (h.in_order.spaces.apart m client (running_lives (slot_at s m) runs) (born_live own_part) same)) in
+          let mapped = mapped_so x.frame (λ same. apart (place_page number) (lasting opens.source) row_there same) in
+          let own_so : own_count (sp.uses x.frame) ≡ own_count (s.spaces.uses x.frame) =
+          page_own in_order.frames (slot_at s m).directory q x (row_elsewhere page_given.placed (slot_at s m).directory q (λ here too. other here) ∙ is)
+          ∙ sym (page_own h.in_order.frames (slot_at s m).directory q x is) in
+          (λ i. mapped i + own_so i)) piped runs
 
   opened_stands : StandsFor after (with_message (with_spaces s sp) 0 client 0 descriptor_perm) (with_born a client opened_born)
   opened_stands =
-      own_moves now client b at sp told_slot opened_born a.shared a.next_name refl (stopped_settles from told_slot refl refl refl)
+      own_moves now client b at sp told_slot opened_born a.shared a.next_name refl (stopped_settles from told_slot refl refl refl refl)
       (plain_unborne (place_of from) plain) (plain_unborne (place_of told_slot) (ap is_plain same_place ∙ plain)) (others_seen now client b at puts) mine
-      rows (slot_in_order (with_spaces s sp) client told_slot (sym (born_live own_part)) refl in_order)
+      rows (slot_in_order (with_spaces s sp) client told_slot (sym (born_live own_part)) refl in_order) counted_alike ends locks (omega arith)
+      (old_with (λ q one names_it. h.old client q one b at names_it) fd (Some name) (λ one is. subst (λ (m : ℕ). m < a.next_name) (same_Some name one is) opens.old))
 
 -- ---- it replies
 
@@ -357,7 +458,7 @@ module _ {names : Names} {s : KernelState} {a : AbstractState} (h : StandsFor na
       ∙ ap (λ (slot : AbstractSlot). reply a client answer [] (Some name) (born_in slot)) at
       ∙ ap (λ (p : Phase). reply_at a client b answer [] (Some name) p) phase
       ∙ ap (λ (o : Option ℕ). Some (reply_to a client opening [] (given b (Some name) o answer)))
-      (lowest_seen h client b at opener.fd opener.expects_it.lowest)
+      (lowest_seen h client b at (seen_calm h client b at (ap is_calm opener.at)) opener.fd opener.expects_it.lowest)
 
   -- where the page goes
   goes : page_number (slot_at s client).rendezvous.destination ≡ descriptor_page opener.fd

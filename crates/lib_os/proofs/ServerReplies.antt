@@ -31,10 +31,12 @@ use Rattle.lib_os.specs.LibraryPages.{IsOwnWritable, View, has_copy, has_working
 use Rattle.lib_os.specs.MadeCalls.{SetsWords}
 use Rattle.lib_os.specs.Places.{handler_step_in, place_in_words, place_of}
 use Rattle.lib_os.specs.Rows.{AreBytes, Names, rows_of}
-use Rattle.lib_os.specs.StandsFor.{HasBytesReply, HasReply, has_bytes, IsServerStatus, StandsAt, StandsFor, StandsForBorn}
+use Rattle.lib_os.specs.StandsFor.{HasBytesReply, HasReply, has_bytes, IsServerStatus, StandsAt, StandsFor, StandsForBorn, descriptor_seen_at}
 use Rattle.lib_os.specs.StandsFor.{StandsForServer, has_reply, upcall_at, view_of, has_opened, opened_answer}
 use Rattle.lib_os.specs.StandsInHandler.{handed_with, hands_back}
 use Rattle.lib_os.specs.UserCalls.{CallStep, IsCallStep, Output, Prints, got, giving, system}
+use Rattle.lib_os.specs.PipeEnds.{is_dropped}
+use Rattle.lib_os.proofs.PipesStand.{same_places}
 use Rattle.lib_os.proofs.AskedPlaces.{AskedPlace, AwaitingPlace, ExpectsSo, asked_place, awaiting_place, awaiting_step, is_requests}
 use Rattle.lib_os.proofs.Calls.{comes_to, ipc_recv_is, receives_at, waits_is}
 use Rattle.lib_os.proofs.Logical.{is_plain}
@@ -67,6 +69,10 @@ server_goes_on h server status = record {
   users = h.users;
   whole = h.whole;
   beside = h.beside;
+  ends = h.ends;
+  locks = h.locks;
+  runs = h.runs;
+  old = h.old;
   free_slots = h.free_slots;
   first = h.first;
   server = record { status = status; pages = h.server.pages; tables = h.server.tables; alone = h.server.alone };
@@ -101,7 +107,7 @@ receive_is s rest live =
 module _ {names : Names} {s : KernelState} {a : AbstractState} (h : StandsFor names s a) where
   pub receives_stand : StandsFor names (ready_state s) (record a { server = idle })
   receives_stand =
-      server_set h (ready_slot (slot_at s 0)) idle refl (stopped_settles (slot_at s 0) (ready_slot (slot_at s 0)) refl refl refl) so (record {
+      server_set h (ready_slot (slot_at s 0)) idle refl (stopped_settles (slot_at s 0) (ready_slot (slot_at s 0)) refl refl refl refl) so (record {
         status = record { status = refl; receiving = refl; anybody = refl; destination = refl };
         pages = h.server.pages;
         tables = h.server.tables;
@@ -270,7 +276,7 @@ replied_own : {names : Names} {s : SpacesState} {k : Slot} {b : Born} (call : Se
     AwaitingPlace (place_of k) (view_of s k.directory) k b call → StandsForBorn names s k b → answer < 2 ^ 32 →
     HandsOver (view_of s k.directory) call bytes answer → TellsNoFile call answer →
     StandsForBorn names s (received_in k sender answer 0) (replied_born call b bytes answer)
-replied_own {s = s} {k = k} {b = b} call sender answer bytes there own_part small hands none =
+replied_own {names = names} {s = s} {k = k} {b = b} call sender answer bytes there own_part small hands none =
     let j : Slot = received_in k sender answer 0 in
     let after : Born = replied_born call b bytes answer in
     let same : place_of j ≡ place_of k = told_at k sender answer 0 in
@@ -283,7 +289,8 @@ replied_own {s = s} {k = k} {b = b} call sender answer bytes there own_part smal
       env_type = own_part.env_type;
       runs = tt;
       upcall = own_part.upcall ∙ sym (ap upcall_at same);
-      descriptors = own_part.descriptors;
+      descriptors = subst (λ (p : Place). (fd : ℕ) → is_dropped p fd ≡ false → b.descriptors fd ≡ descriptor_seen_at p names s k.directory fd) (sym same)
+          own_part.descriptors;
       memory = own_part.memory;
       library = library_moved (place_of k) (place_of j) k.extra j.extra (rows_of s k.directory) (sym (ap has_copy same))
           (sym (ap (λ (p : Place). has_working p k.extra) same)) own_part.library;
@@ -369,10 +376,11 @@ module _ {names : Names} {s : KernelState} {a : AbstractState} (h : StandsFor na
 
       come : StandsFor names (with_message s 0 client answer 0) (with_born a client (replied_born call b bytes answer))
       come =
-          slot_changed h client b at k (replied_born call b bytes answer) refl (stopped_settles (slot_at s client) k refl refl refl)
+          slot_changed h client b at k (replied_born call b bytes answer) refl (stopped_settles (slot_at s client) k refl refl refl refl)
           (ap is_plain there.at ∙ plain)
           (ap is_plain (told_at (slot_at s client) (slot_at s 0).id answer 0 ∙ there.at) ∙ plain)
           (replied_own call (slot_at s 0).id answer bytes there own small hands none)
+          (same_places (told_at (slot_at s client) (slot_at s 0).id answer 0)) (λ fd. refl)
 
       still : IsServerStatus leaving (slot_at (with_message s 0 client answer 0) 0)
       still = subst (λ (x : Slot). IsServerStatus leaving x) (sym (slot_kept s client k 0 (born_not_first h client b at))) status

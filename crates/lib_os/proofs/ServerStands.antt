@@ -1,34 +1,47 @@
 -- The kernel's state goes on standing for the abstract one where the file server's space and slot change, as far as no client sees it:
 -- a page is put there or removed, pages are written that no client has, and its registers and words are set.
-use Rattle.std.proofs.Common.{◌≡◌, ◌≢◌, ◌∙◌, ◌/◌, ◌<◌, ◌==◌, ◌&&◌, ◌||◌, ◌⊎◌, inl, inr, ℕ, Bool, true, false, List, refl, sym, ap, subst, arith}
-use Rattle.std.proofs.Common.{length}
+use Rattle.std.proofs.Common.{◌≡◌, ◌≢◌, ◌∙◌, ◌+◌, ◌/◌, ◌<◌, ◌==◌, ◌&&◌, ◌||◌, ◌⊎◌, inl, inr, ℕ, Bool, true, false, List, refl, sym, ap, subst, arith}
+use Rattle.std.proofs.Common.{length, not}
 use Rattle.std.proofs.lemmas.Bool.Decides.{nat_tests}
 use Rattle.std.specs.Prelude.{Option, Some, None, is_some}
+use Rattle.jos_base.specs.declared.environment.Status.{Status}
+use Rattle.jos_base.specs.declared.environment.Status.TheVariants.{Running}
 use Rattle.jos_base.specs.declared.numbers.TheConstants.{FIRST_ENV_ID, NPTENTRIES}
-use Rattle.jos_base.specs.Environments.{Slot, is_live as is_live_slot}
+use Rattle.jos_base.specs.Counting.{named}
+use Rattle.jos_base.specs.Environments.{Slot, free_slot, is_free, is_live as is_live_slot, is_running}
 use Rattle.jos_base.specs.KernelState.{KernelState, slot_at, with_slot_at, with_spaces, with_refusal}
 use Rattle.jos_base.specs.Messages.{Rendezvous}
 use Rattle.jos_base.specs.Reach.{Entry}
-use Rattle.jos_base.specs.SpacesState.{SpacesState}
+use Rattle.jos_base.specs.SpacesState.{SpacesState, own_count, reference_count}
 use Rattle.jos_base.specs.Words.{page_number}
-use Rattle.lib_os.specs.declared.numbers.TheConstants.{MAXOPEN, REQUEST}
-use Rattle.lib_os.specs.AbstractState.{AbstractState, AbstractSlot, Object, OpenFile, TablePlace, Server, acted, born, busy, file, idle, leaving}
-use Rattle.lib_os.specs.AbstractState.{looking, read_end, serving, terminal, unborn, write_end}
-use Rattle.lib_os.specs.DescriptorPages.{HasObject, IsConsole, IsOpenFile, Things, lasting_words, number_of, place_page}
-use Rattle.lib_os.specs.InOrder.{IsInOrder}
+use Rattle.lib_os.specs.declared.numbers.TheConstants.{DEVICE_PIPE, MAXOPEN, REQUEST}
+use Rattle.lib_os.specs.declared.place.Place.{Place}
+use Rattle.lib_os.specs.declared.place.Place.TheVariants as place
+use Rattle.lib_os.specs.declared.place.Step.TheVariants as step
+use Rattle.lib_os.specs.declared.service.Service.{Service}
+use Rattle.lib_os.specs.declared.service.Service.TheVariants as service
+use Rattle.lib_os.specs.AbstractState.{AbstractState, AbstractSlot, Born, Object, OpenFile, TablePlace, Server, acted, born, busy, file, idle, leaving}
+use Rattle.lib_os.specs.AbstractState.{free, looking, read_end, serving, terminal, unborn, write_end}
+use Rattle.lib_os.specs.DescriptorPages.{HasObject, device_of, IsEnd, IsOpenFile, Things, lasting_words, number_of, place_page}
+use Rattle.lib_os.specs.InOrder.{HasOneUse, IsInOrder}
 use Rattle.lib_os.specs.MadeCalls.{SetsWords}
-use Rattle.lib_os.specs.Places.{is_handlers, service_word}
-use Rattle.lib_os.specs.Rows.{IsNamed, MayBeHad, Names, Rows, ShowsBy, is_shared, logical, rows_of, server_row}
-use Rattle.lib_os.specs.StandsFor.{HasServer, IsServerStatus, StandsFor, StandsForServer, StandsForSlot, IsStatusFor, is_servers_page}
-use Rattle.lib_os.specs.StandsFor.{is_servers_region, things_in}
+use Rattle.lib_os.specs.PipeEnds.{EndsStandAt}
+use Rattle.lib_os.specs.Places.{is_handlers, place_of, service_word}
+use Rattle.lib_os.specs.Rows.{EntryRow, HasThing, IsNamed, MayBeHad, Names, Rows, ShowsBy, counted, is_clients, is_shared, logical, logical_by, rows_of}
+use Rattle.lib_os.specs.Rows.{descriptor_page, is_of_descriptor, is_pipe_page, pipe_page, server_row}
+use Rattle.lib_os.specs.StandsFor.{HasServer, IsServerStatus, StandsFor, StandsForBorn, StandsForServer, StandsForSlot, StandsForUnborn, IsStatusFor}
+use Rattle.lib_os.specs.StandsFor.{is_servers_page, is_servers_region, things_in, view_of}
 use Rattle.lib_os.proofs.Children.{BearsNone, children_kept}
 use Rattle.lib_os.proofs.Effects.{Placed, Removed}
 use Rattle.lib_os.proofs.EntriesStand.{rows_bytes, rows_same, rows_stand}
 use Rattle.lib_os.proofs.Logical.{clients_are, logical_alike, logical_of}
+use Rattle.lib_os.proofs.PipesStand.{ends_stay, locks_same}
 use Rattle.lib_os.proofs.Puts.{put-none, put-some}
 use Rattle.lib_os.proofs.SlotsSet.{both_set}
-use Rattle.lib_os.proofs.SlotsStand.{SeenAlike, live_stands, slot_stands}
-use Rattle.lib_os.proofs.StatesStand.{Settles, server_set, slot_was_in_order}
+use Rattle.lib_os.proofs.Serving.{in_no_service}
+use Rattle.lib_os.proofs.SlotsStand.{CountsKept, SameCounts, SeenAlike, born_at, born_live, but_pipes, is_piped, live_stands, moves_bytes, slot_stands}
+use Rattle.lib_os.proofs.StatesStand.{Settles, lasting_named, page_own, server_set, slot_was_in_order}
+use Rattle.jos_base.proofs.Counts.{named_is, page_count-same}
 use Rattle.jos_base.proofs.Puts.{put-at, put-other}
 
 -- ---- what no client has
@@ -58,7 +71,7 @@ pub record IsPlainPage (q : ℕ) : Type 0 where
 unheld_private : {names : Names} {s : KernelState} {a : AbstractState} → StandsFor names s a → (q : ℕ) → (q == page_number REQUEST) ≡ false →
     ((place : IsPlacePage q) → (a.opened place.0).held_by ≡ None) → IsPrivateAt s q
 unheld_private {names = names} {s = s} {a = a} h q no_request unheld e stands n p x counts same =
-    by_object (a.objects name) (subst (λ (c : Bool). ShowsBy things name x.frame c (a.shared name) bytes) kind named_so.shows)
+    by_kind (names.is_pipe name) (subst (λ (c : Bool). ShowsBy things name x.frame c (names.is_pipe name) (a.shared name) bytes) kind named_so.shows)
   where
     name : ℕ
     name = names.name x.frame
@@ -84,8 +97,12 @@ unheld_private {names = names} {s = s} {a = a} h q no_request unheld e stands n 
         let at = h.server.alone (number_of bytes) q is.entry e is.below is.stands stands (is.same ∙ same) in
         let none = unheld (number_of bytes, is.below, at) in
         let contradiction : ◌≡◌ {A = Option ℕ} None (Some name) = sym none ∙ is.held in cc
-    by_object (read_end pipe) is = is
-    by_object (write_end pipe) is = is
+    by_object (read_end pipe) is = is.apart q e stands (sym same)
+    by_object (write_end pipe) is = is.apart q e stands (sym same)
+
+    by_kind : (is_pipe : Bool) → HasThing things name x.frame is_pipe bytes → ⊥
+    by_kind false is = by_object (a.objects name) is
+    by_kind true is = is.apart q e stands (sym same)
 
 pub plain_private : {names : Names} {s : KernelState} {a : AbstractState} → StandsFor names s a → (q : ℕ) → IsPlainPage q → IsPrivateAt s q
 plain_private h q plain = unheld_private h q plain.no_request (λ place. absurd (plain.no_place place))
@@ -142,6 +159,7 @@ others_alike names kept q ne = record {
   bytes = λ r x is own_page. kept.bytes q r x ne is;
   named_so = λ r x is shared_page. refl;
   devices = λ r x descriptor is shared_page. ap lasting_words (kept.bytes q r x ne is);
+  pipes = λ r x pipes is shared_page. kept.bytes q r x ne is;
   regions = λ r. kept.regions q r ne;
 }
 
@@ -343,6 +361,32 @@ serves_none k slot id is = record {
   no_child = λ child parent at. let contradiction : serving id ≡ unborn child parent = sym is ∙ at in absurd cc;
 }
 
+-- a client's entries count
+client_counts : (m : ℕ) (k : Slot) → m ≢ 0 → is_live_slot k ≡ true → is_clients m k ≡ true
+client_counts m k ne lives = by_test (m == 0) refl
+  where
+    by_test : (c : Bool) → (m == 0) ≡ c → (not c && is_live_slot k) ≡ true
+    by_test true test = absurd (ne (grind (arith, nat_tests)))
+    by_test false test = lives
+
+pub running_lives : (k : Slot) → is_running k.status ≡ true → is_live_slot k ≡ true
+running_lives k runs = by_status k.status runs
+  where
+    by_status : (status : Status) → is_running status ≡ true → not (is_free status) ≡ true
+    by_status Running is = refl
+    by_status _ is = absurd (let contradiction : false ≡ true = is in cc)
+
+-- and where it is on a pipe they count as they stand
+piped_counts : (at : Place) (row : EntryRow) (p : ℕ) → is_piped at ≡ true → counted at row p ≡ row p
+unfolding counted
+piped_counts (place.InService s (step.Piped at)) row p piped = by_service s piped
+  where
+    by_service : (s : Service) → moves_bytes s ≡ true → counted (place.InService s (step.Piped at)) row p ≡ row p
+    by_service (service.Read fd va len) moves = refl
+    by_service (service.Write fd va len) moves = refl
+    by_service _ moves = absurd (let contradiction : false ≡ true = moves in cc)
+piped_counts _ row p piped = absurd (let contradiction : false ≡ true = piped in cc)
+
 module _ {names : Names} {s : KernelState} {a : AbstractState} (h : StandsFor names s a) where
   -- its slot
   pub first_slot : StandsForServer (slot_at s 0) FIRST_ENV_ID
@@ -352,8 +396,141 @@ module _ {names : Names} {s : KernelState} {a : AbstractState} (h : StandsFor na
   clients_space : (m : ℕ) → m ≢ 0 → is_live_slot (slot_at s m) ≡ true → (slot_at s m).directory ≢ (slot_at s 0).directory
   clients_space m ne lives same = ne (h.in_order.spaces.apart m 0 lives first_slot.lives same)
 
+  abbrev home : ℕ
+  home = (slot_at s 0).directory
+
+  -- A shared frame of a client's, in which the file server has no page, is mapped as often.
+  abbrev pub ApartCounts : SpacesState → ℕ → Type 0
+  ApartCounts sp m = (p : ℕ) (x : Entry) → rows_of s.spaces (slot_at s m).directory p ≡ Some x → logical s.spaces s.environments.slots m p ≡ Some x →
+      is_shared x.perm ≡ true → ((q : ℕ) (e : Entry) → rows_of s.spaces (slot_at s 0).directory q ≡ Some e → e.frame ≢ x.frame) →
+      reference_count sp x.frame ≡ reference_count s.spaces x.frame
+
+  -- Then so are its pages of ends and pipes: the file server has none of their frames.
+  module _ (sp : SpacesState) (m : ℕ) (ne : m ≢ 0) (counted_apart : ApartCounts sp m) where
+    -- a page of an end, or of a pipe
+    module _ (b : Born) (at : a.slots m ≡ born b) (piped : is_piped (place_of (slot_at s m)) ≡ true) where
+      mine : StandsForBorn names s.spaces (slot_at s m) b
+      mine = born_at h m b at
+
+      lives : is_live_slot (slot_at s m) ≡ true
+      lives = born_live mine
+
+      row_counts : (p : ℕ) (x : Entry) → rows_of s.spaces (slot_at s m).directory p ≡ Some x → logical s.spaces s.environments.slots m p ≡ Some x
+      row_counts p x is =
+          let row = rows_of s.spaces (slot_at s m).directory in
+          ap (λ (c : Bool). logical_by c (counted (place_of (slot_at s m)) row) p) (client_counts m (slot_at s m) ne lives)
+          ∙ piped_counts (place_of (slot_at s m)) row p piped ∙ is
+
+      of_apart : (p : ℕ) (x : Entry) → is_of_descriptor p ≡ true → rows_of s.spaces (slot_at s m).directory p ≡ Some x →
+          (is_pipe_page p ≡ true) ⊎ ((is_pipe_page p ≡ false) × (device_of (s.spaces.pages x.frame) ≡ DEVICE_PIPE)) →
+          reference_count sp x.frame ≡ reference_count s.spaces x.frame
+      of_apart p x descriptor is kind =
+          counted_apart p x is (row_counts p x is) shared_page (by_kind kind)
+        where
+          shared_page : is_shared x.perm ≡ true
+          shared_page = ap is_shared (mine.library.descriptors p x descriptor is)
+
+          bytes : List ℕ
+          bytes = s.spaces.pages x.frame
+
+          things : Things
+          things = things_in s a
+
+          named_so : IsNamed names s.spaces.pages a.shared things a.next_name p x.frame
+          named_so = h.named m p x (row_counts p x is) shared_page
+
+          name : ℕ
+          name = names.name x.frame
+
+          tells : (c : Bool) → names.is_pipe name ≡ c → HasThing things name x.frame c bytes
+          tells c is_so =
+              subst (λ (t : Bool). HasThing things name x.frame t bytes) is_so
+              (subst (λ (t : Bool). ShowsBy things name x.frame t (names.is_pipe name) (a.shared name) bytes) (named_so.kind ∙ descriptor) named_so.shows)
+
+          by_object : (object : Object) → device_of bytes ≡ DEVICE_PIPE → HasObject things name x.frame object bytes →
+              (q : ℕ) (e : Entry) → rows_of s.spaces home q ≡ Some e → e.frame ≢ x.frame
+          by_object terminal device its = absurd (let other = its.device in omega (arith, device, other))
+          by_object (file f) device its = absurd (let other = its.device in omega (arith, device, other))
+          by_object (read_end pipe) device its = its.apart
+          by_object (write_end pipe) device its = its.apart
+
+          by_kind : (is_pipe_page p ≡ true) ⊎ ((is_pipe_page p ≡ false) × (device_of bytes ≡ DEVICE_PIPE)) →
+              (q : ℕ) (e : Entry) → rows_of s.spaces home q ≡ Some e → e.frame ≢ x.frame
+          by_kind (inl pipes) = (tells true (named_so.of_pipe ∙ pipes)).apart
+          by_kind (inr ends) = by_object (a.objects name) ends.1 (tells false (named_so.of_pipe ∙ ends.0))
+
+      born_counts : SameCounts (view_of s.spaces (slot_at s m).directory) (view_of sp (slot_at s m).directory)
+      born_counts fd x y below is lies device = (
+        of_apart (descriptor_page fd) x (grind (arith, nat_tests)) is (inr (grind (arith, nat_tests), device)),
+        of_apart (pipe_page fd) y (grind (arith, nat_tests)) lies (inl (grind (arith, nat_tests))),
+      )
+
+    pub ends_counts : CountsKept s.spaces sp (slot_at s m)
+    ends_counts piped runs = by_slot (a.slots m) refl (h.slots m)
+      where
+        by_slot : (slot : AbstractSlot) → a.slots m ≡ slot → StandsForSlot names s.spaces (slot_at s m) (a.slots m) →
+            SameCounts (view_of s.spaces (slot_at s m).directory) (view_of sp (slot_at s m).directory)
+        by_slot (free id) at so =
+            let it : slot_at s m ≡ free_slot id = subst (λ (slot : AbstractSlot). StandsForSlot names s.spaces (slot_at s m) slot) at so in
+            absurd (let contradiction : true ≡ false = sym runs ∙ ap (λ (k : Slot). is_running k.status) it in cc)
+        by_slot (unborn id parent) at so =
+            let it : StandsForUnborn (slot_at s m) id parent = subst (λ (slot : AbstractSlot). StandsForSlot names s.spaces (slot_at s m) slot) at so in
+            absurd (let contradiction : true ≡ false = sym runs ∙ ap (λ (status : Status). is_running status) it.status in cc)
+        by_slot (serving id) at so =
+            let it : StandsForServer (slot_at s m) id = subst (λ (slot : AbstractSlot). StandsForSlot names s.spaces (slot_at s m) slot) at so in
+            absurd (let contradiction : true ≡ false = sym piped ∙ ap is_piped (in_no_service (slot_at s m).registers (slot_at s m).extra it.stack it.words) in cc)
+        by_slot (born b) at so = born_counts b at piped
+
+  -- So it is whatever becomes of the file server's space.
   module _ (sp : SpacesState) (others : OthersKept s.spaces sp (slot_at s 0).directory)
-      (own : OwnKept s.spaces sp (slot_at s 0).directory a.opened a.files.blocks (logical s.spaces s.environments.slots)) where
+      (own : OwnKept s.spaces sp (slot_at s 0).directory a.opened a.files.blocks (logical s.spaces s.environments.slots))
+      (in_order : HasOneUse sp) where
+    module _ (m p : ℕ) (x : Entry) (other : (slot_at s m).directory ≢ home) (is : rows_of s.spaces (slot_at s m).directory p ≡ Some x)
+        (counts : logical s.spaces s.environments.slots m p ≡ Some x) (shared_page : is_shared x.perm ≡ true)
+        (apart : (q : ℕ) (e : Entry) → rows_of s.spaces home q ≡ Some e → e.frame ≢ x.frame) where
+      apart_after : (q : ℕ) (e : Entry) → rows_of sp home q ≡ Some e → e.frame ≢ x.frame
+      apart_after q e there same = by_frame (own.frames q e there)
+        where
+          by_frame : HadOrNew s.spaces home q e.frame (logical s.spaces s.environments.slots) → ⊥
+          by_frame (had r y stands frame alike) = apart r y stands (frame ∙ same)
+          by_frame (new none) = none (slot_at s m).directory p x is (sym same)
+          by_frame (lent at may none) = let contradiction : true ≡ false = sym shared_page ∙ (may m p x counts (sym same)).1 in cc
+
+      named_never : (o : Option Entry) → ((e : Entry) → o ≡ Some e → e.frame ≢ x.frame) → named x.frame o ≡ 0
+      named_never None none = refl
+      named_never (Some e) none = elim (named_is x.frame e) [
+        | inl here ↦ absurd (none e refl (sym here.0))
+        | inr off ↦ off.1
+      ]
+
+      entry_same : (d q : ℕ) → named x.frame (sp.entries d q) ≡ named x.frame (s.spaces.entries d q)
+      unfolding rows_of
+      entry_same d q =
+          lasting_named x.frame (sp.entries d q) ∙ by_space (d == home) refl ∙ sym (lasting_named x.frame (s.spaces.entries d q))
+        where
+          by_space : (c : Bool) → (d == home) ≡ c → named x.frame (rows_of sp d q) ≡ named x.frame (rows_of s.spaces d q)
+          by_space true test =
+              let here : d ≡ home = grind (arith, nat_tests) in
+              named_never (rows_of sp d q) (λ e at. apart_after q e (ap (λ (z : ℕ). rows_of sp z q) (sym here) ∙ at))
+              ∙ sym (named_never (rows_of s.spaces d q) (λ e at. apart q e (ap (λ (z : ℕ). rows_of s.spaces z q) (sym here) ∙ at)))
+          by_space false test = ap (λ (r : EntryRow). named x.frame (r q)) (others.rows d (grind (arith, nat_tests)))
+
+      mapped_as_often : reference_count sp x.frame ≡ reference_count s.spaces x.frame
+      mapped_as_often = λ i. page_count-same sp.entries s.spaces.entries x.frame entry_same i + own_so i
+        where
+          own_so : own_count (sp.uses x.frame) ≡ own_count (s.spaces.uses x.frame)
+          own_so =
+              page_own in_order (slot_at s m).directory p x (ap (λ (r : EntryRow). r p) (others.rows (slot_at s m).directory other) ∙ is)
+              ∙ sym (page_own h.in_order.frames (slot_at s m).directory p x is)
+
+    pub servers_counts : (m : ℕ) → m ≢ 0 → CountsKept s.spaces sp (slot_at s m)
+    servers_counts m ne piped runs =
+        ends_counts sp m ne (λ p x is counts shared_page apart.
+        mapped_as_often m p x (clients_space m ne (running_lives (slot_at s m) runs)) is counts shared_page apart) piped runs
+
+  module _ (sp : SpacesState) (others : OthersKept s.spaces sp (slot_at s 0).directory)
+      (own : OwnKept s.spaces sp (slot_at s 0).directory a.opened a.files.blocks (logical s.spaces s.environments.slots))
+      (mapped : (m : ℕ) → m ≢ 0 → CountsKept s.spaces sp (slot_at s m)) where
     slots_stand : (m : ℕ) → StandsForSlot names sp (slot_at s m) (a.slots m)
     slots_stand m = by_slot (m == 0) refl
       where
@@ -365,7 +542,20 @@ module _ {names : Names} {s : KernelState} {a : AbstractState} (h : StandsFor na
         by_slot false test =
             let other : m ≢ 0 = grind (arith, nat_tests) in
             slot_stands names names s.spaces sp (slot_at s m) (a.slots m) (h.slots m)
-            (λ live. others_alike names others (slot_at s m).directory (clients_space m other (live_stands h m ∙ live)))
+            (λ live. others_alike names others (slot_at s m).directory (clients_space m other (live_stands h m ∙ live))) (mapped m other)
+
+    ends_stand : (m : ℕ) → EndsStandAt names a.objects (place_of (slot_at s m)) (rows_of sp (slot_at s m).directory) (a.slots m)
+    ends_stand m = by_slot (m == 0) refl
+      where
+        by_slot : (c : Bool) → (m == 0) ≡ c → EndsStandAt names a.objects (place_of (slot_at s m)) (rows_of sp (slot_at s m).directory) (a.slots m)
+        by_slot true test =
+            let first : m ≡ 0 = grind (arith, nat_tests) in
+            subst (λ (slot : AbstractSlot). EndsStandAt names a.objects (place_of (slot_at s m)) (rows_of sp (slot_at s m).directory) slot)
+            (sym (ap a.slots first ∙ h.first)) tt
+        by_slot false test =
+            let other : m ≢ 0 = grind (arith, nat_tests) in
+            ends_stay names names s.spaces sp a.objects (slot_at s m) (a.slots m) (h.slots m)
+            (λ live. but_pipes (others_alike names others (slot_at s m).directory (clients_space m other (live_stands h m ∙ live)))) (h.ends m)
 
     -- entries count as they did
     same_counts : (n p : ℕ) → logical sp s.environments.slots n p ≡ logical s.spaces s.environments.slots n p
@@ -409,19 +599,23 @@ module _ {names : Names} {s : KernelState} {a : AbstractState} (h : StandsFor na
             let test : (q == page_number REQUEST) ≡ true = grind (arith, nat_tests, at) in
             subst (λ (c : Bool). MayBeHad c p x) (sym test) (may n p x counts same)
 
+    -- no page of the server's has this frame
+    abbrev IsApart : KernelState → ℕ → Type 0
+    IsApart s f = (q : ℕ) (e : Entry) → server_row s.spaces s.environments.slots q ≡ Some e → e.frame ≢ f
+
     -- and what is shown of a client's entry, its own pages show
-    still_shown : (n p : ℕ) (x : Entry) → logical s.spaces s.environments.slots n p ≡ Some x → is_shared x.perm ≡ true → (name : ℕ) (object : Bool) (page bytes : List ℕ) →
-        ShowsBy (things_in s a) name x.frame object page bytes → ShowsBy (things_in (with_spaces s sp) a) name x.frame object page bytes
-    still_shown n p x counts shared_page name false page bytes is = is
-    still_shown n p x counts shared_page name true page bytes is = by_object (a.objects name) is
+    still_shown : (n p : ℕ) (x : Entry) → logical s.spaces s.environments.slots n p ≡ Some x → is_shared x.perm ≡ true → (name : ℕ) (object is_pipe : Bool) (page bytes : List ℕ) →
+        ShowsBy (things_in s a) name x.frame object is_pipe page bytes → ShowsBy (things_in (with_spaces s sp) a) name x.frame object is_pipe page bytes
+    still_shown n p x counts shared_page name false is_pipe page bytes is = is
+    still_shown n p x counts shared_page name true is_pipe page bytes is = by_kind is_pipe is
       where
-        none_has : (q : ℕ) (e : Entry) → HadOrNew s.spaces (slot_at s 0).directory q e.frame (logical s.spaces s.environments.slots) → IsConsole (things_in s a) x.frame bytes →
-            e.frame ≢ x.frame
-        none_has q e (had r y there frame alike) console same = console.apart r y there (frame ∙ same)
-        none_has q e (new none) console same =
+        none_has : (q : ℕ) (e : Entry) → HadOrNew s.spaces (slot_at s 0).directory q e.frame (logical s.spaces s.environments.slots) →
+            IsApart s x.frame → e.frame ≢ x.frame
+        none_has q e (had r y there frame alike) apart same = apart r y there (frame ∙ same)
+        none_has q e (new none) apart same =
             let found = logical_of s.spaces s.environments.slots n p x counts in
             none (slot_at s n).directory p found.1.entry found.1.stands (found.1.frame ∙ sym same)
-        none_has q e (lent at may none) console same =
+        none_has q e (lent at may none) apart same =
             let contradiction : true ≡ false = sym shared_page ∙ (may n p x counts (sym same)).1 in cc
 
         by_place : (f : OpenFile) → (is : IsOpenFile (things_in s a) name x.frame f bytes) →
@@ -440,11 +634,23 @@ module _ {names : Names} {s : KernelState} {a : AbstractState} (h : StandsFor na
           same = stands.2 ∙ is.same;
         }
 
+        by_end : (pipe mode : ℕ) → IsEnd (things_in s a) name pipe x.frame mode bytes → IsEnd (things_in (with_spaces s sp) a) name pipe x.frame mode bytes
+        by_end pipe mode its = record {
+          numbered = its.numbered;
+          device = its.device;
+          mode_is = its.mode_is;
+          apart = λ q e there. none_has q e (own.frames q e there) its.apart;
+        }
+
         by_object : (o : Object) → HasObject (things_in s a) name x.frame o bytes → HasObject (things_in (with_spaces s sp) a) name x.frame o bytes
-        by_object terminal console = record { device = console.device; apart = λ q e there. none_has q e (own.frames q e there) console }
+        by_object terminal console = record { device = console.device; apart = λ q e there. none_has q e (own.frames q e there) console.apart }
         by_object (file f) its = by_place f its (own.places (number_of bytes) its.entry its.below its.stands)
-        by_object (read_end pipe) its = its
-        by_object (write_end pipe) its = its
+        by_object (read_end pipe) its = by_end pipe 0 its
+        by_object (write_end pipe) its = by_end pipe 1 its
+
+        by_kind : (is_pipe : Bool) → HasThing (things_in s a) name x.frame is_pipe bytes → HasThing (things_in (with_spaces s sp) a) name x.frame is_pipe bytes
+        by_kind false its = by_object (a.objects name) its
+        by_kind true its = record { holds = its.holds; few = its.few; apart = λ q e there. none_has q e (own.frames q e there) its.apart }
 
     -- The spaces are others, of which only the server's is seen to change.
     pub server_space : IsInOrder (with_spaces s sp) → StandsFor names (with_spaces s sp) a
@@ -463,12 +669,18 @@ module _ {names : Names} {s : KernelState} {a : AbstractState} (h : StandsFor na
               record {
                 home = was.home;
                 kind = was.kind;
-                shows = still_shown n p x (sym (same_counts n p) ∙ is) shared_page name (names.is_object name) (a.shared name) (sp.pages x.frame) was.shows;
+                of_pipe = was.of_pipe;
+                shows = still_shown n p x (sym (same_counts n p) ∙ is) shared_page name (names.is_object name) (names.is_pipe name) (a.shared name)
+                    (sp.pages x.frame) was.shows;
                 old = was.old;
               };
           users = rows.users;
           whole = rows.whole;
           beside = still_beside;
+          ends = ends_stand;
+          locks = locks_same (λ m. refl) (λ m p is. same_counts m p) (λ m p x is stands shared_page. same_bytes m p x (same_counts m p ∙ stands)) h.locks;
+          runs = h.runs;
+          old = h.old;
           free_slots = h.free_slots;
           first = h.first;
           server = record { status = h.server.status; pages = own.pages; tables = own.tables; alone = own.alone };
@@ -510,7 +722,7 @@ module _ {names : Names} {s : KernelState} {a : AbstractState} (h : StandsFor na
   pub words_stand : (after : KernelState) → SetsWords s after 0 → length (slot_at s 0).extra ≡ 12 → StandsFor names after a
   words_stand after sets twelve =
       subst (λ (z : KernelState). StandsFor names z a) (sym (sets.set ∙ both_set s 0 sets.registers sets.words))
-      (server_slot k refl refl refl (record { id = refl; env_type = refl; calm = λ runs. runs }) so)
+      (server_slot k refl refl refl (record { id = refl; env_type = refl; turns = refl; calm = λ runs. runs }) so)
     where
       k : Slot
       k = record (slot_at s 0) { registers = sets.registers; extra = sets.words }
@@ -541,6 +753,10 @@ module _ {names : Names} {s : KernelState} {a : AbstractState} (h : StandsFor na
     users = h.users;
     whole = h.whole;
     beside = h.beside;
+    ends = h.ends;
+    locks = h.locks;
+    runs = h.runs;
+    old = h.old;
     free_slots = h.free_slots;
     first = h.first;
     server = h.server;

@@ -54,8 +54,9 @@ use Rattle.lib_os.proofs.Placing.{allocated_made, inserted_given}
 use Rattle.lib_os.proofs.Quieting.{same_state, turn_given}
 use Rattle.lib_os.proofs.Remapping.{page_map_is}
 use Rattle.lib_os.proofs.Removing.{unmapped_removed}
-use Rattle.lib_os.proofs.ServerStands.{AreAlike, IsPlacePage, IsPlainPage, IsPrivate, IsPrivateAt, OthersKept, first_slot, had, new, placed_others}
-use Rattle.lib_os.proofs.ServerStands.{placed_own, plain_private, refusal_stands, removed_others, removed_own, same_own, server_space, words_stand}
+use Rattle.lib_os.proofs.ServerStands.{AreAlike, IsPlacePage, IsPlainPage, IsPrivate, IsPrivateAt, OthersKept, OwnKept, first_slot, had, new, placed_others}
+use Rattle.lib_os.proofs.ServerStands.{placed_own, plain_private, refusal_stands, removed_others, removed_own, same_own, server_space}
+use Rattle.lib_os.proofs.ServerStands.{servers_counts, words_stand}
 use Rattle.lib_os.proofs.StatesStand.{quiet_stands, server_set, slot_was_in_order, stopped_settles}
 use Rattle.lib_os.proofs.SlotsSet.{both_set}
 use Rattle.lib_os.proofs.Touching.{touched_quiet}
@@ -373,6 +374,11 @@ module _ {names : Names} {s : KernelState} {a : AbstractState} (h : StandsFor na
   live : is_live_slot (slot_at s 0) ≡ true
   live = (first_slot h).lives
 
+  -- its space is another
+  space_stands : (sp : SpacesState) → OthersKept s.spaces sp dir → OwnKept s.spaces sp dir a.opened a.files.blocks (logical s.spaces s.environments.slots) →
+      IsInOrder (with_spaces s sp) → StandsFor names (with_spaces s sp) a
+  space_stands sp others own order = server_space h sp others own (servers_counts h sp others own order.frames) order
+
   unchanged : (mid : KernelState) → mid ≡ s → Stays names s mid a
   unchanged mid same = record {
     stands = subst (λ (z : KernelState). StandsFor names z a) (sym same) h;
@@ -411,8 +417,8 @@ module _ {names : Names} {s : KernelState} {a : AbstractState} (h : StandsFor na
       mid ≡ with_bytes_put (with_spaces s (touched s.spaces dir va Write)) 0 va bytes → IsInOrder mid → Stays names s mid a
   unfolding rows_of
   was_written mid va bytes private same in_order =
-      changed mid sp (same ∙ put_is (with_spaces s t) 0 va bytes) in_order
-      (server_space h sp others (same_own h.server (λ i. rows_are i dir) (λ r. regions_are dir r)))
+      changed mid sp (same ∙ put_is (with_spaces s t) 0 va bytes) in_order (space_stands sp others
+      (same_own h.server (λ i. rows_are i dir) (λ r. regions_are dir r)))
     where
       t : SpacesState
       t = touched s.spaces dir va Write
@@ -478,7 +484,7 @@ module _ {names : Names} {s : KernelState} {a : AbstractState} (h : StandsFor na
             let it = comes_to asked (Answered 0) called (with_spaces s made.spaces) mid [] output made.step call in
             changed mid made.spaces it.1 in_order (λ order.
             let m = allocated_made s.spaces made.spaces dir (page_number va) perm made.frame h.in_order.frames order.frames permitted made.is in
-            server_space h made.spaces (placed_others m.placed (λ q r x is same. absurd (m.new q r x is same)))
+            space_stands made.spaces (placed_others m.placed (λ q r x is same. absurd (m.new q r x is same)))
             (placed_own h.server (page_number va) (record { frame = m.frame; perm = perm }) m.placed (new m.new)
             (λ place z is. inl (left place z is)) page region) order)
 
@@ -512,7 +518,7 @@ module _ {names : Names} {s : KernelState} {a : AbstractState} (h : StandsFor na
             changed mid sp it.1 in_order (λ order.
             let m = inserted_given s.spaces sp dir (page_number to) e dir (page_number from) x.0 h.in_order.frames order.frames bits x.1 x.2 is in
             let stands : rows_of s.spaces dir (page_number from) ≡ Some (lasting x.0) = ap (λ (o : Option Entry). option_map lasting o) x.1 in
-            server_space h sp (placed_others m.placed (λ q r y there same. ap sp.pages same ∙ m.same ∙ ap s.spaces.pages (sym same)))
+            space_stands sp (placed_others m.placed (λ q r y there same. ap sp.pages same ∙ m.same ∙ ap s.spaces.pages (sym same)))
             (placed_own h.server (page_number to) e m.placed (had (page_number from) (lasting x.0) stands x.2 alike)
             (left (lasting x.0) e stands x.2 alike) page region) order)
 
@@ -533,14 +539,14 @@ module _ {names : Names} {s : KernelState} {a : AbstractState} (h : StandsFor na
         (page_unmap_is s 0 live va (0 ∷ 0 ∷ 0 ∷ []) address) call in
         let removed = unmapped_removed s.spaces dir (page_number va) h.in_order.frames in
         changed mid sp it.1 in_order
-        (server_space h sp (removed_others removed) (removed_own h.server (page_number va) removed (λ place z is. left place z is)))
+        (space_stands sp (removed_others removed) (removed_own h.server (page_number va) removed (λ place z is. left place z is)))
 
   -- ---- the turn is given up
 
   gave_up : (mid : KernelState) → mid ≡ with_status s 0 Runnable → IsStatusFor (slot_at s 0).status false → Stays names s mid a
   gave_up mid same runs = record {
     stands = subst (λ (z : KernelState). StandsFor names z a) (sym same)
-        (server_set h k a.server refl (stopped_settles (slot_at s 0) k refl refl refl) so
+        (server_set h k a.server refl (stopped_settles (slot_at s 0) k refl refl refl refl) so
         (record { status = ready a.server h.server.status; pages = h.server.pages; tables = h.server.tables; alone = h.server.alone }));
     words = ap (λ (z : KernelState). (slot_at z 0).extra) same ∙ ap (λ (z : Slot). z.extra) (upd-at s.environments.slots 0 k);
   }

@@ -21,10 +21,12 @@ use Rattle.lib_os.specs.LibraryPages.{LibraryPages, has_copy, has_working, keeps
 use Rattle.lib_os.specs.declared.numbers.TheConstants.{PGFAULT_UPCALL}
 use Rattle.jos_base.specs.TrapFrames.{user_flags}
 use Rattle.lib_os.specs.LibraryCall.{library_step}
-use Rattle.lib_os.specs.LibrarySteps.{GoesOn, NothingRefused, IsLibraryStep}
+use Rattle.lib_os.specs.LibrarySteps.{GoesOn, HasTurn, NothingRefused, IsLibraryStep}
 use Rattle.lib_os.specs.Places.{place_in_words, place_of, is_handlers, service_word}
 use Rattle.lib_os.specs.Rows.{Names, EntryRow, rows_of}
-use Rattle.lib_os.specs.StandsFor.{StandsFor, StandsForSlot, StandsForBorn, StandsAt, StandsAtStep, IsStatusFor, IsIn, view_of, upcall_at}
+use Rattle.lib_os.specs.InService.{IsIn}
+use Rattle.lib_os.specs.StandsFor.{StandsFor, StandsForSlot, StandsForBorn, StandsAt, StandsAtStep, IsStatusFor, view_of, upcall_at}
+use Rattle.lib_os.proofs.PipesStand.{descriptors_turned, is_calm}
 use Rattle.lib_os.proofs.WordsTell.{is_in_handler, handler_runs, outside_stack}
 use Rattle.lib_os.specs.UserCalls.{Output, Prints}
 
@@ -145,11 +147,12 @@ library_moved at after words words_after row same held h = record {
 
 -- the environment's own part, when it is back at its program
 pub back_at_guest : {names : Names} {s : SpacesState} {k : Slot} {b : Born} (regs : Regs) → StandsForBorn names s k b →
-    holds_page (place_of k) ≡ false → k.rendezvous.receiving ≡ false → b.blocked ≡ false → is_handlers k.registers.esp ≡ false → regs.esp ≡ k.registers.esp →
+    holds_page (place_of k) ≡ false → is_calm (place_of k) ≡ true → k.rendezvous.receiving ≡ false → b.blocked ≡ false →
+    is_handlers k.registers.esp ≡ false → regs.esp ≡ k.registers.esp →
     regs.eflags ≡ k.registers.eflags →
     StandsForBorn names s (record k { registers = regs; extra = no_extra })
     (record b { program = guest regs; phase = at_guest; blocked = false })
-back_at_guest {s = s} {k = k} {b = b} regs own holds silent awake outside stack flags =
+back_at_guest {names = names} {s = s} {k = k} {b = b} regs own holds calm silent awake outside stack flags =
     let back : Slot = record k { registers = regs; extra = no_extra } in
     let after : Born = record b { program = guest regs; phase = at_guest; blocked = false } in
     let there : place_of back ≡ place.Guest = words_of_none regs no_extra (ap is_handlers stack ∙ outside) refl in
@@ -161,7 +164,7 @@ back_at_guest {s = s} {k = k} {b = b} regs own holds silent awake outside stack 
       env_type = own.env_type;
       runs = subst (λ (blocked : Bool). IsStatusFor k.status blocked) awake own.runs;
       upcall = own.upcall ∙ plain_upcall (place_of k) plain ∙ sym (ap upcall_at there);
-      descriptors = own.descriptors;
+      descriptors = descriptors_turned names s k.directory (place_of k) (place_of back) b.descriptors calm (ap is_calm there) own.descriptors;
       memory = own.memory;
       library = library_moved (place_of k) (place_of back) k.extra no_extra (rows_of s k.directory)
           (plain_copy (place_of k) plain ∙ sym (ap has_copy there))
@@ -182,14 +185,14 @@ back_at_guest {s = s} {k = k} {b = b} regs own holds silent awake outside stack 
 
 -- what an answer or an end is to the library
 pub finished : (s after : KernelState) (n : ℕ) (written : List ℕ) (output : Output) → Prints output written →
-    ((names : Names) (a : AbstractState) → StandsFor names s a → NothingRefused s after → GoesOn n after a written) →
+    ((names : Names) (a : AbstractState) → StandsFor names s a → HasTurn s n → NothingRefused s after → GoesOn n after a written) →
     IsLibraryStep (Ok progress.Finished) n s after output
-finished s after n written output gains goes = (written, gains, λ a h quiet. goes h.0 a h.1 quiet)
+finished s after n written output gains goes = (written, gains, λ a h turn quiet. goes h.0 a h.1 turn quiet)
 
 pub over : (s after : KernelState) (n : ℕ) (written : List ℕ) (output : Output) → Prints output written →
-    ((names : Names) (a : AbstractState) → StandsFor names s a → NothingRefused s after → GoesOn n after a written) →
+    ((names : Names) (a : AbstractState) → StandsFor names s a → HasTurn s n → NothingRefused s after → GoesOn n after a written) →
     IsLibraryStep (Ok progress.Ended) n s after output
-over s after n written output gains goes = (written, gains, λ a h quiet. goes h.0 a h.1 quiet)
+over s after n written output gains goes = (written, gains, λ a h turn quiet. goes h.0 a h.1 turn quiet)
 
 -- the console of an abstract state in which nothing was printed
 pub printed_nothing : (a : AbstractState) → a.console ≡ a.console ++ []

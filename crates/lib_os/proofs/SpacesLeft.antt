@@ -21,7 +21,7 @@ use Rattle.jos_base.specs.UserMemory.{with_entry_bits, with_bits, touched, touch
 use Rattle.jos_base.specs.Windows.{walked, entry_above, read_only, table_index}
 use Rattle.jos_base.specs.Words.{page_number, page_offset}
 use Rattle.lib_os.specs.InOrder.{HasOneUse, AreFree}
-use Rattle.lib_os.specs.Rows.{is_descriptor}
+use Rattle.lib_os.specs.Rows.{is_of_descriptor}
 use Rattle.lib_os.proofs.UsesFound.{framed}
 use Rattle.jos_base.proofs.Counts.{page_count-some}
 use Rattle.jos_base.proofs.Maps.{upd-other}
@@ -30,7 +30,7 @@ use Rattle.jos_base.proofs.Uses.{page_or_directory, page_or_table}
 
 -- none of the pages of a space has this frame, but those of descriptors
 abbrev pub IsNoPage : ℕ → SpacesState → ℕ → Type 0
-IsNoPage d s f = (p : ℕ) (e : Entry) → is_descriptor p ≡ false → s.entries d p ≡ Some e → e.frame ≢ f
+IsNoPage d s f = (p : ℕ) (e : Entry) → is_of_descriptor p ≡ false → s.entries d p ≡ Some e → e.frame ≢ f
 
 -- a space has its entries, its regions and the bytes of its pages which home has not
 pub record SpaceLeft (home d : ℕ) (s t : SpacesState) : Type 0 where
@@ -261,7 +261,7 @@ module _ (home d : ℕ) (s : SpacesState) (h : HasOneUse s) where
 
   -- none of its pages but those of descriptors is one of those that are left
   pub record IsBesidePages (t : SpacesState) : Type 0 where
-    pub none : (p : ℕ) (e : Entry) → is_descriptor p ≡ false → t.entries home p ≡ Some e → IsNoneLeft home d s e.frame
+    pub none : (p : ℕ) (e : Entry) → is_of_descriptor p ≡ false → t.entries home p ≡ Some e → IsNoneLeft home d s e.frame
 
   pub begins_beside : IsBesidePages s
   begins_beside = record { none = λ p e other there q x stands lacks same. lacks p e other there (sym same) }
@@ -315,7 +315,7 @@ module _ (home d : ℕ) (s : SpacesState) (h : HasOneUse s) where
       by_test true test some = (e, refl, let same : e.frame ≡ at.frame = cc in same, test)
       by_test false test refused = absurd cc
 
-  pub written_none : (t : SpacesState) (va : ℕ) (at : FrameOffset) → is_descriptor (page_number va) ≡ false → IsBesidePages t →
+  pub written_none : (t : SpacesState) (va : ℕ) (at : FrameOffset) → is_of_descriptor (page_number va) ≡ false → IsBesidePages t →
       reach_in t home va Write ≡ Ok at → IsNoneLeft home d s at.frame
   unfolding walked
   written_none t va at other k is =
@@ -337,7 +337,7 @@ module _ (home d : ℕ) (s : SpacesState) (h : HasOneUse s) where
       by_place e allowed true stands = k.none n e other stands
       by_place e allowed false stands = by_window e allowed (entry_above t home (n / NPTENTRIES) (n % NPTENTRIES)) stands
 
-  pub stored_left : (t : SpacesState) (va byte : ℕ) → is_descriptor (page_number va) ≡ false → IsBesidePages t → SpaceLeft home d s t →
+  pub stored_left : (t : SpacesState) (va byte : ℕ) → is_of_descriptor (page_number va) ≡ false → IsBesidePages t → SpaceLeft home d s t →
       SpaceLeft home d s (stored_byte t home va byte)
   unfolding stored_byte
   stored_left t va byte other beside k = by_outcome (reach_in t home va Write) refl

@@ -29,11 +29,13 @@ use Rattle.lib_os.specs.StandsFor.{StandsFor, view_of}
 use Rattle.lib_os.specs.StandsInHandler.{HasNoEnd, IsStoppedAt, is_refused_by, marked, may_follow, reading, stage_with, telling, wanted_from, writing}
 use Rattle.lib_os.specs.StandsInHandler.{buffer_of, handing, hands_back, following, takes_path}
 use Rattle.lib_os.proofs.BytesRead.{user_allows, user_lost, users_inside}
+use Rattle.lib_os.proofs.DescriptorLooks.{seen_calm}
 use Rattle.lib_os.proofs.DeviceLooks.{IsWritten, begins_written}
 use Rattle.lib_os.proofs.FaultEnds.{access_of, access_refused, faulted_step}
 use Rattle.lib_os.proofs.Fences.{inside_below, inside_number}
 use Rattle.lib_os.proofs.Logical.{inside_programs, is_plain, plain_unborne}
 use Rattle.lib_os.proofs.Paths.{next_asked, path_gathers, path_stepped}
+use Rattle.lib_os.proofs.PipesStand.{calm_unmade, is_calm}
 use Rattle.lib_os.proofs.Serving.{service_step}
 
 -- ---- an access that a page refuses
@@ -148,30 +150,30 @@ module _ (a : AbstractState) (n : ℕ) (b : Born) (regs : Regs) (va : ℕ) where
           ap (λ (at : ℕ). bytes_gathered a n b regs call at (MAXPATHLEN - length bytes) (λ more. gathering (bytes ++ more))) (sym there) ∙ rw off refl
 
 module _ {names : Names} {s : KernelState} {a : AbstractState} (h : StandsFor names s a) (n : ℕ) (b : Born) (at : a.slots n ≡ born b) where
-  pub stopped_step : is_plain (place_of (slot_at s n)) ≡ true → (write : Bool) (va : ℕ) (regs : Regs) (eax : ℕ) →
+  pub stopped_step : is_plain (place_of (slot_at s n)) ≡ true → is_calm (place_of (slot_at s n)) ≡ true → (write : Bool) (va : ℕ) (regs : Regs) (eax : ℕ) →
       b.program ≡ guest (record regs { eax = eax }) → b.blocked ≡ false →
       is_inside va ≡ true → is_refused_by write (rows_of s.spaces (slot_at s n).directory (page_number va)) ≡ true →
       IsStoppedAt write (view_of s.spaces (slot_at s n).directory) b va regs.eip → abs_step a n ≡ Some (ends_with a n b (line.UserFault va regs.eip))
-  stopped_step plain write va regs eax program awake inside refused (marked phase) = faulted_step a n b (record regs { eax = eax }) va regs.eip at awake program phase
-  stopped_step plain write va regs eax program awake inside refused (reading fd buffer len bytes answer writes phase more) =
+  stopped_step plain calm write va regs eax program awake inside refused (marked phase) = faulted_step a n b (record regs { eax = eax }) va regs.eip at awake program phase
+  stopped_step plain calm write va regs eax program awake inside refused (reading fd buffer len bytes answer writes phase more) =
       service_step a n b (record regs { eax = eax }) (service.Read fd buffer len) (delivering va bytes answer) at program phase awake
       ∙ read_ends a n b (record regs { eax = eax }) va fd buffer len bytes answer
       (ap (λ (w : Bool). page_allows (page_at b va) (access_of w)) (sym writes) ∙ page_refuses h n b at write va inside refused)
-  stopped_step plain write va regs eax program awake inside refused (telling fd buffer bytes answer writes phase more) =
+  stopped_step plain calm write va regs eax program awake inside refused (telling fd buffer bytes answer writes phase more) =
       service_step a n b (record regs { eax = eax }) (service.Stat fd buffer) (delivering va bytes answer) at program phase awake
       ∙ stat_ends a n b (record regs { eax = eax }) va fd buffer bytes answer
       (ap (λ (w : Bool). page_allows (page_at b va) (access_of w)) (sym writes) ∙ page_refuses h n b at write va inside refused)
-  stopped_step plain write va regs eax program awake inside refused (handing call bytes answer writes hands phase some there) =
+  stopped_step plain calm write va regs eax program awake inside refused (handing call bytes answer writes hands phase some there) =
       service_step a n b (record regs { eax = eax }) call (replied bytes answer) at program phase awake
       ∙ handing_ends a n b (record regs { eax = eax }) va call bytes answer hands some there
       (ap (λ (w : Bool). page_allows (page_at b va) (access_of w)) (sym writes) ∙ page_refuses h n b at write va inside refused)
-  stopped_step plain write va regs eax program awake inside refused (writing fd buffer len start bytes reads wants there) =
+  stopped_step plain calm write va regs eax program awake inside refused (writing fd buffer len start bytes reads wants there) =
       service_step a n b (record regs { eax = eax }) (service.Write fd buffer len) (stage_with bytes) at program wants.phase awake
       ∙ write_ends a n b (record regs { eax = eax }) va fd buffer len start bytes
-      (begins_written h n b at (plain_unborne (place_of (slot_at s n)) plain) fd len start wants.given.below wants.given.begins) wants.given.buffer
+      (begins_written h n b at (plain_unborne (place_of (slot_at s n)) plain) (calm_unmade (place_of (slot_at s n)) calm) (seen_calm h n b at calm) fd len start wants.given.below wants.given.begins) wants.given.buffer
       wants.fewer there inside
       (ap (λ (w : Bool). page_allows (page_at b va) (access_of w)) (sym reads) ∙ page_refuses h n b at write va inside refused)
-  stopped_step plain write va regs eax program awake inside refused (following call bytes reads wants there) =
+  stopped_step plain calm write va regs eax program awake inside refused (following call bytes reads wants there) =
       service_step a n b (record regs { eax = eax }) call (stage_with bytes) at program wants.phase awake
       ∙ path_stops a n b (record regs { eax = eax }) va call wants.takes bytes wants.no_end wants.follows there
       (ap (λ (w : Bool). page_allows (page_at b va) (access_of w)) (sym reads) ∙ page_refuses h n b at write va inside refused)

@@ -77,6 +77,21 @@ touched_quiet s d va a = by_outcome (reach_in s d va a)
     by_outcome (Ok location) = bits_quiet s d (page_number va) a
     by_outcome (Err fault) = quiet_self s
 
+-- what frames are used for stays
+pub touched_uses : (s : SpacesState) (d va : ℕ) (a : Access) → (touched s d va a).uses ≡ s.uses
+unfolding touched
+touched_uses s d va a = by_outcome (reach_in s d va a)
+  where
+    by_place : (below window : Bool) (n : ℕ) →
+        (if below then with_page_bits s d n a else if window then with_region_bit s d (n % NPTENTRIES) else s).uses ≡ s.uses
+    by_place true window n = refl
+    by_place false true n = refl
+    by_place false false n = refl
+
+    by_outcome : (r : Result FrameOffset PageFault) → (touched_by s d va a r).uses ≡ s.uses
+    by_outcome (Ok location) = by_place (nat_lt (page_number va) page_limit) (page_number va / NPTENTRIES == table_index) (page_number va)
+    by_outcome (Err fault) = refl
+
 pub all_touched_quiet : (s : SpacesState) (d va n : ℕ) → Quiet s (all_touched s d va n)
 unfolding all_touched
 all_touched_quiet s d va zero = quiet_self s

@@ -32,13 +32,15 @@ use Rattle.lib_os.proofs.Effects.{Given}
 use Rattle.lib_os.proofs.EntryWords.{row_entry}
 use Rattle.lib_os.proofs.Fences.{page_inside_aligned, page_inside_below}
 use Rattle.lib_os.proofs.Logical.{page_inside_programs}
+use Rattle.lib_os.proofs.PipesStand.{is_calm}
 use Rattle.lib_os.proofs.Placing.{inserted_given}
 use Rattle.lib_os.proofs.Sending.{IsSomeone, is_born, is_unborn, no_step_unborn, no_step_yet}
 use Rattle.lib_os.proofs.Sending.{nobody_is_there, named_is, named_other, may_wait_yet, step_to_taken, answered_stands, word_sent, page_sent}
 use Rattle.lib_os.proofs.Serving.{holds_page}
 use Rattle.lib_os.proofs.Sends as sends
 use Rattle.lib_os.proofs.Sends.{with_message}
-use Rattle.lib_os.proofs.SlotsStand.{born_at, born_live, live_stands, ids_stand}
+use Rattle.lib_os.proofs.SlotsStand.{born_at, born_live, is_piped, live_stands, ids_stand}
+use Rattle.lib_os.proofs.StatesStand.{counts_beside}
 use Rattle.lib_os.proofs.Waiters.{IsTaken, accepted, no_destination, destination_is}
 
 pub data HasTried (names : Names) (s mid : KernelState) (a : AbstractState) (n word : ℕ) : Type 0 where
@@ -82,7 +84,8 @@ module _ {names : Names} {s : KernelState} {a : AbstractState} (h : StandsFor na
     (id value va perm : ℕ) (rest : List ℕ)
     (trying : IsTrying (rows_of s.spaces (slot_at s n).directory) (slot_at s n) b id value va perm) (small : value < 2 ^ 32)
     (outside : is_handlers (slot_at s n).registers.esp ≡ false) (unborne : borne_in (place_of (slot_at s n)) ≡ None)
-    (holds : holds_page (place_of (slot_at s n)) ≡ false) (mid : KernelState) (word : ℕ) where
+    (holds : holds_page (place_of (slot_at s n)) ≡ false) (calm : is_calm (place_of (slot_at s n)) ≡ true)
+    (off : is_piped (place_of (slot_at s n)) ≡ false) (last : s.last ≡ Some n) (mid : KernelState) (word : ℕ) where
   abbrev t : ℕ
   t = id % NENV
 
@@ -170,7 +173,7 @@ module _ {names : Names} {s : KernelState} {a : AbstractState} (h : StandsFor na
             call (destination_of va) ≡ giving (with_message s n t value 0) (Answered 0) → HasTried names s mid a n word
         word_over none call_is =
             over (with_message s n t value 0) 0 call_is (λ e. omega (arith, e)) the_end stepped refl
-            (word_sent h n b at unborne holds idle awake outside t apart c is taken value small va none)
+            (word_sent h n b at unborne holds calm idle awake outside t apart c is taken value small va none)
 
         without_page : va ≡ 0 → HasTried names s mid a n word
         without_page none =
@@ -236,8 +239,8 @@ module _ {names : Names} {s : KernelState} {a : AbstractState} (h : StandsFor na
                 let passes : (is_shared page.entry.perm || not (may_write page.entry.perm)) ≡ true =
                 subst (λ (x : ℕ). (is_shared x || not (may_write x)) ≡ true) page.bits page.passes in
                 over (with_message (with_spaces s sp) n t value page.entry.perm) 0 came_is (λ e. omega (arith, e)) the_end stepped refl
-                (page_sent h n b at unborne holds idle awake outside t apart c is taken value small va page.inside page.entry page.stands passes entered_there
-                (grind (arith, nat_tests, some)) somewhere ordered)
+                (page_sent h n b at unborne holds calm idle awake outside t apart c is taken value small va page.inside page.entry page.stands passes entered_there
+                (grind (arith, nat_tests, some)) somewhere ordered (λ q ne. counts_beside h n last off sp q))
 
           by_wanted : (x : Bool) → (taken.w.va == 0) ≡ x → HasTried names s mid a n word
           by_wanted true off = not_wanted (grind (arith, nat_tests, off))
@@ -263,7 +266,7 @@ module _ {names : Names} {s : KernelState} {a : AbstractState} (h : StandsFor na
         let nobody : found s.environments id n false ≡ None = found_is ∙ ap (λ (x : Bool). if x then Some t else None) off in
         over s (negated E_BAD_ENV) (sends.nobody_named s n id value (destination_of va) perm rest live idle nobody) (λ e. omega (arith, e))
         (refused a n b (slot_at s n).registers E_BAD_ENV) (nobody_is_there h n b at id value va perm trying off) refl
-        (answered_stands h n b at (slot_at s n) (negated E_BAD_ENV) refl unborne holds idle awake outside)
+        (answered_stands h n b at (slot_at s n) (negated E_BAD_ENV) refl unborne holds calm idle awake outside)
 
     pub tried : HasTried names s mid a n word
     tried = by_living (lives a id) refl

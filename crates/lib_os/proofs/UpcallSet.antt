@@ -24,6 +24,7 @@ use Rattle.lib_os.proofs.Calls.{caller_is, given_back, system_is}
 use Rattle.lib_os.proofs.Handled.{IsHandled, eflags_kept, esp_kept, handler_place, handler_slot}
 use Rattle.lib_os.proofs.Children.{bears_none}
 use Rattle.lib_os.proofs.Logical.{is_plain}
+use Rattle.lib_os.proofs.PipesStand.{calm_places, descriptors_turned, is_calm}
 use Rattle.lib_os.proofs.Serving.{library_moved}
 use Rattle.lib_os.proofs.Slots.{registers_put, slot_put}
 use Rattle.lib_os.proofs.SlotsSet.{set_twice}
@@ -118,7 +119,8 @@ module _ {names : Names} {s : KernelState} {a : AbstractState} (h : StandsFor na
       env_type = v.own.env_type;
       runs = v.own.runs;
       upcall = sym (ap upcall_at there);
-      descriptors = v.own.descriptors;
+      descriptors = descriptors_turned names s.spaces k.directory (place_of k) (place_of after) v.b.descriptors (ap is_calm stands) (ap is_calm there)
+          v.own.descriptors;
       memory = v.own.memory;
       library = library_moved (place_of k) (place_of after) k.extra k.extra (rows_of s.spaces k.directory)
           (ap has_copy stands ∙ sym (ap has_copy there)) (words_work k (handler_registers k.registers to)) v.own.library;
@@ -131,9 +133,9 @@ module _ {names : Names} {s : KernelState} {a : AbstractState} (h : StandsFor na
 
     set_stands : StandsFor names (with_slot_at s n after) a
     set_stands =
-        slot_replaced h n v.b v.is after refl (record { id = refl; env_type = refl; calm = λ runs. runs })
+        slot_replaced h n v.b v.is after refl (record { id = refl; env_type = refl; turns = refl; calm = λ runs. runs })
         (plain_alike (place_of k) (place_of after) (ap is_plain stands) (ap is_plain there))
-        (bears_none (ap borne_in stands) (ap borne_in there)) own
+        (bears_none (ap borne_in stands) (ap borne_in there)) own (calm_places (ap is_calm stands) (ap is_calm there))
 
     pub unset_stands : StandsFor names (with_registers (with_upcall s n 0) n (handler_registers (slot_at (with_upcall s n 0) n).registers to)) a
     unset_stands =

@@ -1,7 +1,7 @@
 -- Who waits for a message, waits in both systems: a receiver in its service, and nobody else. One that is waited for by the
 -- kernel's words is taken by the abstract system, and the other way round.
 use Rattle.std.proofs.Common.{◌≡◌, ◌≢◌, ◌∙◌, ◌⊎◌, inl, inr, ◌≤◌, ◌%◌, ◌==◌, ◌&&◌, ◌||◌, ℕ, Bool, true, false, Option, Some, None, List, ◌<◌, ◌+◌, ◌*◌}
-use Rattle.std.proofs.Common.{[], ◌∷◌}
+use Rattle.std.proofs.Common.{[], ◌∷◌, suc}
 use Rattle.std.proofs.Common.{refl, sym, ap, subst, arith, if◌then◌else◌}
 use Rattle.std.specs.Prelude.{nat_lt}
 use Rattle.std.proofs.lemmas.Bool.Decides.{nat_tests}
@@ -14,6 +14,8 @@ use Rattle.jos_base.specs.KernelState.{KernelState, slot_at}
 use Rattle.jos_base.specs.Messages.{Rendezvous, accepts}
 use Rattle.jos_base.specs.Words.{page_number}
 use Rattle.lib_os.specs.declared.place.HandlerStep.{HandlerStep}
+use Rattle.lib_os.specs.declared.place.PipeStep.{PipeStep}
+use Rattle.lib_os.specs.declared.place.PipeStep.TheVariants as pipe
 use Rattle.lib_os.specs.declared.place.Place.{Place}
 use Rattle.lib_os.specs.declared.place.Place.TheVariants as place
 use Rattle.lib_os.specs.declared.place.Step.{Step}
@@ -27,9 +29,11 @@ use Rattle.lib_os.specs.LibraryPages.{View}
 use Rattle.lib_os.specs.Places.{place_of}
 use Rattle.lib_os.specs.Rows.{Names, is_programs}
 use Rattle.lib_os.specs.AbstractState.{in_service, replied}
+use Rattle.lib_os.specs.InService.{IsIn}
+use Rattle.lib_os.specs.StandsAtPipe.{HasMoved, StandsAtPipe, StandsMoving, StandsOnPipe}
 use Rattle.lib_os.specs.StandsFor.{AwaitsOrHasBytes, IsCounting, awaits_bytes, has_bytes}
-use Rattle.lib_os.specs.StandsInHandler.{HasBytes, answer_behind, buffer_of, handing, hands_back, in_handing, stage_behind}
-use Rattle.lib_os.specs.StandsFor.{StandsFor, StandsAt, StandsAtStep, view_of, IsIn, IsReceiving, HasReceived, IsBearing}
+use Rattle.lib_os.specs.StandsInHandler.{HandsAt, HasBytes, behind, by_reply, handing, hands_back, in_handing}
+use Rattle.lib_os.specs.StandsFor.{StandsFor, StandsAt, StandsAtStep, view_of, IsReceiving, HasReceived, IsBearing}
 use Rattle.lib_os.specs.StandsFor.{AwaitsFileOrHas, AwaitsOrHas, HasWholePath, awaits, awaits_file, has_opened, has_reply}
 use Rattle.lib_os.specs.StandsFor.{WaitsOrHas, waits, has, destination_of, StandsAtDevice, StandsBefore, IsTaking, descriptor_given}
 use Rattle.lib_os.specs.StandsInHandler.{CopiesOrEnds, copies, ends, StandsDelivering, StandsBeneath, at_program, in_delivery}
@@ -150,18 +154,20 @@ at_device : (v : View) {k : Slot} {c : Born} (s : Service) (o : Option ℕ) → 
 at_device v s None h = absurd h
 at_device v s (Some fd) h = in_silence s h.is_in
 
--- it has bytes of a file
-handing_nowhere : (s : Service) (va : ℕ) (bytes : List ℕ) (answer done : ℕ) → hands_back s ≡ true →
-    waiting_in (in_service s (stage_behind va bytes answer done)) ≡ None
-handing_nowhere (service.Read fd at len) va bytes answer done hands = refl
-handing_nowhere (service.Stat fd at) va bytes answer done hands = refl
-handing_nowhere _ va bytes answer done hands = absurd (let contradiction : false ≡ true = hands in cc)
+-- it has bytes of a file, or of a pipe
+handing_nowhere : (s : Service) (stage : Stage) → hands_back s ≡ true → waiting_in (in_service s stage) ≡ None
+handing_nowhere (service.Read fd at len) stage hands = refl
+handing_nowhere (service.Stat fd at) stage hands = refl
+handing_nowhere _ stage hands = absurd (let contradiction : false ≡ true = hands in cc)
+
+handed_nowhere : (c : Born) (s : Service) (bytes : List ℕ) (answer done : ℕ) (q : Phase) → hands_back s ≡ true → c.phase ≡ q →
+    HandsAt s bytes answer done q → waiting_in c.phase ≡ None
+handed_nowhere c s bytes answer _ _ hands same by_reply = ap (λ (p : Phase). waiting_in p) same ∙ handing_nowhere s _ hands
+handed_nowhere c s bytes answer _ _ hands same (behind done) = ap (λ (p : Phase). waiting_in p) same ∙ handing_nowhere s _ hands
 
 hands_bytes : {v : View} {k : Slot} {c : Born} (s : Service) (done count : ℕ) → HasBytes v k c s done count → WaitsNot k c
-hands_bytes s done count h = record {
-  deaf = quiet h.silent;
-  nowhere = ap (λ (p : Phase). waiting_in p) h.phase ∙ handing_nowhere s (buffer_of s) h.bytes (answer_behind s count) done h.hands;
-}
+hands_bytes {c = c} s done count h =
+    record { deaf = quiet h.silent; nowhere = handed_nowhere c s h.bytes _ done c.phase h.hands refl h.hands_at }
 
 counts_bytes : (v : View) (k : Slot) (c : Born) (s : Service) (id : ℕ) → IsCounting v k c s id → WaitsNot k c
 counts_bytes v k c s id h = by_service s h.hands h.so
@@ -177,9 +183,108 @@ counts_bytes v k c s id h = by_service s h.hands h.so
         record { deaf = quiet so.silent; nowhere = ap (λ (p : Phase). waiting_in p) so.phase }
     by_service _ hands so = absurd (let contradiction : false ≡ true = hands in cc)
 
+-- it moves bytes from or to a pipe
+moved_silent : (v : View) (k : Slot) (c : Born) (s : Service) (done : ℕ) → HasMoved v k c s done → WaitsNot k c
+moved_silent v k c (service.Read fd va len) done h = record { deaf = quiet h.is_in.silent; nowhere = ap (λ (p : Phase). waiting_in p) h.is_in.phase }
+moved_silent v k c (service.Write fd va len) done h = record { deaf = quiet h.is_in.silent; nowhere = ap (λ (p : Phase). waiting_in p) h.is_in.phase }
+moved_silent v k c _ done h = absurd h
+
+held_none : (v : View) (k : Slot) (c : Born) (s : Service) (done from : ℕ) → StandsMoving v k c s (pipe.LoadingHeld done from) → WaitsNot k c
+held_none v k c (service.Read fd va len) done from h = moved_silent v k c (service.Read fd va len) done h.0.0
+held_none v k c _ done from h = absurd h
+
+kept_none : (v : View) (k : Slot) (c : Born) (s : Service) (done from byte : ℕ) → StandsMoving v k c s (pipe.KeepingHeld done from byte) →
+    WaitsNot k c
+kept_none v k c (service.Read fd va len) done from byte h = moved_silent v k c (service.Read fd va len) done h.0.0
+kept_none v k c _ done from byte h = absurd h
+
+gone_none : (v : View) (k : Slot) (c : Born) (s : Service) (done from : ℕ) → StandsMoving v k c s (pipe.TakingHeld done from) → WaitsNot k c
+gone_none v k c (service.Read fd va len) done from h = moved_silent v k c (service.Read fd va len) done h.0.0
+gone_none v k c _ done from h = absurd h
+
+ended_none : (v : View) (k : Slot) (c : Born) (s : Service) (done : ℕ) → StandsMoving v k c s (pipe.UnlockingEnd done) → WaitsNot k c
+ended_none v k c (service.Read fd va len) done h = hands_bytes (service.Read fd va len) 0 done h.0
+ended_none v k c _ done h = absurd h
+
+loaded_none : (v : View) (k : Slot) (c : Born) (s : Service) (done to : ℕ) → StandsMoving v k c s (pipe.LoadingOwn done to) → WaitsNot k c
+loaded_none v k c (service.Write fd va len) done to h = moved_silent v k c (service.Write fd va len) done h.0.0
+loaded_none v k c _ done to h = absurd h
+
+putting_none : (v : View) (k : Slot) (c : Born) (s : Service) (done to byte : ℕ) → StandsMoving v k c s (pipe.PuttingOwn done to byte) →
+    WaitsNot k c
+putting_none v k c (service.Write fd va len) done to byte h = moved_silent v k c (service.Write fd va len) done h.0.0
+putting_none v k c _ done to byte h = absurd h
+
+behind_none : (v : View) (k : Slot) (c : Born) (s : Service) (done to : ℕ) → StandsMoving v k c s (pipe.Putting done to) → WaitsNot k c
+behind_none v k c (service.Write fd va len) done to h = moved_silent v k c (service.Write fd va len) done h.0.0
+behind_none v k c _ done to h = absurd h
+
+moving_none : (v : View) (k : Slot) (c : Born) (s : Service) (at : PipeStep) → StandsMoving v k c s at → WaitsNot k c
+moving_none v k c s (pipe.Locking done id runs) h = moved_silent v k c s done h.0.0
+moving_none v k c s (pipe.LockPausing done) h = moved_silent v k c s done h.0
+moving_none v k c s (pipe.ReadFrom done id runs) h = moved_silent v k c s done h.0.0
+moving_none v k c s (pipe.ReadTo done id runs from) h = moved_silent v k c s done h.0.0
+moving_none v k c s (pipe.UnlockingMoved done) h = moved_silent v k c s done h.0
+moving_none v k c s (pipe.UnlockingTest done id runs) h = moved_silent v k c s done h.0.0
+moving_none v k c s (pipe.TestIdentifying done) h = moved_silent v k c s done h.0
+moving_none v k c s (pipe.TestRuns done id) h = moved_silent v k c s done h.0.0
+moving_none v k c s (pipe.TestAgain done id runs) h = moved_silent v k c s done h.0.0
+moving_none v k c s (pipe.TestFrom done id runs) h = moved_silent v k c s done h.0.0
+moving_none v k c s (pipe.TestTo done id runs from) h = moved_silent v k c s done h.0.0
+moving_none v k c s (pipe.TestDescriptor done id runs) h = moved_silent v k c s done h.0.0
+moving_none v k c s (pipe.TestDescriptorCount done id runs word) h = moved_silent v k c s done h.0.0
+moving_none v k c s (pipe.TestPipe done id runs count) h = moved_silent v k c s done h.0.0
+moving_none v k c s (pipe.TestPipeCount done id runs count word) h = moved_silent v k c s done h.0.0
+moving_none v k c s (pipe.TestRunsAgain done id runs closed) h = moved_silent v k c s done h.0.0
+moving_none v k c s (pipe.TestPausing done) h = moved_silent v k c s done h.0
+moving_none v k c s (pipe.LoadingHeld done from) h = held_none v k c s done from h
+moving_none v k c s (pipe.KeepingHeld done from byte) h = kept_none v k c s done from byte h
+moving_none v k c s (pipe.TakingHeld done from) h = gone_none v k c s done from h
+moving_none v k c s (pipe.UnlockingEnd done) h = ended_none v k c s done h
+moving_none v k c s (pipe.LoadingOwn done to) h = loaded_none v k c s done to h
+moving_none v k c s (pipe.PuttingOwn done to byte) h = putting_none v k c s done to byte h
+moving_none v k c s (pipe.Putting done to) h = behind_none v k c s done to h
+moving_none v k c s _ h = absurd h
+
+on_pipe_none : (v : View) (k : Slot) (c : Born) (s : Service) (at : PipeStep) → StandsOnPipe v k c s at → WaitsNot k c
+on_pipe_none v k c s pipe.EndMode h = in_silence s h.1.is_in
+on_pipe_none v k c s pipe.TakingBytes h = in_silence s h.0.is_in
+on_pipe_none v k c s at h = moving_none v k c s at h
+
+-- it makes one, tells of one, or drops an end
+piped_none : (v : View) (k : Slot) (c : Born) (s : Service) (at : PipeStep) → StandsAtPipe v k c s at → WaitsNot k c
+piped_none v k c service.Pipe (pipe.SecondEntry first fd) h = in_silence _ h.is_in
+piped_none v k c service.Pipe (pipe.TakingReading first second) h = in_silence _ h.is_in
+piped_none v k c service.Pipe (pipe.StoringReading first second) h = in_silence _ h.is_in
+piped_none v k c service.Pipe (pipe.TakingWriting first second) h = in_silence _ h.is_in
+piped_none v k c service.Pipe (pipe.StoringWriting first second) h = in_silence _ h.is_in
+piped_none v k c service.Pipe (pipe.StoringEndMode first second) h = in_silence _ h.is_in
+piped_none v k c service.Pipe (pipe.TakingPipe first second) h = in_silence _ h.is_in
+piped_none v k c service.Pipe (pipe.MappingPipe first second) h = in_silence _ h.is_in
+piped_none v k c (service.Read fd va len) at h = on_pipe_none v k c (service.Read fd va len) at h
+piped_none v k c (service.Write fd va len) at h = on_pipe_none v k c (service.Write fd va len) at h
+piped_none v k c (service.Stat fd va) pipe.StatLocking h = in_silence _ h.1.is_in
+piped_none v k c (service.Stat fd va) pipe.StatPausing h = in_silence _ h.1.is_in
+piped_none v k c (service.Stat fd va) pipe.StatFrom h = in_silence _ h.1.is_in
+piped_none v k c (service.Stat fd va) (pipe.StatTo from) h = in_silence _ h.0.1.is_in
+piped_none v k c (service.Stat fd va) (pipe.StatUnlocking held) h = delivers (service.Stat fd va) 0 (suc held) h.0
+piped_none v k c (service.Close fd) (pipe.PipeEntry at) h = in_silence _ h.0
+piped_none v k c (service.Close fd) (pipe.DroppingEnd at) h = in_silence _ h.0
+piped_none v k c (service.Close fd) (pipe.DroppingPipe at) h = in_silence _ h.0
+piped_none v k c service.Exit (pipe.PipeEntry fd) h = in_silence _ h.0.is_in
+piped_none v k c service.Exit (pipe.DroppingEnd fd) h = in_silence _ h.0.is_in
+piped_none v k c service.Exit (pipe.DroppingPipe fd) h = in_silence _ h.0.is_in
+piped_none v k c (service.Dup old new) (pipe.PipeEntry at) h = in_silence _ h.0.is_in
+piped_none v k c (service.Dup old new) (pipe.DroppingEnd at) h = in_silence _ h.0.is_in
+piped_none v k c (service.Dup old new) (pipe.DroppingPipe at) h = in_silence _ h.0.is_in
+piped_none v k c (service.Dup old new) pipe.SourcePipe h = in_silence _ h.0.is_in
+piped_none v k c (service.Dup old new) pipe.MappingEnd h = in_silence _ h.0.is_in
+piped_none v k c _ _ h = absurd h
+
 at_step : (v : View) (k : Slot) (c : Born) (s : Service) (stands : Step) → StandsAtStep v k c s stands →
     WaitsNot k c ⊎ Waits (place.InService s stands) k c
 at_step v k c s step.Entered h = inl (in_silence s h)
+at_step v k c s (step.Piped at) h = inl (piped_none v k c s at h)
 at_step v k c s step.ReadingDevice h = inl (at_device v s (descriptor_given s) h)
 at_step v k c s (step.BufferRegion done word) h = inl (before_byte _ v s done word h)
 at_step v k c s (step.BufferEntry done word) h = inl (before_byte _ v s done word h)
@@ -349,6 +454,7 @@ at_step v k c service.Fork (step.Remap id page) h = inl (bearing_silent id h.0)
 at_step v k c service.Fork (step.ChildStack id) h = inl (bearing_silent id h)
 at_step v k c service.Fork (step.ChildUpcall id) h = inl (bearing_silent id h)
 at_step v k c service.Fork (step.ChildRuns id) h = inl (bearing_silent id h)
+at_step v k c service.Pipe (step.FreeEntry fd) h = inl (in_silence _ h.0)
 at_step v k c service.Exit (step.DescriptorEntry fd) h = inl (in_silence _ h.0)
 at_step v k c service.Exit (step.DroppingDescriptor fd) h = inl (in_silence _ h.0)
 at_step v k c service.Exit step.Ending h = inl (in_silence _ h.0)

@@ -7,16 +7,17 @@ use Rattle.lib_os.specs.declared.place.HandlerStep.{HandlerStep}
 use Rattle.lib_os.specs.declared.place.HandlerStep.TheVariants as handler
 use Rattle.lib_os.specs.declared.place.Place.{Place}
 use Rattle.lib_os.specs.declared.place.Place.TheVariants as place
+use Rattle.lib_os.specs.declared.place.PipeStep.TheVariants as pipe
 use Rattle.lib_os.specs.declared.place.Step.{Step}
 use Rattle.lib_os.specs.declared.place.Step.TheVariants as step
 use Rattle.lib_os.specs.declared.service.Service.{Service}
-use Rattle.lib_os.specs.Places.{place_in_words, step_in, words_at, is_handlers, handler_step_in, handler_registers, service_word}
+use Rattle.lib_os.specs.Places.{place_in_words, pipe_step_in, end_step_in, pipe_words_at, step_in, words_at, is_handlers, handler_step_in, handler_registers, service_word}
 use Rattle.lib_os.specs.Services.{service_of}
 use Rattle.lib_os.specs.StandingLaws.{IsHandlerStep}
 
 pub place_at : (regs : Regs) (number : ℕ) (at : Step) → is_handlers regs.esp ≡ false →
     place_in_words regs (words_at number at) ≡ place.InService (service_of (record regs { eax = number })) at
-unfolding place_in_words step_in words_at
+unfolding place_in_words pipe_step_in end_step_in pipe_words_at step_in words_at
 place_at regs number at outside =
     let some : (number + 1 == 0) ≡ false = grind (arith, nat_tests) in
     let back : number + 1 - 1 ≡ number = omega arith in
@@ -86,6 +87,52 @@ place_at regs number at outside =
     by_step (step.OpenAwaiting id fd) some back = rw (outside, some, back) refl
     by_step (step.OpenClearing id fd) some back = rw (outside, some, back) refl
     by_step (step.ReadingOpened id fd) some back = rw (outside, some, back) refl
+    by_step (step.Piped (pipe.SecondEntry reading fd)) some back = rw (outside, some, back) refl
+    by_step (step.Piped (pipe.TakingReading reading writing)) some back = rw (outside, some, back) refl
+    by_step (step.Piped (pipe.StoringReading reading writing)) some back = rw (outside, some, back) refl
+    by_step (step.Piped (pipe.TakingWriting reading writing)) some back = rw (outside, some, back) refl
+    by_step (step.Piped (pipe.StoringWriting reading writing)) some back = rw (outside, some, back) refl
+    by_step (step.Piped (pipe.StoringEndMode reading writing)) some back = rw (outside, some, back) refl
+    by_step (step.Piped (pipe.TakingPipe reading writing)) some back = rw (outside, some, back) refl
+    by_step (step.Piped (pipe.MappingPipe reading writing)) some back = rw (outside, some, back) refl
+    by_step (step.Piped (pipe.UndoingWriting reading writing error)) some back = rw (outside, some, back) refl
+    by_step (step.Piped (pipe.UndoingReading reading error)) some back = rw (outside, some, back) refl
+    by_step (step.Piped (pipe.PipeEntry fd)) some back = rw (outside, some, back) refl
+    by_step (step.Piped (pipe.DroppingEnd fd)) some back = rw (outside, some, back) refl
+    by_step (step.Piped (pipe.DroppingPipe fd)) some back = rw (outside, some, back) refl
+    by_step (step.Piped pipe.SourcePipe) some back = rw (outside, some, back) refl
+    by_step (step.Piped pipe.MappingEnd) some back = rw (outside, some, back) refl
+    by_step (step.Piped pipe.EndMode) some back = rw (outside, some, back) refl
+    by_step (step.Piped pipe.TakingBytes) some back = rw (outside, some, back) refl
+    by_step (step.Piped (pipe.Locking done id runs)) some back = rw (outside, some, back) refl
+    by_step (step.Piped (pipe.LockPausing done)) some back = rw (outside, some, back) refl
+    by_step (step.Piped (pipe.ReadFrom done id runs)) some back = rw (outside, some, back) refl
+    by_step (step.Piped (pipe.ReadTo done id runs from)) some back = rw (outside, some, back) refl
+    by_step (step.Piped (pipe.LoadingHeld done from)) some back = rw (outside, some, back) refl
+    by_step (step.Piped (pipe.KeepingHeld done from byte)) some back = rw (outside, some, back) refl
+    by_step (step.Piped (pipe.TakingHeld done from)) some back = rw (outside, some, back) refl
+    by_step (step.Piped (pipe.LoadingOwn done to)) some back = rw (outside, some, back) refl
+    by_step (step.Piped (pipe.PuttingOwn done to byte)) some back = rw (outside, some, back) refl
+    by_step (step.Piped (pipe.Putting done to)) some back = rw (outside, some, back) refl
+    by_step (step.Piped (pipe.UnlockingMoved done)) some back = rw (outside, some, back) refl
+    by_step (step.Piped (pipe.UnlockingEnd done)) some back = rw (outside, some, back) refl
+    by_step (step.Piped (pipe.UnlockingTest done id runs)) some back = rw (outside, some, back) refl
+    by_step (step.Piped (pipe.TestIdentifying done)) some back = rw (outside, some, back) refl
+    by_step (step.Piped (pipe.TestRuns done id)) some back = rw (outside, some, back) refl
+    by_step (step.Piped (pipe.TestAgain done id runs)) some back = rw (outside, some, back) refl
+    by_step (step.Piped (pipe.TestFrom done id runs)) some back = rw (outside, some, back) refl
+    by_step (step.Piped (pipe.TestTo done id runs from)) some back = rw (outside, some, back) refl
+    by_step (step.Piped (pipe.TestDescriptor done id runs)) some back = rw (outside, some, back) refl
+    by_step (step.Piped (pipe.TestDescriptorCount done id runs entry)) some back = rw (outside, some, back) refl
+    by_step (step.Piped (pipe.TestPipe done id runs count)) some back = rw (outside, some, back) refl
+    by_step (step.Piped (pipe.TestPipeCount done id runs count entry)) some back = rw (outside, some, back) refl
+    by_step (step.Piped (pipe.TestRunsAgain done id runs closed)) some back = rw (outside, some, back) refl
+    by_step (step.Piped (pipe.TestPausing done)) some back = rw (outside, some, back) refl
+    by_step (step.Piped pipe.StatLocking) some back = rw (outside, some, back) refl
+    by_step (step.Piped pipe.StatPausing) some back = rw (outside, some, back) refl
+    by_step (step.Piped pipe.StatFrom) some back = rw (outside, some, back) refl
+    by_step (step.Piped (pipe.StatTo from)) some back = rw (outside, some, back) refl
+    by_step (step.Piped (pipe.StatUnlocking held)) some back = rw (outside, some, back) refl
 
 -- ---- the handler's registers
 

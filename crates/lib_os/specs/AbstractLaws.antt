@@ -18,7 +18,7 @@ use Rattle.lib_os.specs.AbstractFork.{child_of, bear}
 use Rattle.lib_os.specs.AbstractPipes.{write_pipe}
 use Rattle.lib_os.specs.Descriptors.{is_held}
 use Rattle.lib_os.specs.FileServer.{request_begun}
-use Rattle.lib_os.specs.AbstractRun.{abs_step}
+use Rattle.lib_os.specs.AbstractRun.{abs_step, pipe_of}
 
 -- The child is born with the memory that its parent has.
 abbrev pub ForkCopies : Type 0
@@ -81,6 +81,9 @@ pub record LeavesFiles (a after : AbstractState) : Type 0 where
   pub names : a.next_name ≤ after.next_name
   pub objects : (name : ℕ) → name < a.next_name → after.objects name ≡ a.objects name
   pub held : (name : ℕ) → is_held after name ≡ true → (is_held a name ≡ true) ⊎ IsNewName a after name
+  -- an end of a pipe was one, or its pipe has a new name
+  pub ends : (name pipe : ℕ) → pipe_of (Some (after.objects name)) ≡ Some pipe →
+      (pipe_of (Some (a.objects name)) ≡ Some pipe) ⊎ ((a.next_name ≤ pipe) × (pipe < after.next_name))
   -- a page is made under a new name alone
   pub pages : (name : ℕ) → (name < a.next_name) ⊎ (after.next_name ≤ name) → a.shared name ≡ [] → after.shared name ≡ []
 
@@ -164,16 +167,18 @@ abbrev pub opened_by : Server → Option ℕ
 opened_by (acted client answer bytes object) = object
 opened_by _ = None
 
--- no page has the name, and no environment a descriptor for it
+-- no page and no pipe has the name, and no environment a descriptor for it
 pub record IsNobodys (a : AbstractState) (name : ℕ) : Type 0 where
   pub old : name < a.next_name
   pub page : a.shared name ≡ []
   pub held : is_held a name ≡ false
+  pub ends : (end : ℕ) → pipe_of (Some (a.objects end)) ≢ Some name
 
--- Names are given in order, to pages as to objects, and what the server has opened is nobody's until its reply.
+-- Names are given in order, to pages as to objects and pipes, and what the server has opened is nobody's until its reply.
 pub record OpensNobodys (a : AbstractState) : Type 0 where
   pub pages : (name : ℕ) → a.next_name ≤ name → a.shared name ≡ []
   pub held : (name : ℕ) → is_held a name ≡ true → name < a.next_name
+  pub ends : (end pipe : ℕ) → pipe_of (Some (a.objects end)) ≡ Some pipe → pipe < a.next_name
   pub opened : (name : ℕ) → opened_by a.server ≡ Some name → IsNobodys a name
 
 -- Whom the server serves has asked it, and has no reply yet.

@@ -16,6 +16,7 @@ pub mod LibraryCall
 pub mod AbstractRun
 pub mod AbstractLaws
 pub mod InOrder
+pub mod InService
 pub mod Places
 pub mod DescriptorPages
 pub mod Rows
@@ -23,6 +24,9 @@ pub mod Disk
 pub mod BlockCache
 pub mod LibraryPages
 pub mod StandsInHandler
+pub mod StandsAtPipe
+pub mod PipeEnds
+pub mod PipeLaws
 pub mod StandsFor
 pub mod AskedFor
 pub mod LibrarySteps

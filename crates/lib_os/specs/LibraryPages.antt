@@ -15,11 +15,13 @@ use Rattle.lib_os.specs.declared.numbers.TheConstants.{SERVICE_WRITE, UXSTACK, S
 use Rattle.lib_os.specs.declared.place.HandlerStep.TheVariants as handler
 use Rattle.lib_os.specs.declared.place.Place.{Place}
 use Rattle.lib_os.specs.declared.place.Place.TheVariants as place
+use Rattle.lib_os.specs.declared.place.PipeStep.{PipeStep}
+use Rattle.lib_os.specs.declared.place.PipeStep.TheVariants as pipe
 use Rattle.lib_os.specs.declared.place.Step.{Step}
 use Rattle.lib_os.specs.declared.place.Step.TheVariants as step
 use Rattle.lib_os.specs.declared.service.Service.TheVariants as service
 use Rattle.lib_os.specs.Places.{service_word, step_in}
-use Rattle.lib_os.specs.Rows.{EntryRow, descriptor_perm, is_descriptor, is_programs, is_shared}
+use Rattle.lib_os.specs.Rows.{EntryRow, descriptor_perm, is_of_descriptor, is_programs, is_shared}
 
 -- ---- regions
 
@@ -33,11 +35,12 @@ is_library_region r = (r == region_index UTEMP) || (r == region_index FDTABLE) |
 
 -- ---- what is seen of a space
 
--- its entries, which regions have tables, and the bytes of frames
+-- its entries, which regions have tables, and of frames the bytes, and how often each is mapped
 pub record View : Type 0 where
   pub row : EntryRow
   pub tables : ℕ → Bool
   pub bytes : ℕ → List ℕ
+  pub counts : ℕ → ℕ
 
 -- a page of one's own, which may be written
 pub record IsOwnWritable (row : EntryRow) (p : ℕ) : Type 0 where
@@ -55,6 +58,34 @@ has_copy (place.InHandler (handler.Storing va index word)) = true
 has_copy (place.InHandler (handler.MappingOver va)) = true
 has_copy (place.InHandler (handler.Unmapping va)) = true
 has_copy _ = false
+
+-- read and write on a pipe have a page for the bytes that they move, from when they have taken it
+abbrev pub keeps_moved : PipeStep → Bool
+keeps_moved (pipe.Locking done id runs) = true
+keeps_moved (pipe.LockPausing done) = true
+keeps_moved (pipe.ReadFrom done id runs) = true
+keeps_moved (pipe.ReadTo done id runs from) = true
+keeps_moved (pipe.LoadingHeld done from) = true
+keeps_moved (pipe.KeepingHeld done from byte) = true
+keeps_moved (pipe.TakingHeld done from) = true
+keeps_moved (pipe.LoadingOwn done to) = true
+keeps_moved (pipe.PuttingOwn done to byte) = true
+keeps_moved (pipe.Putting done to) = true
+keeps_moved (pipe.UnlockingMoved done) = true
+keeps_moved (pipe.UnlockingEnd done) = true
+keeps_moved (pipe.UnlockingTest done id runs) = true
+keeps_moved (pipe.TestIdentifying done) = true
+keeps_moved (pipe.TestRuns done id) = true
+keeps_moved (pipe.TestAgain done id runs) = true
+keeps_moved (pipe.TestFrom done id runs) = true
+keeps_moved (pipe.TestTo done id runs from) = true
+keeps_moved (pipe.TestDescriptor done id runs) = true
+keeps_moved (pipe.TestDescriptorCount done id runs frame) = true
+keeps_moved (pipe.TestPipe done id runs count) = true
+keeps_moved (pipe.TestPipeCount done id runs count frame) = true
+keeps_moved (pipe.TestRunsAgain done id runs closed) = true
+keeps_moved (pipe.TestPausing done) = true
+keeps_moved _ = false
 
 -- write has a page at UTEMP in which it keeps the bytes of its buffer, from when it has taken it until it gives it back; of a file that tells
 -- its request
@@ -74,6 +105,8 @@ keeps_page (step.Asking id) = true
 keeps_page (step.Pausing id) = true
 keeps_page (step.Awaiting id) = true
 keeps_page (step.Clearing id) = true
+keeps_page (step.Piped at) = keeps_moved at
+keeps_page (step.Returning answer) = true
 keeps_page _ = false
 
 -- so have remove and open_file with their paths, from when they have taken the page until they give it back, behind the reply or where they refuse
@@ -117,6 +150,7 @@ keeps_request (step.LoadingRest done count first) = true
 keeps_request (step.PuttingBytes done count word) = true
 keeps_request (step.FileFaulting done count) = true
 keeps_request (step.Returning answer) = true
+keeps_request (step.Piped at) = keeps_moved at
 keeps_request _ = false
 
 -- these services, by their numbers
@@ -148,10 +182,10 @@ pub record LibraryPages (at : Place) (words : List ℕ) (row : EntryRow) : Type 
   pub stack : IsOwnWritable row (page_number UXSTACK)
   pub copy : has_copy at ≡ true → IsOwnWritable row (page_number PFTEMP)
   pub no_copy : has_copy at ≡ false → row (page_number PFTEMP) ≡ None
-  pub descriptors : (p : ℕ) (entry : Entry) → is_descriptor p ≡ true → row p ≡ Some entry → entry.perm ≡ descriptor_perm
+  pub descriptors : (p : ℕ) (entry : Entry) → is_of_descriptor p ≡ true → row p ≡ Some entry → entry.perm ≡ descriptor_perm
   pub working : has_working at words ≡ true → IsOwnWritable row (page_number UTEMP)
   pub no_working : has_working at words ≡ false → row (page_number UTEMP) ≡ None
-  pub none : (p : ℕ) → is_programs p ≡ false → is_descriptor p ≡ false → p ≢ page_number UXSTACK → p ≢ page_number PFTEMP →
+  pub none : (p : ℕ) → is_programs p ≡ false → is_of_descriptor p ≡ false → p ≢ page_number UXSTACK → p ≢ page_number PFTEMP →
       p ≢ page_number UTEMP → row p ≡ None
 
 -- The page at UTEMP has the first n of these bytes.

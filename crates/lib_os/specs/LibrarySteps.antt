@@ -1,7 +1,7 @@
 -- What a step of the library promises. Wherever the kernel's state stands for one of the abstract system, the state after
 -- the step stands for the same one, where the step is hidden, or for the one after the slot's step there. Nothing is said
 -- of a step that was refused a frame or a slot.
-use Rattle.std.specs.Prelude.{◌≡◌, ◌≢◌, ◌<◌, ◌≤◌, ℕ, ◌+◌, ◌-◌, ◌*◌, ◌/◌, ◌%◌, ◌^◌, ◌++◌, ◌==◌, ◌||◌, Bool, true, false, List, [], length, if◌then◌else◌}
+use Rattle.std.specs.Prelude.{◌≡◌, ◌≢◌, ◌<◌, ◌≤◌, ◌⊎◌, ℕ, ◌+◌, ◌-◌, ◌*◌, ◌/◌, ◌%◌, ◌^◌, ◌++◌, ◌==◌, ◌||◌, Bool, true, false, List, [], length, if◌then◌else◌}
 use Rattle.std.specs.Prelude.{Option, Some, None, Result, Ok, Err}
 use Rattle.jos_host.specs.declared.host.Failed.{Failed}
 use Rattle.jos_host.specs.Frames.{Around}
@@ -14,7 +14,8 @@ use Rattle.jos_base.specs.Reach.{Entry}
 use Rattle.jos_base.specs.Environments.{Slot, is_live, is_runnable, is_running, no_extra}
 use Rattle.jos_base.specs.KernelState.{KernelState, slot_at, with_slot_at}
 use Rattle.jos_base.specs.Messages.{delivered}
-use Rattle.jos_base.specs.SpacesState.{SpacesState, inserted}
+use Rattle.jos_base.specs.SpacesState.{SpacesState, inserted, reference_count}
+use Rattle.jos_base.specs.SpacesState as usage
 use Rattle.jos_base.specs.Words.{page_number}
 use Rattle.lib_os.specs.declared.user_os.Stop.{Stop}
 use Rattle.lib_os.specs.declared.user_os.Stop.TheVariants as stop
@@ -26,6 +27,8 @@ use Rattle.lib_os.specs.declared.place.HandlerStep.{HandlerStep}
 use Rattle.lib_os.specs.declared.place.HandlerStep.TheVariants as handler
 use Rattle.lib_os.specs.declared.place.Place.{Place}
 use Rattle.lib_os.specs.declared.place.Place.TheVariants as place
+use Rattle.lib_os.specs.declared.place.PipeStep.{PipeStep}
+use Rattle.lib_os.specs.declared.place.PipeStep.TheVariants as pipe
 use Rattle.lib_os.specs.declared.place.Step.{Step}
 use Rattle.lib_os.specs.declared.place.Step.TheVariants as step
 use Rattle.lib_os.specs.declared.service.Service.{Service}
@@ -35,7 +38,7 @@ use Rattle.lib_os.specs.AbstractRun.{abs_step, may_wait}
 use Rattle.lib_os.specs.InOrder.{IsInOrder}
 use Rattle.lib_os.specs.Need.{EachHasUse, count_below}
 use Rattle.lib_os.specs.Places.{place_of}
-use Rattle.lib_os.specs.Rows.{Names, EntryRow, rows_of, is_cow, is_descriptor}
+use Rattle.lib_os.specs.Rows.{Names, EntryRow, rows_of, is_cow, is_of_descriptor}
 use Rattle.lib_os.specs.StandsFor.{AwaitsRequest, StandsFor}
 use Rattle.lib_os.specs.UserCalls.{Output, Prints, PrintsPart}
 
@@ -64,10 +67,22 @@ pub record NothingRefused (before after : KernelState) : Type 0 where
   pub stays : after.refusals ≡ before.refusals
   pub could : before.refusals < 2 ^ 64 - 1
 
--- A step of the environment in slot n that has come to this, from one state of the kernel to another.
+-- The frame of a page has a record, which counts it by a word, and how often the environment in a slot has got a turn is a word.
+pub record HasCounts (s : KernelState) (n : ℕ) : Type 0 where
+  pub recorded : (frame : ℕ) → s.spaces.uses frame ≡ usage.page → frame < s.spaces.frames
+  pub counts : (frame : ℕ) → s.spaces.uses frame ≡ usage.page → reference_count s.spaces frame < 2 ^ 32
+  pub runs : (slot_at s n).runs < 2 ^ 32
+
+-- A slot's step is made in its turn, which is the last, while its environment runs.
+pub record HasTurn (s : KernelState) (n : ℕ) : Type 0 where
+  pub last : s.last ≡ Some n
+  pub running : is_running (slot_at s n).status ≡ true
+  pub words : HasCounts s n
+
+-- A step of the environment in slot n, which has the turn, that has come to this, from one state of the kernel to another.
 abbrev pub KeepsStanding : Progress → ℕ → KernelState → KernelState → List ℕ → Type 0
 KeepsStanding progress n before after written =
-    (a : AbstractState) → Stands before a → NothingRefused before after → AbstractFollows progress n after a written
+    (a : AbstractState) → Stands before a → HasTurn before n → NothingRefused before after → AbstractFollows progress n after a written
 
 -- The same with what was printed. Where the host failed, nothing is said of the state, and what came is a part of what the
 -- slot's step prints.
@@ -76,9 +91,16 @@ IsLibraryStep (Ok progress) n before after output =
     (written : List ℕ) × Prints output written × KeepsStanding progress n before after written
 IsLibraryStep (Err _) n before after output =
     (written : List ℕ) × PrintsPart output written
-    × ((a : AbstractState) → Stands before a → (b : AbstractState) × (abs_step a n ≡ Some b) × (b.console ≡ a.console ++ written))
+    × ((a : AbstractState) → Stands before a → HasTurn before n → (b : AbstractState) × (abs_step a n ≡ Some b) × (b.console ≡ a.console ++ written))
 
 -- ---- what every step leaves
+
+-- the steps at which one on an end of a pipe gives up its turn, to try again
+abbrev pub pauses_at : PipeStep → Bool
+pauses_at (pipe.LockPausing done) = true
+pauses_at (pipe.TestPausing done) = true
+pauses_at pipe.StatPausing = true
+pauses_at _ = false
 
 -- the services that try again and again
 abbrev pub is_pausing : Place → Bool
@@ -92,6 +114,9 @@ is_pausing (place.InService (service.Seek fd offset) (step.Pausing id)) = true
 is_pausing (place.InService (service.SetSize fd size) (step.Pausing id)) = true
 is_pausing (place.InService (service.Read fd va len) (step.Pausing id)) = true
 is_pausing (place.InService (service.Stat fd va) (step.Pausing id)) = true
+is_pausing (place.InService (service.Read fd va len) (step.Piped at)) = pauses_at at
+is_pausing (place.InService (service.Write fd va len) (step.Piped at)) = pauses_at at
+is_pausing (place.InService (service.Stat fd va) (step.Piped at)) = pauses_at at
 is_pausing _ = false
 
 -- What a step leaves, whatever it stands for: the last turn and the number of turns, and how many frames there are; where
@@ -116,9 +141,9 @@ frames_asked number =
 
 -- How many frames a step may take from the list, by where its environment stands: fork takes one for the child's directory, one for a
 -- table of the child's with each page that it maps there, and two for the child's stack; the handler takes two for a page and its table;
--- write, remove, open_file, seek, set_size, read, stat and page_new take as many, and a message or a request that is tried one, for a table of
--- the page that goes with it. A page that is mapped over another takes none, since its table is there; a step of a program takes none, and so does each
--- other step.
+-- write, remove, open_file, seek, set_size, read, stat and page_new take as many, and so does pipe for each page that it makes; and a message or a
+-- request that is tried takes one, for a table of the page that goes with it. A page that is mapped over another takes none, since its table is
+-- there; a step of a program takes none, and so does each other step.
 abbrev pub frames_at : Place → ℕ
 frames_at (place.InService (service.PageNew va flags) at) = 2
 frames_at (place.InService (service.Send id value va) (step.Trying perm)) = 1
@@ -139,9 +164,14 @@ frames_at (place.InService (service.Stat fd va) step.TakingPage) = 2
 frames_at (place.InService service.Fork step.Entered) = 1
 frames_at (place.InService service.Fork (step.MapChild id page perm)) = 1
 frames_at (place.InService service.Fork (step.ChildStack id)) = 2
+frames_at (place.InService service.Pipe (step.Piped (pipe.TakingReading reading writing))) = 2
+frames_at (place.InService service.Pipe (step.Piped (pipe.TakingWriting reading writing))) = 2
+frames_at (place.InService service.Pipe (step.Piped (pipe.TakingPipe reading writing))) = 2
 frames_at (place.InService (service.Write fd va len) step.TakingPage) = 2
 frames_at (place.InService (service.Write fd va len) step.TakingRequest) = 2
 frames_at (place.InService (service.Write fd va len) (step.Asking id)) = 1
+frames_at (place.InService (service.Read fd va len) (step.Piped pipe.TakingBytes)) = 2
+frames_at (place.InService (service.Write fd va len) (step.Piped pipe.TakingBytes)) = 2
 frames_at (place.InHandler (handler.Taking va)) = 2
 frames_at _ = 0
 
@@ -181,6 +211,60 @@ copy_steps = 2070
 abbrev pub most_copy_steps : ℕ
 most_copy_steps = copy_steps * page_limit
 
+-- a test for a closed pipe, from where it reads how many turns its environment has had
+abbrev pub TEST_STEPS_MAX : ℕ
+TEST_STEPS_MAX = 25
+
+-- The same of one that makes, moves or drops an end of a pipe. Behind a test that has found that the pipe may be moved from or to, it tries that again
+-- (then it has its id), and where another came before it, the test is asked again.
+abbrev pub pipe_steps_left : PipeStep → ℕ
+pipe_steps_left (pipe.SecondEntry reading fd) = 9 + (DESCRIPTORS - fd)
+pipe_steps_left (pipe.TakingReading reading writing) = 8
+pipe_steps_left (pipe.StoringReading reading writing) = 7
+pipe_steps_left (pipe.TakingWriting reading writing) = 6
+pipe_steps_left (pipe.StoringWriting reading writing) = 5
+pipe_steps_left (pipe.StoringEndMode reading writing) = 4
+pipe_steps_left (pipe.TakingPipe reading writing) = 3
+pipe_steps_left (pipe.MappingPipe reading writing) = 1
+pipe_steps_left (pipe.UndoingWriting reading writing error) = 2
+pipe_steps_left (pipe.UndoingReading reading error) = 1
+pipe_steps_left (pipe.PipeEntry fd) = 6
+pipe_steps_left (pipe.DroppingEnd fd) = 5
+pipe_steps_left (pipe.DroppingPipe fd) = 4
+pipe_steps_left pipe.SourcePipe = 4
+pipe_steps_left pipe.MappingEnd = 3
+pipe_steps_left pipe.EndMode = most_copy_steps + 2074
+pipe_steps_left pipe.TakingBytes = most_copy_steps + 2073
+pipe_steps_left (pipe.Locking done id runs) = if id == 0 then 30 else 17
+pipe_steps_left (pipe.LockPausing done) = 31
+pipe_steps_left (pipe.ReadFrom done id runs) = if id == 0 then 29 else 16
+pipe_steps_left (pipe.ReadTo done id runs from) = if id == 0 then 28 else 15
+pipe_steps_left (pipe.LoadingHeld done from) = 3
+pipe_steps_left (pipe.KeepingHeld done from byte) = 2
+pipe_steps_left (pipe.TakingHeld done from) = 1
+pipe_steps_left (pipe.LoadingOwn done to) = 3
+pipe_steps_left (pipe.PuttingOwn done to byte) = 2
+pipe_steps_left (pipe.Putting done to) = 1
+pipe_steps_left (pipe.UnlockingMoved done) = 31
+pipe_steps_left (pipe.UnlockingEnd done) = most_copy_steps + 2073
+pipe_steps_left (pipe.UnlockingTest done id runs) = if id == 0 then 27 else 14
+pipe_steps_left (pipe.TestIdentifying done) = 26
+pipe_steps_left (pipe.TestRuns done id) = TEST_STEPS_MAX
+pipe_steps_left (pipe.TestAgain done id runs) = 13
+pipe_steps_left (pipe.TestFrom done id runs) = 24
+pipe_steps_left (pipe.TestTo done id runs from) = 23
+pipe_steps_left (pipe.TestDescriptor done id runs) = 22
+pipe_steps_left (pipe.TestDescriptorCount done id runs entry) = 21
+pipe_steps_left (pipe.TestPipe done id runs count) = 20
+pipe_steps_left (pipe.TestPipeCount done id runs count entry) = 19
+pipe_steps_left (pipe.TestRunsAgain done id runs closed) = 18
+pipe_steps_left (pipe.TestPausing done) = 31
+pipe_steps_left pipe.StatLocking = 4
+pipe_steps_left pipe.StatPausing = 5
+pipe_steps_left pipe.StatFrom = 3
+pipe_steps_left (pipe.StatTo from) = 2
+pipe_steps_left (pipe.StatUnlocking held) = most_copy_steps + 2073
+
 -- How many hidden steps a service may still make, at most, from a step on, beside those in which pages are copied. (fork makes three for
 -- each page that is there, at most, and one for each region; exit looks at each descriptor; and one that has moved bytes to or from the
 -- program's memory may go on there with any number of pages that wait to be copied.)
@@ -203,7 +287,7 @@ steps_left (step.ChildUpcall id) = 2
 steps_left (step.ChildRuns id) = 1
 steps_left (step.Undoing id error) = 1
 steps_left (step.DescriptorEntry fd) = most_copy_steps + 2080 + (DESCRIPTORS - fd % DESCRIPTORS)
-steps_left step.TargetEntry = 4
+steps_left step.TargetEntry = 7
 steps_left (step.DroppingDescriptor fd) = 3
 steps_left step.MappingDescriptor = 2
 steps_left step.Ending = 1
@@ -247,6 +331,7 @@ steps_left (step.OpenPausing id fd) = 7
 steps_left (step.OpenAwaiting id fd) = 2
 steps_left (step.OpenClearing id fd) = 2
 steps_left (step.ReadingOpened id fd) = 1
+steps_left (step.Piped at) = pipe_steps_left at
 
 -- those behind which pages are copied: read and stat put their bytes into the program's memory, an access raises the fault that ends the
 -- environment, and the program goes on
@@ -297,10 +382,21 @@ left_at (place.InHandler step) copies = handler_steps_left step + copy_steps * o
 abbrev pub hidden_left : KernelState → ℕ → ℕ
 hidden_left s n = left_at (place_of (slot_at s n)) (copies_left (rows_of s.spaces (slot_at s n).directory))
 
--- A hidden step lowers the number, where the state stands for an abstract one and nothing was refused.
+-- The test for a closed pipe has read that its environment has had other turns than when it was asked before: so it is asked again.
+pub data AsksAgain (runs : ℕ) : Place → Type 0 where
+  tries : (s : Service) (done id kept : ℕ) → runs ≢ kept → AsksAgain runs (place.InService s (step.Piped (pipe.TestAgain done id kept)))
+  tests : (s : Service) (done id kept closed : ℕ) → runs ≢ kept → AsksAgain runs (place.InService s (step.Piped (pipe.TestRunsAgain done id kept closed)))
+
+-- A hidden step lowers the number; or it asks that test again, and the number is at most what it was when the test began.
+abbrev pub LowersOrAsksAgain : ℕ → KernelState → KernelState → Type 0
+LowersOrAsksAgain n before after =
+    (hidden_left after n < hidden_left before n)
+    ⊎ (AsksAgain (slot_at before n).runs (place_of (slot_at before n)) × (hidden_left after n ≤ TEST_STEPS_MAX))
+
+-- So it is where the state stands for an abstract one, in the slot's turn, and nothing was refused.
 abbrev pub LowersNumber : ℕ → KernelState → KernelState → Type 0
 LowersNumber n before after =
-    (a : AbstractState) → Stands before a → NothingRefused before after → hidden_left after n < hidden_left before n
+    (a : AbstractState) → Stands before a → HasTurn before n → NothingRefused before after → LowersOrAsksAgain n before after
 
 -- One that waits is followed by one that gives up the turn.
 abbrev pub Lowers : Result Progress Failed → ℕ → KernelState → KernelState → Type 0
@@ -340,7 +436,7 @@ KeepsWorking n before after =
 
 -- none of the pages of the environment in slot n has this frame, but those of its descriptors, to which it never writes
 abbrev pub LacksFrame : KernelState → ℕ → ℕ → Type 0
-LacksFrame s n f = (p : ℕ) (e : Entry) → is_descriptor p ≡ false → s.spaces.entries (slot_at s n).directory p ≡ Some e → e.frame ≢ f
+LacksFrame s n f = (p : ℕ) (e : Entry) → is_of_descriptor p ≡ false → s.spaces.entries (slot_at s n).directory p ≡ Some e → e.frame ≢ f
 
 -- What is left to the file server by a step of the environment in slot n: it stands where it stood, in the same space, and its pages which that
 -- environment has not hold what they held.

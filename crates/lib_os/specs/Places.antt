@@ -10,6 +10,8 @@ use Rattle.jos_base.specs.declared.registers.Regs.{Regs}
 use Rattle.jos_base.specs.Environments.{Slot}
 use Rattle.lib_os.specs.declared.place.HandlerStep.{HandlerStep}
 use Rattle.lib_os.specs.declared.place.HandlerStep.TheVariants as handler
+use Rattle.lib_os.specs.declared.place.PipeStep.{PipeStep}
+use Rattle.lib_os.specs.declared.place.PipeStep.TheVariants as pipe
 use Rattle.lib_os.specs.declared.place.Step.{Step}
 use Rattle.lib_os.specs.declared.place.Step.TheVariants as step
 use Rattle.lib_os.specs.declared.place.Place.{Place}
@@ -34,6 +36,21 @@ use Rattle.lib_os.specs.declared.numbers.TheConstants.{STEP_KEEPING_BYTES, STEP_
 use Rattle.lib_os.specs.declared.numbers.TheConstants.{STEP_LOADING_REST, STEP_PUTTING_BYTES, STEP_FILE_FAULTING, STEP_RETURNING, STEP_FREE_REGION}
 use Rattle.lib_os.specs.declared.numbers.TheConstants.{STEP_FREE_ENTRY, STEP_STORING_MODE, STEP_OPEN_IDENTIFYING, STEP_OPEN_ASKING, STEP_OPEN_PAUSING}
 use Rattle.lib_os.specs.declared.numbers.TheConstants.{STEP_OPEN_AWAITING, STEP_OPEN_CLEARING, STEP_READING_OPENED}
+use Rattle.lib_os.specs.declared.pipe_numbers.TheConstants.{STEP_PIPE_SECOND_ENTRY, STEP_PIPE_TAKING_READING, STEP_PIPE_STORING_READING}
+use Rattle.lib_os.specs.declared.pipe_numbers.TheConstants.{STEP_PIPE_TAKING_WRITING, STEP_PIPE_STORING_WRITING, STEP_PIPE_STORING_END_MODE}
+use Rattle.lib_os.specs.declared.pipe_numbers.TheConstants.{STEP_PIPE_TAKING_PIPE, STEP_PIPE_MAPPING_PIPE, STEP_PIPE_UNDOING_WRITING}
+use Rattle.lib_os.specs.declared.pipe_numbers.TheConstants.{STEP_PIPE_UNDOING_READING, STEP_PIPE_ENTRY, STEP_PIPE_DROPPING_END}
+use Rattle.lib_os.specs.declared.pipe_numbers.TheConstants.{STEP_PIPE_DROPPING_PIPE, STEP_PIPE_SOURCE_PIPE, STEP_PIPE_MAPPING_END}
+use Rattle.lib_os.specs.declared.pipe_numbers.TheConstants.{STEP_PIPE_END_MODE, STEP_PIPE_TAKING_BYTES, STEP_PIPE_LOCKING, STEP_PIPE_LOCK_PAUSING}
+use Rattle.lib_os.specs.declared.pipe_numbers.TheConstants.{STEP_PIPE_READ_FROM, STEP_PIPE_READ_TO, STEP_PIPE_LOADING_HELD}
+use Rattle.lib_os.specs.declared.pipe_numbers.TheConstants.{STEP_PIPE_KEEPING_HELD, STEP_PIPE_TAKING_HELD, STEP_PIPE_LOADING_OWN}
+use Rattle.lib_os.specs.declared.pipe_numbers.TheConstants.{STEP_PIPE_PUTTING_OWN, STEP_PIPE_PUTTING, STEP_PIPE_UNLOCKING_MOVED}
+use Rattle.lib_os.specs.declared.pipe_numbers.TheConstants.{STEP_PIPE_UNLOCKING_END, STEP_PIPE_UNLOCKING_TEST, STEP_PIPE_TEST_IDENTIFYING}
+use Rattle.lib_os.specs.declared.pipe_numbers.TheConstants.{STEP_PIPE_TEST_RUNS, STEP_PIPE_TEST_FROM, STEP_PIPE_TEST_TO}
+use Rattle.lib_os.specs.declared.pipe_numbers.TheConstants.{STEP_PIPE_TEST_DESCRIPTOR, STEP_PIPE_TEST_DESCRIPTOR_COUNT, STEP_PIPE_TEST_PIPE}
+use Rattle.lib_os.specs.declared.pipe_numbers.TheConstants.{STEP_PIPE_TEST_PIPE_COUNT, STEP_PIPE_TEST_RUNS_AGAIN, STEP_PIPE_TEST_PAUSING}
+use Rattle.lib_os.specs.declared.pipe_numbers.TheConstants.{STEP_PIPE_STAT_LOCKING, STEP_PIPE_STAT_PAUSING, STEP_PIPE_STAT_FROM}
+use Rattle.lib_os.specs.declared.pipe_numbers.TheConstants.{STEP_PIPE_STAT_TO, STEP_PIPE_STAT_UNLOCKING, STEP_PIPE_TEST_AGAIN}
 use Rattle.lib_os.specs.Services.{service_of}
 
 -- ---- places
@@ -56,6 +73,9 @@ third_word words = get_or words 4 0
 
 abbrev pub fourth_word : List ℕ → ℕ
 fourth_word words = get_or words 5 0
+
+abbrev pub fifth_word : List ℕ → ℕ
+fifth_word words = get_or words 6 0
 
 -- how far a service is that asks the file server, from there on; or fork, where it undoes what it did
 abbrev pub request_step_in : List ℕ → Step
@@ -92,11 +112,71 @@ request_step_in words =
     else if n == STEP_READING_OPENED then step.ReadingOpened (first_word words) (second_word words)
     else step.Undoing (first_word words) (second_word words)
 
+-- how far a service is that moves bytes through a pipe, or tells of one
+unfoldable pub end_step_in : List ℕ → PipeStep
+end_step_in words =
+    let n = step_word words in
+    if n == STEP_PIPE_END_MODE then pipe.EndMode
+    else if n == STEP_PIPE_TAKING_BYTES then pipe.TakingBytes
+    else if n == STEP_PIPE_LOCKING then pipe.Locking (first_word words) (second_word words) (third_word words)
+    else if n == STEP_PIPE_LOCK_PAUSING then pipe.LockPausing (first_word words)
+    else if n == STEP_PIPE_READ_FROM then pipe.ReadFrom (first_word words) (second_word words) (third_word words)
+    else if n == STEP_PIPE_READ_TO then pipe.ReadTo (first_word words) (second_word words) (third_word words) (fourth_word words)
+    else if n == STEP_PIPE_LOADING_HELD then pipe.LoadingHeld (first_word words) (second_word words)
+    else if n == STEP_PIPE_KEEPING_HELD then pipe.KeepingHeld (first_word words) (second_word words) (third_word words)
+    else if n == STEP_PIPE_TAKING_HELD then pipe.TakingHeld (first_word words) (second_word words)
+    else if n == STEP_PIPE_LOADING_OWN then pipe.LoadingOwn (first_word words) (second_word words)
+    else if n == STEP_PIPE_PUTTING_OWN then pipe.PuttingOwn (first_word words) (second_word words) (third_word words)
+    else if n == STEP_PIPE_PUTTING then pipe.Putting (first_word words) (second_word words)
+    else if n == STEP_PIPE_UNLOCKING_MOVED then pipe.UnlockingMoved (first_word words)
+    else if n == STEP_PIPE_UNLOCKING_END then pipe.UnlockingEnd (first_word words)
+    else if n == STEP_PIPE_UNLOCKING_TEST then pipe.UnlockingTest (first_word words) (second_word words) (third_word words)
+    else if n == STEP_PIPE_TEST_IDENTIFYING then pipe.TestIdentifying (first_word words)
+    else if n == STEP_PIPE_TEST_RUNS then pipe.TestRuns (first_word words) (second_word words)
+    else if n == STEP_PIPE_TEST_AGAIN then pipe.TestAgain (first_word words) (second_word words) (third_word words)
+    else if n == STEP_PIPE_TEST_FROM then pipe.TestFrom (first_word words) (second_word words) (third_word words)
+    else if n == STEP_PIPE_TEST_TO then pipe.TestTo (first_word words) (second_word words) (third_word words) (fourth_word words)
+    else if n == STEP_PIPE_TEST_DESCRIPTOR then pipe.TestDescriptor (first_word words) (second_word words) (third_word words)
+    else if n == STEP_PIPE_TEST_DESCRIPTOR_COUNT
+    then pipe.TestDescriptorCount (first_word words) (second_word words) (third_word words) (fourth_word words)
+    else if n == STEP_PIPE_TEST_PIPE then pipe.TestPipe (first_word words) (second_word words) (third_word words) (fourth_word words)
+    else if n == STEP_PIPE_TEST_PIPE_COUNT
+    then pipe.TestPipeCount (first_word words) (second_word words) (third_word words) (fourth_word words) (fifth_word words)
+    else if n == STEP_PIPE_TEST_RUNS_AGAIN then pipe.TestRunsAgain (first_word words) (second_word words) (third_word words) (fourth_word words)
+    else if n == STEP_PIPE_TEST_PAUSING then pipe.TestPausing (first_word words)
+    else if n == STEP_PIPE_STAT_LOCKING then pipe.StatLocking
+    else if n == STEP_PIPE_STAT_PAUSING then pipe.StatPausing
+    else if n == STEP_PIPE_STAT_FROM then pipe.StatFrom
+    else if n == STEP_PIPE_STAT_TO then pipe.StatTo (first_word words)
+    else pipe.StatUnlocking (first_word words)
+
+-- and one that makes or drops an end
+unfoldable pub pipe_step_in : List ℕ → PipeStep
+pipe_step_in words =
+    let n = step_word words in
+    if n == STEP_PIPE_SECOND_ENTRY then pipe.SecondEntry (first_word words) (second_word words)
+    else if n == STEP_PIPE_TAKING_READING then pipe.TakingReading (first_word words) (second_word words)
+    else if n == STEP_PIPE_STORING_READING then pipe.StoringReading (first_word words) (second_word words)
+    else if n == STEP_PIPE_TAKING_WRITING then pipe.TakingWriting (first_word words) (second_word words)
+    else if n == STEP_PIPE_STORING_WRITING then pipe.StoringWriting (first_word words) (second_word words)
+    else if n == STEP_PIPE_STORING_END_MODE then pipe.StoringEndMode (first_word words) (second_word words)
+    else if n == STEP_PIPE_TAKING_PIPE then pipe.TakingPipe (first_word words) (second_word words)
+    else if n == STEP_PIPE_MAPPING_PIPE then pipe.MappingPipe (first_word words) (second_word words)
+    else if n == STEP_PIPE_UNDOING_WRITING then pipe.UndoingWriting (first_word words) (second_word words) (third_word words)
+    else if n == STEP_PIPE_UNDOING_READING then pipe.UndoingReading (first_word words) (second_word words)
+    else if n == STEP_PIPE_ENTRY then pipe.PipeEntry (first_word words)
+    else if n == STEP_PIPE_DROPPING_END then pipe.DroppingEnd (first_word words)
+    else if n == STEP_PIPE_DROPPING_PIPE then pipe.DroppingPipe (first_word words)
+    else if n == STEP_PIPE_SOURCE_PIPE then pipe.SourcePipe
+    else if n == STEP_PIPE_MAPPING_END then pipe.MappingEnd
+    else end_step_in words
+
 -- how far a service is
 unfoldable pub step_in : List ℕ → Step
 step_in words =
     let n = step_word words in
-    if n == STEP_ENTERED then step.Entered
+    if nat_le STEP_PIPE_SECOND_ENTRY n then step.Piped (pipe_step_in words)
+    else if n == STEP_ENTERED then step.Entered
     else if n == STEP_TRYING then step.Trying (first_word words)
     else if n == STEP_PAUSING then step.Pausing (first_word words)
     else if n == STEP_READING_REGION then step.ReadingRegion
@@ -165,6 +245,58 @@ abbrev pub place_words : ℕ → ℕ → ℕ → ℕ → ℕ → List ℕ
 place_words number n first second third =
     (number + 1) ∷ n ∷ first ∷ second ∷ third ∷ 0 ∷ 0 ∷ 0 ∷ 0 ∷ 0 ∷ 0 ∷ 0 ∷ []
 
+abbrev pub pipe_place_words : ℕ → ℕ → ℕ → ℕ → ℕ → ℕ → ℕ → List ℕ
+pipe_place_words number n first second third fourth fifth =
+    (number + 1) ∷ n ∷ first ∷ second ∷ third ∷ fourth ∷ fifth ∷ 0 ∷ 0 ∷ 0 ∷ 0 ∷ 0 ∷ []
+
+unfoldable pub pipe_words_at : ℕ → PipeStep → List ℕ
+pipe_words_at number (pipe.SecondEntry reading fd) = pipe_place_words number STEP_PIPE_SECOND_ENTRY reading fd 0 0 0
+pipe_words_at number (pipe.TakingReading reading writing) = pipe_place_words number STEP_PIPE_TAKING_READING reading writing 0 0 0
+pipe_words_at number (pipe.StoringReading reading writing) = pipe_place_words number STEP_PIPE_STORING_READING reading writing 0 0 0
+pipe_words_at number (pipe.TakingWriting reading writing) = pipe_place_words number STEP_PIPE_TAKING_WRITING reading writing 0 0 0
+pipe_words_at number (pipe.StoringWriting reading writing) = pipe_place_words number STEP_PIPE_STORING_WRITING reading writing 0 0 0
+pipe_words_at number (pipe.StoringEndMode reading writing) = pipe_place_words number STEP_PIPE_STORING_END_MODE reading writing 0 0 0
+pipe_words_at number (pipe.TakingPipe reading writing) = pipe_place_words number STEP_PIPE_TAKING_PIPE reading writing 0 0 0
+pipe_words_at number (pipe.MappingPipe reading writing) = pipe_place_words number STEP_PIPE_MAPPING_PIPE reading writing 0 0 0
+pipe_words_at number (pipe.UndoingWriting reading writing error) = pipe_place_words number STEP_PIPE_UNDOING_WRITING reading writing error 0 0
+pipe_words_at number (pipe.UndoingReading reading error) = pipe_place_words number STEP_PIPE_UNDOING_READING reading error 0 0 0
+pipe_words_at number (pipe.PipeEntry fd) = pipe_place_words number STEP_PIPE_ENTRY fd 0 0 0 0
+pipe_words_at number (pipe.DroppingEnd fd) = pipe_place_words number STEP_PIPE_DROPPING_END fd 0 0 0 0
+pipe_words_at number (pipe.DroppingPipe fd) = pipe_place_words number STEP_PIPE_DROPPING_PIPE fd 0 0 0 0
+pipe_words_at number pipe.SourcePipe = pipe_place_words number STEP_PIPE_SOURCE_PIPE 0 0 0 0 0
+pipe_words_at number pipe.MappingEnd = pipe_place_words number STEP_PIPE_MAPPING_END 0 0 0 0 0
+pipe_words_at number pipe.EndMode = pipe_place_words number STEP_PIPE_END_MODE 0 0 0 0 0
+pipe_words_at number pipe.TakingBytes = pipe_place_words number STEP_PIPE_TAKING_BYTES 0 0 0 0 0
+pipe_words_at number (pipe.Locking done id runs) = pipe_place_words number STEP_PIPE_LOCKING done id runs 0 0
+pipe_words_at number (pipe.LockPausing done) = pipe_place_words number STEP_PIPE_LOCK_PAUSING done 0 0 0 0
+pipe_words_at number (pipe.ReadFrom done id runs) = pipe_place_words number STEP_PIPE_READ_FROM done id runs 0 0
+pipe_words_at number (pipe.ReadTo done id runs from) = pipe_place_words number STEP_PIPE_READ_TO done id runs from 0
+pipe_words_at number (pipe.LoadingHeld done from) = pipe_place_words number STEP_PIPE_LOADING_HELD done from 0 0 0
+pipe_words_at number (pipe.KeepingHeld done from byte) = pipe_place_words number STEP_PIPE_KEEPING_HELD done from byte 0 0
+pipe_words_at number (pipe.TakingHeld done from) = pipe_place_words number STEP_PIPE_TAKING_HELD done from 0 0 0
+pipe_words_at number (pipe.LoadingOwn done to) = pipe_place_words number STEP_PIPE_LOADING_OWN done to 0 0 0
+pipe_words_at number (pipe.PuttingOwn done to byte) = pipe_place_words number STEP_PIPE_PUTTING_OWN done to byte 0 0
+pipe_words_at number (pipe.Putting done to) = pipe_place_words number STEP_PIPE_PUTTING done to 0 0 0
+pipe_words_at number (pipe.UnlockingMoved done) = pipe_place_words number STEP_PIPE_UNLOCKING_MOVED done 0 0 0 0
+pipe_words_at number (pipe.UnlockingEnd done) = pipe_place_words number STEP_PIPE_UNLOCKING_END done 0 0 0 0
+pipe_words_at number (pipe.UnlockingTest done id runs) = pipe_place_words number STEP_PIPE_UNLOCKING_TEST done id runs 0 0
+pipe_words_at number (pipe.TestIdentifying done) = pipe_place_words number STEP_PIPE_TEST_IDENTIFYING done 0 0 0 0
+pipe_words_at number (pipe.TestRuns done id) = pipe_place_words number STEP_PIPE_TEST_RUNS done id 0 0 0
+pipe_words_at number (pipe.TestAgain done id runs) = pipe_place_words number STEP_PIPE_TEST_AGAIN done id runs 0 0
+pipe_words_at number (pipe.TestFrom done id runs) = pipe_place_words number STEP_PIPE_TEST_FROM done id runs 0 0
+pipe_words_at number (pipe.TestTo done id runs from) = pipe_place_words number STEP_PIPE_TEST_TO done id runs from 0
+pipe_words_at number (pipe.TestDescriptor done id runs) = pipe_place_words number STEP_PIPE_TEST_DESCRIPTOR done id runs 0 0
+pipe_words_at number (pipe.TestDescriptorCount done id runs entry) = pipe_place_words number STEP_PIPE_TEST_DESCRIPTOR_COUNT done id runs entry 0
+pipe_words_at number (pipe.TestPipe done id runs count) = pipe_place_words number STEP_PIPE_TEST_PIPE done id runs count 0
+pipe_words_at number (pipe.TestPipeCount done id runs count entry) = pipe_place_words number STEP_PIPE_TEST_PIPE_COUNT done id runs count entry
+pipe_words_at number (pipe.TestRunsAgain done id runs closed) = pipe_place_words number STEP_PIPE_TEST_RUNS_AGAIN done id runs closed 0
+pipe_words_at number (pipe.TestPausing done) = pipe_place_words number STEP_PIPE_TEST_PAUSING done 0 0 0 0
+pipe_words_at number pipe.StatLocking = pipe_place_words number STEP_PIPE_STAT_LOCKING 0 0 0 0 0
+pipe_words_at number pipe.StatPausing = pipe_place_words number STEP_PIPE_STAT_PAUSING 0 0 0 0 0
+pipe_words_at number pipe.StatFrom = pipe_place_words number STEP_PIPE_STAT_FROM 0 0 0 0 0
+pipe_words_at number (pipe.StatTo from) = pipe_place_words number STEP_PIPE_STAT_TO from 0 0 0 0
+pipe_words_at number (pipe.StatUnlocking held) = pipe_place_words number STEP_PIPE_STAT_UNLOCKING held 0 0 0 0
+
 unfoldable pub words_at : ℕ → Step → List ℕ
 words_at number step.Entered = place_words number STEP_ENTERED 0 0 0
 words_at number (step.Trying perm) = place_words number STEP_TRYING perm 0 0
@@ -229,6 +361,7 @@ words_at number (step.OpenPausing id fd) = place_words number STEP_OPEN_PAUSING 
 words_at number (step.OpenAwaiting id fd) = place_words number STEP_OPEN_AWAITING id fd 0
 words_at number (step.OpenClearing id fd) = place_words number STEP_OPEN_CLEARING id fd 0
 words_at number (step.ReadingOpened id fd) = place_words number STEP_READING_OPENED id fd 0
+words_at number (step.Piped at) = pipe_words_at number at
 
 -- the words with which a program's INT 0x40 leaves it; all numbers that name no service are kept as one
 abbrev pub words_entered : Regs → List ℕ

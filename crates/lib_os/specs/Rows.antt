@@ -1,7 +1,7 @@
 -- The pages of address spaces as the library sees them: what an entry is to its environment, and how entries count where they
 -- are counted together, be a page on its way from one place to another.
 -- (MIT 6.828, lib/fork.c: PTE_COW; inc/lib.h: PTE_SHARE.)
-use Rattle.std.specs.Prelude.{◌≡◌, ◌<◌, ℕ, ◌+◌, ◌*◌, ◌==◌, ◌&&◌, ◌||◌, nat_le, nat_lt, not, Bool, true, false, List, Option, None, Some}
+use Rattle.std.specs.Prelude.{◌≡◌, ◌<◌, ℕ, ◌+◌, ◌-◌, ◌*◌, ◌%◌, ◌==◌, ◌&&◌, ◌||◌, nat_le, nat_lt, not, Bool, true, false, List, Option, None, Some}
 use Rattle.std.specs.Prelude.{bit_and, length, slice_index, if◌then◌else◌}
 use Rattle.std.specs.Option.{option_map}
 use Rattle.jos_base.specs.declared.numbers.TheConstants.{FDTABLE, PGSIZE, PTE_P, PTE_SYSCALL, PTE_U, PTE_W, UTEMP}
@@ -13,11 +13,13 @@ use Rattle.jos_base.specs.Words.{page_number}
 use Rattle.lib_os.specs.declared.numbers.TheConstants.{DESCRIPTORS, PFTEMP, PTE_COW, PTE_SHARE, REQUEST}
 use Rattle.lib_os.specs.declared.place.HandlerStep.TheVariants as handler
 use Rattle.lib_os.specs.declared.place.Place.{Place}
+use Rattle.lib_os.specs.declared.place.PipeStep.{PipeStep}
+use Rattle.lib_os.specs.declared.place.PipeStep.TheVariants as pipe
 use Rattle.lib_os.specs.declared.place.Place.TheVariants as place
 use Rattle.lib_os.specs.declared.place.Step.TheVariants as step
 use Rattle.lib_os.specs.declared.service.Service.TheVariants as service
 use Rattle.lib_os.specs.AbstractState.{Page, own, named}
-use Rattle.lib_os.specs.DescriptorPages.{HasObject, Things}
+use Rattle.lib_os.specs.DescriptorPages.{HasObject, HasPipe, Things}
 use Rattle.lib_os.specs.Fence.{in_fence}
 use Rattle.lib_os.specs.Places.{place_of}
 
@@ -52,11 +54,13 @@ may_write perm = has_write perm || is_cow perm
 
 -- ---- pages
 
--- What stands in each shared frame: its name, and the frame of a name; and whether a name is that of an object, and not of a page.
+-- What stands in each shared frame: its name, and the frame of a name; and whether a name is that of an object or a pipe, and not of a page, and
+-- whether it is that of a pipe.
 pub record Names : Type 0 where
   pub name : ℕ → ℕ
   pub frame : ℕ → ℕ
   pub is_object : ℕ → Bool
+  pub is_pipe : ℕ → Bool
 
 -- the page that an entry is to its environment
 abbrev pub page_by : Names → (ℕ → List ℕ) → Entry → Page
@@ -83,13 +87,23 @@ page_seen names s d p = seen_where (is_programs p) (shown_at names s d p)
 abbrev pub descriptor_page : ℕ → ℕ
 descriptor_page fd = page_number FDTABLE + fd
 
--- a page with this number is that of a descriptor
-abbrev pub is_descriptor : ℕ → Bool
-is_descriptor p = nat_le (page_number FDTABLE) p && nat_lt p (page_number FDTABLE + DESCRIPTORS)
+-- a page with this number is that of a descriptor, or that of the pipe of which a descriptor names an end
+abbrev pub is_of_descriptor : ℕ → Bool
+is_of_descriptor p = nat_le (page_number FDTABLE) p && nat_lt p (page_number FDTABLE + 2 * DESCRIPTORS)
+
+abbrev pub is_pipe_page : ℕ → Bool
+is_pipe_page p = nat_le (page_number FDTABLE + DESCRIPTORS) p && nat_lt p (page_number FDTABLE + 2 * DESCRIPTORS)
+
+-- the latter of a descriptor
+abbrev pub pipe_page : ℕ → ℕ
+pipe_page fd = page_number FDTABLE + DESCRIPTORS + fd
 
 -- the bits of each
 abbrev pub descriptor_perm : ℕ
 descriptor_perm = PTE_P + PTE_W + PTE_U + PTE_SHARE
+
+abbrev pub own_perm : ℕ
+own_perm = PTE_P + PTE_W + PTE_U
 
 abbrev pub name_of : Option Page → Option ℕ
 name_of (Some (named name writable)) = Some name
@@ -108,11 +122,34 @@ cow_perm = PTE_P + PTE_U + PTE_COW
 abbrev pub as_cow : Entry → Entry
 as_cow e = if is_shared e.perm then e else record e { perm = cow_perm }
 
+-- A page on its way to become a descriptor's, or a pipe's, is its environment's own.
+abbrev pub as_own : Entry → Entry
+as_own e = record e { perm = own_perm }
+
+-- The descriptors that service pipe makes are those of its step, from its first page on.
+abbrev pub makes : PipeStep → ℕ → Bool
+makes (pipe.StoringReading reading writing) fd = (fd == reading) || (fd == writing)
+makes (pipe.TakingWriting reading writing) fd = (fd == reading) || (fd == writing)
+makes (pipe.StoringWriting reading writing) fd = (fd == reading) || (fd == writing)
+makes (pipe.StoringEndMode reading writing) fd = (fd == reading) || (fd == writing)
+makes (pipe.TakingPipe reading writing) fd = (fd == reading) || (fd == writing)
+makes (pipe.MappingPipe reading writing) fd = (fd == reading) || (fd == writing)
+makes _ fd = false
+
+-- the number of the descriptor whose page, or whose pipe's page, has this number
+abbrev pub descriptor_at : ℕ → ℕ
+descriptor_at p = (p - page_number FDTABLE) % DESCRIPTORS
+
+abbrev pub is_making : PipeStep → ℕ → Bool
+is_making at p = is_of_descriptor p && makes at (descriptor_at p)
+
 -- Where the handler of page faults has mapped its copy over the page, what stands where it was made counts no more. Where fork has
--- mapped a page into the child and not yet onto itself, it counts as one that is copied when it is written already.
+-- mapped a page into the child and not yet onto itself, it counts as one that is copied when it is written already. The pages of a pipe that is
+-- made, and of its descriptors, count as its maker's own up to the last mapping.
 unfoldable pub counted : Place → EntryRow → EntryRow
 counted (place.InHandler (handler.Unmapping va)) row p = if p == page_number PFTEMP then None else row p
 counted (place.InService service.Fork (step.Remap id page)) row p = if p == page then option_map as_cow (row p) else row p
+counted (place.InService service.Pipe (step.Piped at)) row p = if is_making at p then option_map as_own (row p) else row p
 counted _ row p = row p
 
 -- of each slot that is live, as they count at its place; those of the file server, which stands in slot 0, do not count here
@@ -143,7 +180,7 @@ AgreeWhereShared rows = (d p e q : ℕ) (x y : Entry) → (d ≡ e → p ≡ q �
 
 -- An entry with this number of a page is that of a descriptor.
 pub record IsDescriptors (p : ℕ) (x : Entry) : Type 0 where
-  pub descriptor : is_descriptor p ≡ true
+  pub descriptor : is_of_descriptor p ≡ true
   pub shared : is_shared x.perm ≡ true
 
 -- A client may have pages of the file server: that of a request is the one in which a service keeps what it moves, and each other one, which is
@@ -156,17 +193,23 @@ MayBeHad false p x = IsDescriptors p x
 abbrev pub AreBeside : EntryRow → Rows → Type 0
 AreBeside server rows = (n p q : ℕ) (x e : Entry) → rows n p ≡ Some x → server q ≡ Some e → x.frame ≡ e.frame → MayBeHad (q == page_number REQUEST) p x
 
--- what a name says of the bytes in its frame: they are those of a page, or tell an object
-abbrev pub ShowsBy : Things → ℕ → ℕ → Bool → List ℕ → List ℕ → Type 0
-ShowsBy things name frame false page bytes = page ≡ bytes
-ShowsBy things name frame true page bytes = HasObject things name frame (things.objects name) bytes
+-- an object or a pipe
+abbrev pub HasThing : Things → ℕ → ℕ → Bool → List ℕ → Type 0
+HasThing things name frame false bytes = HasObject things name frame (things.objects name) bytes
+HasThing things name frame true bytes = HasPipe things name frame bytes
 
--- A shared frame, whose entry has this number of a page, is that of its name: an object's at the page of a descriptor, and elsewhere a
--- page's. It shows what has the name.
+-- what a name says of the bytes in its frame: they are those of a page, or tell an object, or are a pipe's
+abbrev pub ShowsBy : Things → ℕ → ℕ → Bool → Bool → List ℕ → List ℕ → Type 0
+ShowsBy things name frame false is_pipe page bytes = page ≡ bytes
+ShowsBy things name frame true is_pipe page bytes = HasThing things name frame is_pipe bytes
+
+-- A shared frame, whose entry has this number of a page, is that of its name: an object's at the page of a descriptor, a pipe's at the page of the pipe
+-- of a descriptor, and elsewhere a page's. It shows what has the name.
 pub record IsNamed (names : Names) (pages shared : ℕ → List ℕ) (things : Things) (next p f : ℕ) : Type 0 where
   pub home : names.frame (names.name f) ≡ f
-  pub kind : names.is_object (names.name f) ≡ is_descriptor p
-  pub shows : ShowsBy things (names.name f) f (names.is_object (names.name f)) (shared (names.name f)) (pages f)
+  pub kind : names.is_object (names.name f) ≡ is_of_descriptor p
+  pub of_pipe : names.is_pipe (names.name f) ≡ is_pipe_page p
+  pub shows : ShowsBy things (names.name f) f (names.is_object (names.name f)) (names.is_pipe (names.name f)) (shared (names.name f)) (pages f)
   pub old : names.name f < next
 
 abbrev pub AreNamed : Names → (ℕ → List ℕ) → (ℕ → List ℕ) → Things → ℕ → Rows → Type 0

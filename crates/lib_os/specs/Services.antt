@@ -47,9 +47,9 @@ last_services r =
 unfoldable pub named_service : Regs → Service
 named_service r = first_services r (last_services r)
 
--- The numbers that name a service so far: those on pipes and on programs are not built yet.
+-- The numbers that name a service so far: that which starts programs is not built yet.
 abbrev pub is_built : ℕ → Bool
-is_built number = nat_le number SERVICE_DUP
+is_built number = nat_le number SERVICE_PIPE
 
 unfoldable pub service_of : Regs → Service
 service_of r = if is_built r.eax then named_service r else service.Unknown
@@ -76,5 +76,6 @@ is_built_service (service.SetSize fd size) = true
 is_built_service (service.Remove path) = true
 is_built_service service.Sync = true
 is_built_service (service.Dup old new) = true
+is_built_service service.Pipe = true
 is_built_service service.Unknown = true
 is_built_service _ = false

@@ -16,7 +16,7 @@ use Rattle.jos_base.specs.Environments.{Slot, free_slot, no_extra, is_live, is_r
 use Rattle.jos_base.specs.KernelState.{KernelState, slot_at}
 use Rattle.jos_base.specs.Messages.{Rendezvous}
 use Rattle.jos_base.specs.Reach.{Entry}
-use Rattle.jos_base.specs.SpacesState.{SpacesState}
+use Rattle.jos_base.specs.SpacesState.{SpacesState, reference_count}
 use Rattle.jos_base.specs.SystemCalls.{has_write}
 use Rattle.jos_base.specs.TrapFrames.{user_flags}
 use Rattle.jos_base.specs.Words.{page_number, word_at}
@@ -38,24 +38,20 @@ use Rattle.lib_os.specs.DescriptorPages.{Things, mode_of, number_of, place_page}
 use Rattle.lib_os.specs.Fence.{is_buffer, is_inside, is_page_inside, is_resident}
 use Rattle.lib_os.specs.FileServices.{is_nul, is_mode}
 use Rattle.lib_os.specs.InOrder.{IsInOrder}
+use Rattle.lib_os.specs.InService.{EachIsOpenBelow, HasTable, IsDuplicating, IsIn, IsLowestFree, IsOpen, NoneIsOpenBelow}
 use Rattle.lib_os.specs.LibraryPages.{View, HasTaken, IsOwnWritable, LibraryPages, is_library_region, region_index}
+use Rattle.lib_os.specs.PipeEnds.{EndsStandAt, LocksStand, is_dropped, is_made}
 use Rattle.lib_os.specs.Places.{place_of, is_handlers, service_word}
 use Rattle.lib_os.specs.Rows.{EntryRow, Names, rows_of, page_seen, logical, is_programs, is_shared, may_write, cow_perm}
-use Rattle.lib_os.specs.Rows.{descriptor_page, descriptor_seen, is_descriptor}
+use Rattle.lib_os.specs.Rows.{descriptor_page, descriptor_seen, is_of_descriptor, pipe_page}
 use Rattle.lib_os.specs.Rows.{AgreeWhereShared, AreBytes, AreNamed, AreBeside, AreUsers, IsUsers, AreWhole, server_row}
+use Rattle.lib_os.specs.StandsAtPipe.{StandsAtPipe}
 use Rattle.lib_os.specs.StandsInHandler.{IsAtGuest, IsFileOpen, IsInHandler, IsGiven, IsGivenBytes, WantsMore, StandsDelivering, StandsPutting}
 use Rattle.lib_os.specs.StandsInHandler.{buffer_of, wanted_of, is_refused_by, next_page, wanted_from, HasBytes, IsLoadingBytes, IsLoadingRest}
 use Rattle.lib_os.specs.StandsInHandler.{IsPuttingBytes, MayPut, handed_with, hands_back, HasNoEnd, WantsMoreOfPath, may_follow, stage_with}
 use Rattle.lib_os.specs.StandsInHandler.{takes_path}
 
 -- ---- an environment at its place
-
--- it is in a service, at a stage, and its registers are those of the program
-pub record IsIn (k : Slot) (b : Born) (s : Service) (stage : Stage) : Type 0 where
-  pub program : b.program ≡ guest k.registers
-  pub phase : b.phase ≡ in_service s stage
-  pub silent : k.rendezvous.receiving ≡ false
-  pub awake : b.blocked ≡ false
 
 -- an environment may be named by this id in send and receive
 abbrev pub IsOther : Born → ℕ → Type 0
@@ -205,37 +201,6 @@ pub record IsCounting (v : View) (k : Slot) (b : Born) (s : Service) (id : ℕ) 
   pub inside : MayPut s
   pub so : AwaitsOrHasBytes v k b s
 
--- ---- descriptors
-
--- a descriptor is open
-abbrev pub IsOpen : EntryRow → ℕ → Type 0
-IsOpen row fd = is_some (row (descriptor_page fd)) ≡ true
-
--- none below this one is
-abbrev pub NoneIsOpenBelow : EntryRow → ℕ → Type 0
-NoneIsOpenBelow row n = (fd : ℕ) → fd < n → row (descriptor_page fd) ≡ None
-
--- each below this one is
-abbrev pub EachIsOpenBelow : EntryRow → ℕ → Type 0
-EachIsOpenBelow row n = (fd : ℕ) → fd < n → IsOpen row fd
-
--- this one is the lowest that is not
-pub record IsLowestFree (row : EntryRow) (fd : ℕ) : Type 0 where
-  pub below : fd < DESCRIPTORS
-  pub vacant : row (descriptor_page fd) ≡ None
-  pub lower : EachIsOpenBelow row fd
-
--- the region of the descriptors' pages has a table
-abbrev pub HasTable : View → Type 0
-HasTable v = v.tables (region_index FDTABLE) ≡ true
-
--- dup: the old descriptor is open, the new one is another
-pub record IsDuplicating (row : EntryRow) (old new : ℕ) : Type 0 where
-  pub old_below : old < DESCRIPTORS
-  pub new_below : new < DESCRIPTORS
-  pub other : old ≢ new
-  pub stands : IsOpen row old
-
 -- ---- what a descriptor names
 
 -- the descriptor of which a service wants to know what it names
@@ -277,12 +242,12 @@ writes_buffer _ = true
 abbrev pub refuses_next : EntryRow → Service → ℕ → Bool
 refuses_next row s done = is_refused_by (writes_buffer s) (row (next_page s done))
 
--- The page at UTEMP has the first n of these bytes from this place on.
+-- The page at UTEMP has the first n of these bytes from this place of the page on.
 pub record HasTakenFrom (v : View) (start : ℕ) (bytes : List ℕ) (n : ℕ) : Type 0 where
   pub entry : Entry
   pub stands : v.row (page_number UTEMP) ≡ Some entry
   pub own_page : is_shared entry.perm ≡ false
-  pub same : (i : ℕ) → i < n → slice_index (v.bytes entry.frame) (start + i) ≡ slice_index bytes i
+  pub same : (i : ℕ) → i < n → slice_index (v.bytes entry.frame) (start % PGSIZE + i) ≡ slice_index bytes i
 
 -- write has taken so many bytes, which its page has, and wants more
 pub record IsTaking (v : View) (k : Slot) (b : Born) (fd va len start done : ℕ) : Type 0 where
@@ -509,9 +474,16 @@ pub record HasPrinted (k : Slot) (b : Born) (len : ℕ) : Type 0 where
   pub silent : k.rendezvous.receiving ≡ false
   pub awake : b.blocked ≡ false
 
--- the bytes of a file are put, and the program goes on with the answer
+-- the services that give a page back behind their answer
+abbrev pub goes_back : Service → Bool
+goes_back (service.Read fd va len) = true
+goes_back (service.Write fd va len) = true
+goes_back (service.Stat fd va) = true
+goes_back _ = false
+
+-- the bytes of a file are put, or those of a pipe are moved, and the program goes on with the answer
 pub record HasReturned (k : Slot) (b : Born) (s : Service) (answer : ℕ) : Type 0 where
-  pub hands : hands_back s ≡ true
+  pub goes : goes_back s ≡ true
   pub program : b.program ≡ guest (record k.registers { eax = answer })
   pub phase : b.phase ≡ at_guest
   pub silent : k.rendezvous.receiving ≡ false
@@ -565,6 +537,7 @@ pub record IsRemapping (row : EntryRow) (page : ℕ) : Type 0 where
 -- at each step of a service what is so; ⊥ for a step that the service has not
 abbrev pub StandsAtStep : View → Slot → Born → Service → Step → Type 0
 StandsAtStep v k b s step.Entered = IsIn k b s entered
+StandsAtStep v k b s (step.Piped at) = StandsAtPipe v k b s at
 StandsAtStep v k b s step.ReadingDevice = StandsAtDevice v k b s (descriptor_given s)
 StandsAtStep v k b s (step.BufferRegion done word) = StandsBefore (Unit {0}) v k b s done word
 StandsAtStep v k b s (step.BufferEntry done word) = StandsBefore (v.tables (region_index (buffer_of s + done)) ≡ true) v k b s done word
@@ -702,18 +675,22 @@ StandsAtStep v k b service.Fork (step.ChildRuns id) = IsBearing k b id
 StandsAtStep v k b service.Exit (step.DescriptorEntry fd) =
     IsIn k b service.Exit entered × (fd < DESCRIPTORS) × NoneIsOpenBelow v.row fd × HasTable v
 StandsAtStep v k b service.Exit (step.DroppingDescriptor fd) =
-    IsIn k b service.Exit entered × (fd < DESCRIPTORS) × NoneIsOpenBelow v.row fd × HasTable v × IsOpen v.row fd
+    IsIn k b service.Exit entered × (fd < DESCRIPTORS) × NoneIsOpenBelow v.row fd × HasTable v × IsOpen v.row fd × (v.row (pipe_page fd) ≡ None)
 StandsAtStep v k b service.Exit step.Ending = IsIn k b service.Exit entered × NoneIsOpenBelow v.row DESCRIPTORS
 StandsAtStep v k b (service.Close fd) (step.DescriptorEntry at) = IsIn k b (service.Close fd) entered × (at ≡ fd) × (fd < DESCRIPTORS) × HasTable v
 StandsAtStep v k b (service.Close fd) (step.DroppingDescriptor at) =
-    IsIn k b (service.Close fd) entered × (at ≡ fd) × (fd < DESCRIPTORS) × IsOpen v.row fd
+    IsIn k b (service.Close fd) entered × (at ≡ fd) × (fd < DESCRIPTORS) × IsOpen v.row fd × (v.row (pipe_page fd) ≡ None)
 StandsAtStep v k b (service.Dup old new) (step.DescriptorEntry at) =
     IsIn k b (service.Dup old new) entered × (at ≡ old) × (old < DESCRIPTORS) × HasTable v
 StandsAtStep v k b (service.Dup old new) step.TargetEntry = IsIn k b (service.Dup old new) entered × IsDuplicating v.row old new × HasTable v
 StandsAtStep v k b (service.Dup old new) (step.DroppingDescriptor at) =
     IsIn k b (service.Dup old new) entered × (at ≡ new) × IsDuplicating v.row old new × HasTable v × IsOpen v.row new
+    × (v.row (pipe_page new) ≡ None)
 StandsAtStep v k b (service.Dup old new) step.MappingDescriptor =
     IsIn k b (service.Dup old new) entered × IsDuplicating v.row old new × HasTable v × (v.row (descriptor_page new) ≡ None)
+    × (v.row (pipe_page new) ≡ v.row (pipe_page old))
+StandsAtStep v k b service.Pipe (step.FreeEntry fd) =
+    IsIn k b service.Pipe entered × (fd < DESCRIPTORS) × EachIsOpenBelow v.row fd × HasTable v
 StandsAtStep v k b _ _ = ⊥
 
 abbrev pub StandsAt : Place → View → Slot → Born → Type 0
@@ -737,7 +714,15 @@ IsStatusFor _ _ = ⊥
 
 -- what a space shows
 abbrev pub view_of : SpacesState → ℕ → View
-view_of s d = record { row = rows_of s d; tables = λ r. is_some (s.regions d r); bytes = s.pages }
+view_of s d =
+    record { row = rows_of s d; tables = λ r. is_some (s.regions d r); bytes = s.pages; counts = λ frame. reference_count s frame }
+
+-- the object of a descriptor that service pipe is not about to make
+abbrev pub seen_unless : Bool → Option ℕ → Option ℕ
+seen_unless made name = if made then None else name
+
+abbrev pub descriptor_seen_at : Place → Names → SpacesState → ℕ → ℕ → Option ℕ
+descriptor_seen_at at names s d fd = seen_unless (is_made at fd) (descriptor_seen names s d fd)
 
 -- An environment: what is its own. It has a table for each region in which it ever had a page, and no others but the library's.
 pub record StandsForBorn (names : Names) (s : SpacesState) (k : Slot) (b : Born) : Type 0 where
@@ -747,7 +732,7 @@ pub record StandsForBorn (names : Names) (s : SpacesState) (k : Slot) (b : Born)
   pub env_type : k.env_type ≡ User
   pub runs : IsStatusFor k.status b.blocked
   pub upcall : k.upcall ≡ upcall_at (place_of k)
-  pub descriptors : (fd : ℕ) → b.descriptors fd ≡ descriptor_seen names s k.directory fd
+  pub descriptors : (fd : ℕ) → is_dropped (place_of k) fd ≡ false → b.descriptors fd ≡ descriptor_seen_at (place_of k) names s k.directory fd
   pub memory : (p : ℕ) → b.memory p ≡ page_seen names s k.directory p
   pub library : LibraryPages (place_of k) k.extra (rows_of s k.directory)
   pub regions_have : (r : ℕ) → b.regions r ≡ true → is_some (s.regions k.directory r) ≡ true
@@ -795,7 +780,7 @@ child_upcall _ = 0
 pub record ChildPages (step : Step) (row : EntryRow) : Type 0 where
   pub stack : has_stack step ≡ true → IsOwnWritable row (page_number UXSTACK)
   pub no_stack : has_stack step ≡ false → row (page_number UXSTACK) ≡ None
-  pub none : (p : ℕ) → is_programs p ≡ false → is_descriptor p ≡ false → p ≢ page_number UXSTACK → row p ≡ None
+  pub none : (p : ℕ) → is_programs p ≡ false → is_of_descriptor p ≡ false → p ≢ page_number UXSTACK → row p ≡ None
 
 -- What is a child's own that is not born: it never runs.
 pub record StandsForUnborn (k : Slot) (id parent : ℕ) : Type 0 where
@@ -821,8 +806,8 @@ pub record IsBorne (names : Names) (s : SpacesState) (parent : Slot) (parent_is 
   pub registers : k.registers ≡ record parent.registers { eax = 0 }
   pub upcall : k.upcall ≡ child_upcall step
   pub passed : (p : ℕ) → is_programs p ≡ true → is_passed step p ≡ true → page_seen names s k.directory p ≡ b.memory p
-  pub handed : (p : ℕ) → is_descriptor p ≡ true → is_passed step p ≡ true → rows_of s k.directory p ≡ rows_of s parent.directory p
-  pub rest : (p : ℕ) → is_programs p || is_descriptor p ≡ true → is_passed step p ≡ false → rows_of s k.directory p ≡ None
+  pub handed : (p : ℕ) → is_of_descriptor p ≡ true → is_passed step p ≡ true → rows_of s k.directory p ≡ rows_of s parent.directory p
+  pub rest : (p : ℕ) → is_programs p || is_of_descriptor p ≡ true → is_passed step p ≡ false → rows_of s k.directory p ≡ None
   pub library : ChildPages step (rows_of s k.directory)
   pub tables : (r : ℕ) → is_some (s.regions k.directory r) ≡ true → has_page_in b.memory r || is_library_region r ≡ true
 
@@ -905,9 +890,13 @@ pub record AreFreeSlots (slots abstract : List ℕ) : Type 0 where
 
 -- ---- the whole
 
+-- each descriptor names an object that has come before
+abbrev pub NamesAreOld : (ℕ → AbstractSlot) → ℕ → Type 0
+NamesAreOld slots next = (n fd name : ℕ) (b : Born) → slots n ≡ born b → b.descriptors fd ≡ Some name → name < next
+
 -- what there is of objects
 abbrev pub things_in : KernelState → AbstractState → Things
-things_in s a = record { objects = a.objects; opened = a.opened; row = server_row s.spaces s.environments.slots }
+things_in s a = record { objects = a.objects; pipes = a.pipes; opened = a.opened; row = server_row s.spaces s.environments.slots }
 
 pub record StandsFor (names : Names) (s : KernelState) (a : AbstractState) : Type 0 where
   -- each slot
@@ -919,6 +908,10 @@ pub record StandsFor (names : Names) (s : KernelState) (a : AbstractState) : Typ
   pub users : AreUsers (logical s.spaces s.environments.slots)
   pub whole : AreWhole s.spaces.pages (logical s.spaces s.environments.slots)
   pub beside : AreBeside (server_row s.spaces s.environments.slots) (logical s.spaces s.environments.slots)
+  pub old : NamesAreOld a.slots a.next_name
+  -- each pipe
+  pub ends : (n : ℕ) → EndsStandAt names a.objects (place_of (slot_at s n)) (rows_of s.spaces (slot_at s n).directory) (a.slots n)
+  pub locks : LocksStand s.spaces.pages s.environments.slots (logical s.spaces s.environments.slots)
   -- what is there once
   pub free_slots : AreFreeSlots s.environments.free_slots a.free_slots
   pub first : a.slots 0 ≡ serving FIRST_ENV_ID
@@ -926,5 +919,6 @@ pub record StandsFor (names : Names) (s : KernelState) (a : AbstractState) : Typ
   pub input : (s.input ≡ a.input) × AreBytes a.input
   pub last : s.last ≡ a.last
   pub turns : s.turns ≡ a.turns
+  pub runs : (n : ℕ) → (slot_at s n).runs ≤ s.turns
   pub tabled : IsTabled s.environments.slots s.last
   pub in_order : IsInOrder s

@@ -3,7 +3,7 @@
 -- fault ends it.
 -- (MIT 6.828, lib/fork.c: pgfault.)
 use Rattle.std.specs.Prelude.{◌≡◌, ◌≢◌, ◌<◌, ◌^◌, ℕ, ◌+◌, ◌-◌, ◌*◌, ◌&&◌, nat_lt, not, Bool, true, false, is_some, get_or, Option, None, Some}
-use Rattle.std.specs.Prelude.{◌%◌, ◌≤◌, ◌==◌, zero, suc, nat_le, List, [], ◌∷◌, drop, length, min, slice_index, take, if◌then◌else◌}
+use Rattle.std.specs.Prelude.{◌%◌, ◌≤◌, ◌==◌, zero, suc, nat_le, codes, List, [], ◌∷◌, drop, length, min, slice_index, take, if◌then◌else◌}
 use Rattle.std.specs.Int.{w32, from_le_bytes, to_le_bytes}
 use Rattle.std.specs.List.{position_or_len}
 use Rattle.jos_base.specs.declared.memory.PageFault.{PageFault}
@@ -14,22 +14,24 @@ use Rattle.jos_base.specs.Reach.{Entry}
 use Rattle.jos_base.specs.SystemCalls.{has_write}
 use Rattle.jos_base.specs.TrapFrames.{frame_words, user_flags}
 use Rattle.jos_base.specs.Words.{page_number, has_bit, word_at}
-use Rattle.fs_layout.specs.declared.numbers.TheConstants.{MAXPATHLEN}
-use Rattle.lib_os.specs.declared.numbers.TheConstants.{DESCRIPTORS, DEVICE_CONSOLE, DEVICE_FILE, PFTEMP, REQUEST_BYTES, TRANSFER_MAX, STAT_SIZE}
+use Rattle.fs_layout.specs.declared.numbers.TheConstants.{FTYPE_REG, MAXPATHLEN}
+use Rattle.fs_layout.specs.FileActs.{stat_bytes}
+use Rattle.lib_os.specs.declared.numbers.TheConstants.{DESCRIPTORS, DEVICE_CONSOLE, DEVICE_FILE, DEVICE_PIPE, PFTEMP, REQUEST_BYTES}
+use Rattle.lib_os.specs.declared.numbers.TheConstants.{STAT_SIZE, TRANSFER_MAX}
 use Rattle.lib_os.specs.declared.place.HandlerStep.{HandlerStep}
 use Rattle.lib_os.specs.declared.place.HandlerStep.TheVariants as handler
 use Rattle.lib_os.specs.declared.place.Place.TheVariants as place
 use Rattle.lib_os.specs.declared.place.Step.TheVariants as step
 use Rattle.lib_os.specs.declared.service.Service.{Service}
 use Rattle.lib_os.specs.declared.service.Service.TheVariants as service
-use Rattle.lib_os.specs.AbstractState.{Born, guest, at_guest, faulted, in_service, Stage, delivering, entered, gathering, replied}
+use Rattle.lib_os.specs.AbstractState.{Born, Phase, guest, at_guest, faulted, in_service, Stage, delivering, entered, gathering, replied}
 use Rattle.lib_os.specs.DescriptorPages.{device_of, mode_of}
 use Rattle.lib_os.specs.Answers.{moved_at_once}
 use Rattle.lib_os.specs.Fence.{is_buffer, is_inside, is_resident}
 use Rattle.lib_os.specs.FileServices.{is_nul, terminal_stat, is_mode}
 use Rattle.lib_os.specs.LibraryPages.{View, HasFrame, HasTaken}
 use Rattle.lib_os.specs.Places.{place_of}
-use Rattle.lib_os.specs.Rows.{EntryRow, is_shared, is_cow, descriptor_page, AreBytes}
+use Rattle.lib_os.specs.Rows.{EntryRow, is_shared, is_cow, descriptor_page, pipe_page, AreBytes}
 
 -- ---- registers
 
@@ -79,10 +81,18 @@ pub record IsDelivering (k : Slot) (b : Born) (s : Service) (at : ℕ) (bytes : 
   pub inside : is_buffer at (length bytes) ≡ true
   pub small : AreBytes bytes
 
--- read has the byte that it has taken, and stat what it tells of the console
+-- what stat tells of the console, by the word 0, and of a pipe that holds so many bytes, by one more
+abbrev pub pipe_stat : ℕ → List ℕ
+pipe_stat held = stat_bytes (codes "<pipe>") held FTYPE_REG
+
+abbrev pub stat_told : ℕ → List ℕ
+stat_told zero = terminal_stat
+stat_told (suc held) = pipe_stat held
+
+-- read has the byte that it has taken, and stat what it tells of the console or of a pipe
 abbrev pub StandsDelivering : Service → ℕ → ℕ → Slot → Born → Type 0
 StandsDelivering (service.Read fd va len) done word k b = IsDelivering k b (service.Read fd va len) (va + done) (word ∷ []) 1
-StandsDelivering (service.Stat fd va) done word k b = IsDelivering k b (service.Stat fd va) (va + done) (drop done terminal_stat) 0
+StandsDelivering (service.Stat fd va) done word k b = IsDelivering k b (service.Stat fd va) (va + done) (drop done (stat_told word)) 0
 StandsDelivering _ done word k b = ⊥
 
 -- the address of the buffer that a service is given
@@ -123,6 +133,15 @@ pub record IsFileOpen (v : View) (fd : ℕ) : Type 0 where
   pub stands : v.row (descriptor_page fd) ≡ Some entry
   pub device : device_of (v.bytes entry.frame) ≡ DEVICE_FILE
 
+-- or an end of a pipe, open for reading or writing, beside which the page of the pipe is there
+pub record IsEndOpen (v : View) (fd mode : ℕ) : Type 0 where
+  pub entry : Entry
+  pub stands : v.row (descriptor_page fd) ≡ Some entry
+  pub device : device_of (v.bytes entry.frame) ≡ DEVICE_PIPE
+  pub mode_is : mode_of (v.bytes entry.frame) ≡ mode
+  pub page : Entry
+  pub lies : v.row (pipe_page fd) ≡ Some page
+
 -- or a file that may be written
 pub record IsWritableFile (v : View) (fd : ℕ) : Type 0 where
   pub file : IsFileOpen v fd
@@ -134,17 +153,18 @@ pub record IsGiven (v : View) (fd va len : ℕ) : Type 0 where
   pub console : IsConsoleOpen v fd
   pub buffer : is_buffer va (wanted_of len) ≡ true
 
--- Write's bytes begin at this place in its page, by what its descriptor names: for the console at 0, and for a file behind what its request
--- tells before.
+-- Write's bytes begin at this place in its page, by what its descriptor names: for the console at 0, for a file behind what its request tells before,
+-- and for a pipe at a page's size, which is 0 of the page, too.
 pub data BeginsAt (v : View) (fd start : ℕ) : Type 0 where
   on_console : start ≡ 0 → IsConsoleOpen v fd → BeginsAt v fd start
   in_file : start ≡ REQUEST_BYTES → IsWritableFile v fd → BeginsAt v fd start
+  in_pipe : start ≡ PGSIZE → IsEndOpen v fd 1 → BeginsAt v fd start
 
--- How many bytes it takes: as many as the page has from there on, at most.
+-- How many bytes it takes: as many as the page has from there on, at most. (The place of those for a pipe is kept as one page behind.)
 abbrev pub wanted_from : ℕ → ℕ → ℕ
-wanted_from start len = min len (PGSIZE - start)
+wanted_from start len = min len (PGSIZE - start % PGSIZE)
 
--- write is given a descriptor that names the console or a file, and a buffer in the fence
+-- write is given a descriptor that names the console, a file or an end of a pipe, and a buffer in the fence
 pub record IsGivenBytes (v : View) (fd va len start : ℕ) : Type 0 where
   pub below : fd < DESCRIPTORS
   pub begins : BeginsAt v fd start
@@ -185,19 +205,20 @@ abbrev pub answer_behind : Service → ℕ → ℕ
 answer_behind (service.Read fd va len) count = count
 answer_behind _ count = 0
 
--- the stage of one that has put so many of the bytes, which began at an address
-abbrev pub stage_behind : ℕ → List ℕ → ℕ → ℕ → Stage
-stage_behind va bytes answer zero = replied bytes answer
-stage_behind va bytes answer (suc n) = delivering (va + suc n) (drop (suc n) bytes) answer
+-- So it stands: none of them is put yet, behind a reply of the server's, or of a pipe's; or so many are.
+pub data HandsAt (s : Service) (bytes : List ℕ) (answer : ℕ) : ℕ → Phase → Type 0 where
+  by_reply : HandsAt s bytes answer 0 (in_service s (replied bytes answer))
+  behind : (done : ℕ) → HandsAt s bytes answer done (in_service s (delivering (buffer_of s + done) (drop done bytes) answer))
 
--- The page at UTEMP has so many bytes of the reply, of which so many are put, and not all. (With the reply the kernel has set EAX to 0.)
+-- The page at UTEMP has so many bytes of the reply, or of a pipe, of which so many are put, and not all. (With the reply the kernel has set EAX to 0.)
 pub record HasBytes (v : View) (k : Slot) (b : Born) (s : Service) (done count : ℕ) : Type 0 where
   pub hands : hands_back s ≡ true
   pub regs : Regs
   pub program : b.program ≡ guest regs
-  pub registers : k.registers ≡ record regs { eax = 0 }
+  pub eax : ℕ
+  pub registers : k.registers ≡ record regs { eax = eax }
   pub bytes : List ℕ
-  pub phase : b.phase ≡ in_service s (stage_behind (buffer_of s) bytes (answer_behind s count) done)
+  pub hands_at : HandsAt s bytes (answer_behind s count) done b.phase
   pub many : length bytes ≡ count
   pub fewer : done < count
   pub most : count ≤ TRANSFER_MAX

@@ -3,6 +3,7 @@
 ghost use Rattle.lib_os.specs.AbstractLaws.{ForkCopies, OwnStoresAreUnseen, SharedStoresAreSeen, PipesAreBounded};
 ghost use Rattle.lib_os.specs.AbstractLaws.{GuestMemoryIsLawful, StepsLeaveOthers, ClientsLeaveFiles, ServedClientsStay};
 ghost use Rattle.lib_os.specs.Need.{NeedIsReached};
+ghost use Rattle.lib_os.specs.PipeLaws.{CountsTellClosed};
 ghost use Rattle.lib_os.specs.StandingLaws.{SomeStateStands, SomeCopyStands, WordsTellThePlace, RegistersTellThePlace};
 
 /// A child of fork is born with the memory, the descriptors and the registers of its parent, but for EAX.
@@ -61,4 +62,10 @@ pub fn words_tell_the_place()
 /// frames as are handed out.
 pub fn need_is_reached()
     ensures { NeedIsReached }
+{}
+
+/// Where the page of a descriptor of an end of a pipe is mapped as often as the page of that pipe, nobody has the other end;
+/// and where it is not, the other end may be open still.
+pub fn counts_tell_closed()
+    ensures { CountsTellClosed }
 {}

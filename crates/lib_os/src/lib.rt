@@ -21,6 +21,8 @@ mod answers;
 mod fence;
 mod laws;
 mod numbers;
+mod pipe_numbers;
+mod piping;
 mod place;
 mod progress;
 mod request;
@@ -30,22 +32,23 @@ mod user_os;
 pub use answers::{answer, answer_of, go_back, go_on, stopped};
 pub use fence::{in_fence, is_buffer, is_page_inside, is_resident};
 pub use laws::{
-    clients_leave_files, fork_copies, guest_memory_is_lawful, need_is_reached,
+    clients_leave_files, counts_tell_closed, fork_copies, guest_memory_is_lawful, need_is_reached,
     pages_are_own_or_shared, pipes_are_bounded, served_clients_stay, some_state_stands,
     steps_leave_others, words_tell_the_place,
 };
 pub use numbers::{
-    CACHE_BLOCKS, DESCRIPTORS, DEVICE_CONSOLE, DEVICE_FILE, DISKMAP, FD_DEVICE, FD_FILE, FD_MODE,
-    FD_OFFSET, FDTABLE_END, FSREQ_OPEN, FSREQ_REMOVE, FSREQ_SEEK, FSREQ_SET_SIZE, FSREQ_SYNC,
-    FSREQ_WRITE, MAXOPEN, MODE_BITS, O_RDWR, OFFSET_MAX, OPEN_RECORDS, PAGE_WORDS, PFTEMP,
-    PGFAULT_UPCALL, PTE_COW, PTE_SHARE, REQUEST, REQUEST_BYTES, REQUEST_COUNT, REQUEST_FILE,
-    REQUEST_MODE, RESIDENT, SERVICE_CLOSE, SERVICE_CPUTS, SERVICE_DUP, SERVICE_EXIT, SERVICE_FORK,
-    SERVICE_GETID, SERVICE_OPEN_FILE, SERVICE_PAGE_DROP, SERVICE_PAGE_NEW, SERVICE_READ,
+    CACHE_BLOCKS, DESCRIPTORS, DEVICE_CONSOLE, DEVICE_FILE, DEVICE_PIPE, DISKMAP, ENV_RUNS,
+    FD_DEVICE, FD_FILE, FD_MODE, FD_OFFSET, FDTABLE_END, FSREQ_OPEN, FSREQ_REMOVE, FSREQ_SEEK,
+    FSREQ_SET_SIZE, FSREQ_SYNC, FSREQ_WRITE, MAXOPEN, MODE_BITS, O_RDWR, OFFSET_MAX, OPEN_RECORDS,
+    PAGE_WORDS, PFTEMP, PGFAULT_UPCALL, PIPE_BYTES, PIPE_LOCK, PIPE_READ, PIPE_WRITE, PIPEBUFSIZ,
+    PTE_COW, PTE_SHARE, REQUEST, REQUEST_BYTES, REQUEST_COUNT, REQUEST_FILE, REQUEST_MODE,
+    RESIDENT, SERVICE_CLOSE, SERVICE_CPUTS, SERVICE_DUP, SERVICE_EXIT, SERVICE_FORK, SERVICE_GETID,
+    SERVICE_OPEN_FILE, SERVICE_PAGE_DROP, SERVICE_PAGE_NEW, SERVICE_PIPE, SERVICE_READ,
     SERVICE_RECEIVE, SERVICE_REMOVE, SERVICE_SEEK, SERVICE_SEND, SERVICE_SET_SIZE, SERVICE_STAT,
     SERVICE_SYNC, SERVICE_WAIT, SERVICE_WRITE, SERVICE_YIELD, SERVICES, STAT_SIZE, TRANSFER_MAX,
     UVPD, UXSTACK,
 };
-pub use place::{HandlerStep, Place, Step, find_place, handler_registers, words_at};
+pub use place::{HandlerStep, PipeStep, Place, Step, find_place, handler_registers, words_at};
 pub use progress::Progress;
 pub use request::{RequestKind, request_kind, request_word};
 pub use service::{Service, service_of};

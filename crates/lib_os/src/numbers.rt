@@ -12,10 +12,14 @@ pub const DEVICE_CONSOLE: u32 = 0x63;
 /// A file, as that word tells it. (MIT 6.828, lib/file.c: `devfile`)
 pub const DEVICE_FILE: u32 = 0x66;
 
+/// An end of a pipe, as that word tells it. (MIT 6.828, lib/pipe.c: `devpipe`)
+pub const DEVICE_PIPE: u32 = 0x70;
+
 /// Where the page of a descriptor of a file has the place of the next byte. (MIT 6.828, inc/fd.h: `fd_offset`)
 pub const FD_OFFSET: u32 = 4;
 
-/// Where it has the mode in which the file is open. (MIT 6.828, inc/fd.h: `fd_omode`)
+/// Where it has the mode in which the file is open, or which end of a pipe it names: 0 for the reading end, 1 for the writing end.
+/// (MIT 6.828, inc/fd.h: `fd_omode`)
 pub const FD_MODE: u32 = 8;
 
 /// Where it has the file's number at the file server. (MIT 6.828, inc/fd.h: `fd_file.id`)
@@ -35,6 +39,21 @@ pub const MAXOPEN: u32 = 1024;
 
 /// The bytes that a pipe can hold. (MIT 6.828, lib/pipe.c)
 pub const PIPEBUFSIZ: usize = 32;
+
+/// Where the page of a pipe has the word that is other than 0 while someone has its lock. (This system's own.)
+pub const PIPE_LOCK: u32 = 0;
+
+/// Where it has how many bytes have been taken from the pipe. (MIT 6.828, lib/pipe.c: `p_rpos`)
+pub const PIPE_READ: u32 = 4;
+
+/// Where it has how many have been put into it. (MIT 6.828, lib/pipe.c: `p_wpos`)
+pub const PIPE_WRITE: u32 = 8;
+
+/// From here on it has the bytes that it holds: that which is put as the nth stands at n modulo `PIPEBUFSIZ`. (MIT 6.828, lib/pipe.c: `p_buf`)
+pub const PIPE_BYTES: u32 = 12;
+
+/// The place of the word in a record of a slot that tells how often its environment has got a turn. (MIT 6.828, inc/env.h: `env_runs`)
+pub const ENV_RUNS: u32 = 4;
 
 /// The most bytes that one read moves, and one write to a pipe or the console.
 pub const TRANSFER_MAX: u32 = 4096;

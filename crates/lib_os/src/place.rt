@@ -23,6 +23,8 @@ use crate::numbers::{
     STEP_RETURNING, STEP_STORING_COUNT, STEP_STORING_MODE, STEP_STORING_NUMBER, STEP_TAKING_PAGE,
     STEP_TAKING_REQUEST, STEP_TARGET_ENTRY, STEP_TRYING, STEP_UNDOING, UXSTACK,
 };
+use crate::pipe_numbers::STEP_PIPE_SECOND_ENTRY;
+use crate::piping::{find_pipe_step, pipe_words_at};
 use crate::service::{Service, service_of};
 use jos_base::{Extra, Regs, UXSTACKTOP};
 
@@ -117,7 +119,8 @@ pub enum Step {
     /// read, write, seek, stat and set_size: it is about to read what its descriptor names.
     ReadingDevice,
     /// read, write, stat, remove and open_file, which have moved so many bytes of their buffer, or of their path: it is about to read whether
-    /// the region of the next has a table. read has the byte that it has taken, and write where in its page its bytes begin.
+    /// the region of the next has a table. read has the byte that it has taken; write has where in its page its bytes begin, and for a pipe
+    /// one page behind that; and stat has 0, or of a pipe how many bytes that holds, and 1.
     BufferRegion {
         done: u32,
         word: u32,
@@ -207,8 +210,8 @@ pub enum Step {
     CountingReply {
         id: u32,
     },
-    /// read and stat, whose page has so many bytes of a file, of which they have put so many: it is about to read whether the region of the
-    /// next byte of its buffer has a table.
+    /// read and stat, whose page has so many bytes of a file, or of a pipe, of which they have put so many: it is about to read whether the
+    /// region of the next byte of its buffer has a table.
     FileRegion {
         done: u32,
         count: u32,
@@ -240,7 +243,7 @@ pub enum Step {
         done: u32,
         count: u32,
     },
-    /// read and stat: all bytes are put, and it is about to give its page back, and then goes back with this answer.
+    /// read, stat, and write to a pipe: all bytes are put, and it is about to give its page back, and then goes back with this answer.
     Returning {
         answer: u32,
     },
@@ -283,6 +286,239 @@ pub enum Step {
     ReadingOpened {
         id: u32,
         fd: u32,
+    },
+    /// pipe, and exit, close, dup, read, write and stat on an end of a pipe: it is so far.
+    Piped {
+        at: PipeStep,
+    },
+}
+
+/// How far a service is that makes, moves or drops an end of a pipe.
+#[derive(Clone, Copy, Debug)]
+pub enum PipeStep {
+    /// pipe: this descriptor is the lowest that is free, and every other below `fd` is open: it is about to read the entry of that one's page.
+    SecondEntry {
+        reading: u32,
+        fd: u32,
+    },
+    /// pipe: these are the lowest descriptors that are free, and it is about to take the page of the first, for the reading end.
+    TakingReading {
+        reading: u32,
+        writing: u32,
+    },
+    /// pipe: it is about to put into that page that a pipe is named.
+    StoringReading {
+        reading: u32,
+        writing: u32,
+    },
+    /// pipe: it is about to take the page of the second, for the writing end.
+    TakingWriting {
+        reading: u32,
+        writing: u32,
+    },
+    /// pipe: it is about to put into that page that a pipe is named.
+    StoringWriting {
+        reading: u32,
+        writing: u32,
+    },
+    /// pipe: it is about to put there too that the descriptor is for writing.
+    StoringEndMode {
+        reading: u32,
+        writing: u32,
+    },
+    /// pipe: it is about to take the pipe's page, where the reading end's descriptor has it.
+    TakingPipe {
+        reading: u32,
+        writing: u32,
+    },
+    /// pipe: it is about to map that page where the writing end's descriptor has it.
+    MappingPipe {
+        reading: u32,
+        writing: u32,
+    },
+    /// pipe: it was refused something with this answer, and is about to give the page of the writing end's descriptor back.
+    UndoingWriting {
+        reading: u32,
+        writing: u32,
+        error: u32,
+    },
+    /// pipe: it was refused something with this answer, and is about to give the page of the reading end's descriptor back.
+    UndoingReading {
+        reading: u32,
+        error: u32,
+    },
+    /// exit, close and dup: this descriptor is open, and it is about to read whether it has a pipe's page.
+    PipeEntry {
+        fd: u32,
+    },
+    /// exit, close and dup: this descriptor names an end of a pipe, and its page is about to be dropped.
+    DroppingEnd {
+        fd: u32,
+    },
+    /// exit, close and dup: its page is dropped, and the pipe's page is about to be dropped, by which the end is.
+    DroppingPipe {
+        fd: u32,
+    },
+    /// dup: the new descriptor is free, and it is about to read whether the old one has a pipe's page.
+    SourcePipe,
+    /// dup: it is about to map that as the new one's.
+    MappingEnd,
+    /// read and write: their descriptor names an end of a pipe, and they are about to read which.
+    EndMode,
+    /// read and write: they are about to take a page for the bytes that they move.
+    TakingBytes,
+    /// read and write, which have moved so many bytes: they are about to take the pipe's lock. Where a test has just found that a byte may be moved,
+    /// they have the environment's id, and how often it had got a turn then; else 0.
+    Locking {
+        done: u32,
+        id: u32,
+        runs: u32,
+    },
+    /// read and write: another has the lock, and they are about to give up their turn.
+    LockPausing {
+        done: u32,
+    },
+    /// read and write, which have the lock: they are about to read how many bytes have been taken from the pipe.
+    ReadFrom {
+        done: u32,
+        id: u32,
+        runs: u32,
+    },
+    /// read and write: they are about to read how many have been put into it.
+    ReadTo {
+        done: u32,
+        id: u32,
+        runs: u32,
+        from: u32,
+    },
+    /// read: it is about to load the pipe's next byte.
+    LoadingHeld {
+        done: u32,
+        from: u32,
+    },
+    /// read: it is about to put this byte into its page.
+    KeepingHeld {
+        done: u32,
+        from: u32,
+        byte: u32,
+    },
+    /// read: it is about to count the byte as taken from the pipe.
+    TakingHeld {
+        done: u32,
+        from: u32,
+    },
+    /// write: there is room, and it is about to load the next byte of its page.
+    LoadingOwn {
+        done: u32,
+        to: u32,
+    },
+    /// write: it is about to put this byte into the pipe's page.
+    PuttingOwn {
+        done: u32,
+        to: u32,
+        byte: u32,
+    },
+    /// write: it is about to count the byte as put into the pipe.
+    Putting {
+        done: u32,
+        to: u32,
+    },
+    /// read and write: a byte is moved, so that they have so many, and they are about to give the lock back.
+    UnlockingMoved {
+        done: u32,
+    },
+    /// read: it has found the pipe empty behind so many bytes, which are all that it moves, and is about to give the lock back.
+    UnlockingEnd {
+        done: u32,
+    },
+    /// read and write: they have found that no byte can be moved, and are about to give the lock back.
+    UnlockingTest {
+        done: u32,
+        id: u32,
+        runs: u32,
+    },
+    /// read and write: they are about to ask for the environment's id, to test whether the other end is closed.
+    TestIdentifying {
+        done: u32,
+    },
+    /// read and write, with that id: they are about to read how often the environment has got a turn.
+    TestRuns {
+        done: u32,
+        id: u32,
+    },
+    /// read and write: a test let them try when the environment had got so many turns, and they tried in vain; they are about to read again how
+    /// many it has got.
+    TestAgain {
+        done: u32,
+        id: u32,
+        runs: u32,
+    },
+    /// read and write: they are about to read how many bytes have been taken from the pipe.
+    TestFrom {
+        done: u32,
+        id: u32,
+        runs: u32,
+    },
+    /// read and write: they are about to read how many have been put into it.
+    TestTo {
+        done: u32,
+        id: u32,
+        runs: u32,
+        from: u32,
+    },
+    /// read and write: still no byte can be moved, and they are about to read the entry of their descriptor's page.
+    TestDescriptor {
+        done: u32,
+        id: u32,
+        runs: u32,
+    },
+    /// read and write: they are about to read how often the page of this entry is mapped.
+    TestDescriptorCount {
+        done: u32,
+        id: u32,
+        runs: u32,
+        entry: u32,
+    },
+    /// read and write: it is mapped so often, and they are about to read the entry of the pipe's page.
+    TestPipe {
+        done: u32,
+        id: u32,
+        runs: u32,
+        count: u32,
+    },
+    /// read and write: they are about to read how often the page of this entry is mapped.
+    TestPipeCount {
+        done: u32,
+        id: u32,
+        runs: u32,
+        count: u32,
+        entry: u32,
+    },
+    /// read and write: by these counts the other end is closed, where this is 1, or open, where it is 0; they are about to read whether the
+    /// environment has got another turn meanwhile.
+    TestRunsAgain {
+        done: u32,
+        id: u32,
+        runs: u32,
+        closed: u32,
+    },
+    /// read and write: the other end is open, and they are about to give up their turn.
+    TestPausing {
+        done: u32,
+    },
+    /// stat: its descriptor names an end of a pipe, and it is about to take the pipe's lock.
+    StatLocking,
+    /// stat: another has the lock, and it is about to give up its turn.
+    StatPausing,
+    /// stat, which has the lock: it is about to read how many bytes have been taken from the pipe.
+    StatFrom,
+    /// stat: it is about to read how many have been put into it.
+    StatTo {
+        from: u32,
+    },
+    /// stat: the pipe holds so many, and it is about to give the lock back.
+    StatUnlocking {
+        held: u32,
     },
 }
 
@@ -491,6 +727,11 @@ fn find_step(words: &Extra) -> Step
     ensures { result ≡ places.step_in words.now.0 }
 {
     let [_, step, first, second, third, _, _, _, _, _, _, _] = words.0;
+    if STEP_PIPE_SECOND_ENTRY <= step {
+        return Step::Piped {
+            at: find_pipe_step(words),
+        };
+    }
     match step {
         STEP_ENTERED => Step::Entered,
         STEP_TRYING => Step::Trying { perm: first },
@@ -661,6 +902,7 @@ pub fn words_at(number: u32, step: Step) -> Extra
         Step::OpenAwaiting { id, fd } => (STEP_OPEN_AWAITING, id, fd, 0),
         Step::OpenClearing { id, fd } => (STEP_OPEN_CLEARING, id, fd, 0),
         Step::ReadingOpened { id, fd } => (STEP_READING_OPENED, id, fd, 0),
+        Step::Piped { at } => return pipe_words_at(number, at),
     };
     let fourth = match step {
         Step::KeepingBytes { start, .. } => start,

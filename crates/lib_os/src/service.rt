@@ -67,7 +67,7 @@ pub enum Service {
 fn is_built(number: u32) -> bool
     ensures { result ≡ services.is_built number }
 {
-    number <= SERVICE_DUP
+    number <= SERVICE_PIPE
 }
 
 /// The service that a program asks for by INT 0x40, with its number in EAX and what it gives in EDX, ECX and EBX.

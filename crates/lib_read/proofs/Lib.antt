@@ -1,3 +1,5 @@
 pub mod TerminalBytes
+pub mod EndLaw
 pub mod StatLaw
 pub mod ReadLaw
+pub mod PipeBytes

@@ -14,7 +14,8 @@ use Rattle.jos_base.specs.Messages.{Rendezvous}
 use Rattle.jos_base.specs.SystemCalls.{call_of, cgetc_from}
 use Rattle.jos_base.specs.UserMemory.{is_allowed}
 use Rattle.jos_base.specs.Words.{negated, page_number}
-use Rattle.lib_os.specs.declared.numbers.TheConstants.{DEVICE_CONSOLE, DEVICE_FILE, FD_MODE, SERVICE_READ}
+use Rattle.lib_os.specs.declared.numbers.TheConstants.{DEVICE_CONSOLE, DEVICE_FILE, DEVICE_PIPE, FD_MODE, SERVICE_READ}
+use Rattle.lib_os.specs.declared.place.PipeStep.TheVariants as pipe
 use Rattle.lib_os.specs.declared.place.Place.TheVariants as place
 use Rattle.lib_os.specs.declared.place.Step.{Step}
 use Rattle.lib_os.specs.declared.place.Step.TheVariants as step
@@ -30,7 +31,7 @@ use Rattle.lib_os.specs.LibraryCall.{library_step}
 use Rattle.lib_os.specs.LibraryPages.{View}
 use Rattle.lib_os.specs.LibrarySteps.{Stands, is_pausing}
 use Rattle.lib_os.specs.Places.{place_of, words_at}
-use Rattle.lib_os.specs.Rows.{AreBytes, Names, is_descriptor}
+use Rattle.lib_os.specs.Rows.{AreBytes, Names, is_of_descriptor}
 use Rattle.lib_os.specs.StandsFor.{IsGetting, StandsAtStep, StandsFor, borne_in, view_of}
 use Rattle.lib_os.specs.StandsInHandler.{AreSmall, IsDelivering, wanted_of}
 use Rattle.lib_os.specs.UserCalls.{CallStep, asking, called_by, giving, system}
@@ -39,6 +40,7 @@ use Rattle.lib_os.proofs.BufferAccesses.{stage_stands}
 use Rattle.lib_os.proofs.BytesDelivered.{read_console, read_delivered, read_put, read_putting, read_stands, read_step}
 use Rattle.lib_os.proofs.BytesRefused.{read_lost, read_lost_after, read_lost_lowers, read_lost_stands}
 use Rattle.lib_os.proofs.Calls.{quiet_is, system_is}
+use Rattle.lib_os.proofs.DescriptorLooks.{seen_calm}
 use Rattle.lib_os.proofs.DeviceLooks.{at_device, device_answers, device_console, device_goes_on, device_object, device_va, device_word}
 use Rattle.lib_os.proofs.DeviceLooks.{names_console, reading_device}
 use Rattle.lib_os.proofs.Fences.{buffer_each}
@@ -46,7 +48,10 @@ use Rattle.lib_os.proofs.FileOpened.{read_buffer_outside, read_finds_file, read_
 use Rattle.lib_os.proofs.FileReads.{mode_va, told_word}
 use Rattle.lib_os.proofs.GoingOn.{in_with_words}
 use Rattle.lib_os.proofs.Loading.{loaded}
+use Rattle.lib_os.proofs.Logical.{is_making_pipe}
 use Rattle.lib_os.proofs.Numbered.{named_at}
+use Rattle.lib_os.proofs.PipeBegun.{read_looks}
+use Rattle.lib_os.proofs.PipesStand.{is_calm}
 use Rattle.lib_os.proofs.Serving.{IsServed, holds_page, printed_nothing, served, step_in}
 use Rattle.lib_os.proofs.Trying.{LivesOn}
 use Rattle.lib_stage.specs.declared.ask.Ask.TheVariants as ask
@@ -67,6 +72,7 @@ use Rattle.lib_bytes.proofs.BytesLook.{counting_holds, file_entry_holds, file_re
 use Rattle.lib_bytes.proofs.BytesPut.{faulting_holds, putting_holds}
 use Rattle.lib_bytes.proofs.BytesReturn.{returning_holds}
 use Rattle.lib_read.specs.ReadStages.{next_of_device, next_of_mode, read_at, reading}
+use Rattle.lib_read.proofs.EndLaw.{read_end_holds}
 use Rattle.lib_bytes.proofs.Handing.{inside_aside}
 use Rattle.lib_bytes.proofs.Delivery.{PutOrLost, byte_lives, delivery_holds, lost, put}
 
@@ -110,6 +116,10 @@ taken_stands h rest small = record {
   free_slots = h.free_slots;
   first = h.first;
   server = h.server;
+  ends = h.ends;
+  locks = h.locks;
+  runs = h.runs;
+  old = h.old;
   input = (refl, small);
   last = h.last;
   turns = h.turns;
@@ -170,16 +180,18 @@ module _ (s : KernelState) (n fd va len : ℕ) (live : is_live (slot_at s n) ≡
 
   module _ (stands : place_of (slot_at s n) ≡ place.InService (service.Read fd va len) step.ReadingDevice) where
     device_falls : (word : ℕ) → Falls read step.ReadingDevice (next_of_device va len word)
-    device_falls word = by_tests (word == DEVICE_FILE) (word == DEVICE_CONSOLE) (is_buffer va (wanted_of len)) (len == 0)
+    device_falls word = by_tests (word == DEVICE_FILE) (word == DEVICE_PIPE) (word == DEVICE_CONSOLE) (is_buffer va (wanted_of len)) (len == 0)
       where
-        by_tests : (of_file console inside none : Bool) → Falls read step.ReadingDevice
-            (if of_file then next.GoOn step.ReadingMode else if not console then next.Answer (negated E_NOT_SUPP)
+        by_tests : (of_file of_pipe console inside none : Bool) → Falls read step.ReadingDevice
+            (if of_file then next.GoOn step.ReadingMode else if of_pipe then next.GoOn (step.Piped pipe.EndMode)
+            else if not console then next.Answer (negated E_NOT_SUPP)
             else if not inside then next.Answer (negated E_INVAL) else if none then next.Answer 0 else next.GoOn step.Getting)
-        by_tests true console inside none = omega arith
-        by_tests false false inside none = tt
-        by_tests false true false none = tt
-        by_tests false true true true = tt
-        by_tests false true true false = omega arith
+        by_tests true of_pipe console inside none = omega arith
+        by_tests false true console inside none = omega arith
+        by_tests false false false inside none = tt
+        by_tests false false true false none = tt
+        by_tests false false true true true = tt
+        by_tests false false true true false = omega arith
 
     module _ (names : Names) (a : AbstractState) (h : StandsFor names s a) (order : IsInOrder (loaded s n (device_va fd)))
         (word : device_word s n fd ≡ DEVICE_CONSOLE) where
@@ -203,7 +215,7 @@ module _ (s : KernelState) (n fd va len : ℕ) (live : is_live (slot_at s n) ≡
                 refl,
                 (
                   names,
-                  device_goes_on s n read fd refl stands h order step.Getting refl (record {
+                  device_goes_on s n read fd refl stands h order step.Getting refl refl (record {
                     is_in = in_with_words (words_at SERVICE_READ step.Getting) it.is_in;
                     given = record { below = it.below; console = device_console s n read fd refl stands h word; buffer = inside };
                     some = grind (arith, nat_tests);
@@ -221,6 +233,7 @@ module _ (s : KernelState) (n fd va len : ℕ) (live : is_live (slot_at s n) ≡
     device_told =
         device_holds_each s n read fd refl live stands (next_of_device va len) device_falls device_follows
         (λ names a h order word. (refl, (names, read_finds_file s n fd h order word va len stands)))
+        (λ names a h order word. (refl, (names, read_looks s n fd h word order va len stands)))
 
   -- ---- the mode of its file
 
@@ -289,7 +302,8 @@ module _ (s : KernelState) (n fd va len : ℕ) (live : is_live (slot_at s n) ≡
       gets = w.at
 
       console : object_of a w.b fd ≡ Some terminal
-      console = names_console h n w.b w.is (ap borne_in stands) fd gets.given.below gets.given.console
+      console = names_console h n w.b w.is (ap borne_in stands) (ap is_making_pipe stands) (seen_calm h n w.b w.is (ap is_calm stands)) fd
+          gets.given.below gets.given.console
 
       wants : (wanted_of len == 0) ≡ false
       wants = let some = gets.some in let more : 0 < wanted_of len = grind (arith, nat_tests) in grind (arith, nat_tests)
@@ -302,7 +316,7 @@ module _ (s : KernelState) (n fd va len : ℕ) (live : is_live (slot_at s n) ≡
         printed_nothing a,
         (
           names,
-          back_stands h n w.b w.is (record regs { eax = 0 }) (ap borne_in stands) (ap holds_page stands) gets.is_in.silent gets.is_in.awake
+          back_stands h n w.b w.is (record regs { eax = 0 }) (ap borne_in stands) (ap holds_page stands) (ap is_calm stands) gets.is_in.silent gets.is_in.awake
               w.outside refl refl,
         ),
       )
@@ -331,7 +345,7 @@ module _ (s : KernelState) (n fd va len : ℕ) (live : is_live (slot_at s n) ≡
           printed_nothing a,
           (
             names,
-            back_stands taken_too n w.b w.is (record regs { eax = 0 }) (ap borne_in stands) (ap holds_page stands) gets.is_in.silent gets.is_in.awake
+            back_stands taken_too n w.b w.is (record regs { eax = 0 }) (ap borne_in stands) (ap holds_page stands) (ap is_calm stands) gets.is_in.silent gets.is_in.awake
                 w.outside refl refl,
           ),
         )
@@ -366,8 +380,8 @@ module _ (s : KernelState) (n fd va len : ℕ) (live : is_live (slot_at s n) ≡
           printed_nothing a,
           (
             names,
-            stage_stands taken_too n SERVICE_READ w.b w.is w.outside (ap borne_in stands) read (step.BufferRegion 0 byte)
-                (delivering va (byte ∷ []) 1) (ap holds_page stands) refl (named_at (slot_at s n) read step.Getting stands)
+            stage_stands taken_too n SERVICE_READ w.b w.is w.outside (ap borne_in stands) (ap is_calm stands) read (step.BufferRegion 0 byte)
+                (delivering va (byte ∷ []) 1) (ap holds_page stands) refl refl (named_at (slot_at s n) read step.Getting stands)
                 (before (record (slot_at s n) { extra = words_at SERVICE_READ (step.BufferRegion 0 byte) }) refl refl, tt),
           ),
         )
@@ -381,8 +395,8 @@ module _ (s : KernelState) (n fd va len : ℕ) (live : is_live (slot_at s n) ≡
             by_test false test = shown test
 
     getting_keeps : (input : List ℕ) → s.input ≡ input → KeepsBy s n taking (getting s input)
-    getting_keeps [] is a h quiet = end_follows h.0 a h.1 is
-    getting_keeps (byte ∷ rest) is a h quiet = byte_follows h.0 a h.1 byte rest is
+    getting_keeps [] is a h turn quiet = end_follows h.0 a h.1 is
+    getting_keeps (byte ∷ rest) is a h turn quiet = byte_follows h.0 a h.1 byte rest is
 
     getting_holds : ServiceHolds s n taking
     getting_holds =
@@ -407,11 +421,11 @@ module _ (s : KernelState) (n fd va len : ℕ) (live : is_live (slot_at s n) ≡
         by_allowed true on = put (record {
           after = read_putting h n fd va len done word u on;
           is = ap (λ (z : CallStep (Unit {0})). told_as (λ x. 0) z) (read_put h n fd va len done word u on);
-          goes = (
+          goes = λ last. (
             read_delivered h n fd va len done word u,
             read_step h n fd va len done word u,
-            read_console h n fd va len done word u on ∙ printed_nothing a,
-            (names, read_stands h n fd va len done word u on),
+            read_console h n fd va len done word u on last ∙ printed_nothing a,
+            (names, read_stands h n fd va len done word u on last),
           );
         })
         by_allowed false off = lost (record {
@@ -422,7 +436,7 @@ module _ (s : KernelState) (n fd va len : ℕ) (live : is_live (slot_at s n) ≡
         })
 
     -- the byte lies on no page of a descriptor's
-    aside : (a : AbstractState) → Stands s a → is_descriptor (page_number (next_va va done)) ≡ false
+    aside : (a : AbstractState) → Stands s a → is_of_descriptor (page_number (next_va va done)) ≡ false
     aside a h =
         let v = served h.1 n (service.Read fd va len) (step.Delivering done word) stands in
         inside_aside (va + done) (buffer_each (va + done) 1 (va + done) v.at.0.inside (omega arith) (omega arith))
@@ -469,6 +483,7 @@ module _ (s : KernelState) (n fd va len : ℕ) (live : is_live (slot_at s n) ≡
     read_holds (step.PuttingBytes done count word) stands = putting_holds s n read refl live small done count word stands
     read_holds (step.FileFaulting done count) stands = faulting_holds s n read refl live small done count stands
     read_holds (step.Returning answer) stands = returning_holds s n read refl live answer stands
+    read_holds (step.Piped at) stands = read_end_holds s n fd va len live at stands
     read_holds (step.Trying perm) stands = no_step (step.Trying perm) stands refl (λ view k b h. h)
     read_holds step.ReadingRegion stands = no_step step.ReadingRegion stands refl (λ view k b h. h)
     read_holds step.ReadingEntry stands = no_step step.ReadingEntry stands refl (λ view k b h. h)

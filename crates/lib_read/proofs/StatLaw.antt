@@ -1,8 +1,10 @@
 -- The law of stat: on the console, up to what its descriptor names each of its stages is a part of one step of the abstract system, in which
 -- it finds what it tells; then each time it puts bytes is a step of its own. Of a file it goes as `lib_bytes` has it.
-use Rattle.std.proofs.Common.{◌≡◌, ◌∙◌, ◌+◌, ◌-◌, ◌++◌, ◌%◌, ◌^◌, ◌==◌, ◌||◌, ℕ, Bool, true, false, not, [], Some, Ok}
-use Rattle.std.proofs.Common.{refl, sym, ap, arith, if◌then◌else◌}
-use Rattle.std.specs.Prelude.{drop, length, nat_le}
+use Rattle.std.proofs.Common.{◌≡◌, ◌∙◌, ◌+◌, ◌-◌, ◌++◌, ◌%◌, ◌^◌, ◌==◌, ◌||◌, ◌&&◌, ℕ, zero, suc, Bool, true, false, not, [], Some, Ok}
+use Rattle.std.proofs.Common.{List, ◌∷◌, refl, sym, ap, subst, arith, if◌then◌else◌}
+use Rattle.std.proofs.lemmas.Bool.Decides.{nat_tests}
+use Rattle.std.specs.Prelude.{drop, length, nat_le, slice_index}
+use Rattle.std.specs.Int.{from_le_bytes, w32}
 use Rattle.jos_base.specs.declared.called.Called.{Called}
 use Rattle.jos_base.specs.declared.memory.Access.TheVariants.{Read, Write}
 use Rattle.jos_base.specs.declared.numbers.TheConstants.{E_INVAL, E_NOT_SUPP, PGSIZE}
@@ -13,7 +15,8 @@ use Rattle.jos_base.specs.Messages.{Rendezvous}
 use Rattle.jos_base.specs.UserMemory.{is_allowed}
 use Rattle.jos_base.specs.Words.{negated, page_number}
 use Rattle.fs_layout.specs.FileActs.{stat_bytes}
-use Rattle.lib_os.specs.declared.numbers.TheConstants.{DEVICE_CONSOLE, DEVICE_FILE, SERVICE_STAT, STAT_SIZE}
+use Rattle.lib_os.specs.declared.numbers.TheConstants.{DEVICE_CONSOLE, DEVICE_FILE, DEVICE_PIPE, SERVICE_STAT, STAT_SIZE}
+use Rattle.lib_os.specs.declared.place.PipeStep.TheVariants as pipe
 use Rattle.lib_os.specs.declared.place.Place.TheVariants as place
 use Rattle.lib_os.specs.declared.place.Step.{Step}
 use Rattle.lib_os.specs.declared.place.Step.TheVariants as step
@@ -29,22 +32,25 @@ use Rattle.lib_os.specs.LibraryCall.{library_step}
 use Rattle.lib_os.specs.LibraryPages.{View}
 use Rattle.lib_os.specs.LibrarySteps.{Lowers, Stands, is_pausing}
 use Rattle.lib_os.specs.Places.{place_of, words_at}
-use Rattle.lib_os.specs.Rows.{Names, is_descriptor}
+use Rattle.lib_os.specs.Rows.{Names, is_of_descriptor}
 use Rattle.lib_os.specs.StandsFor.{StandsAtStep, StandsFor, borne_in}
-use Rattle.lib_os.specs.StandsInHandler.{AreSmall, IsDelivering}
+use Rattle.lib_os.specs.StandsInHandler.{AreSmall, IsDelivering, stat_told}
 use Rattle.lib_os.specs.UserCalls.{CallStep}
 use Rattle.lib_os.proofs.BufferAccesses.{stage_stands}
 use Rattle.lib_os.proofs.BytesDelivered.{stat_answers, stat_behind, stat_byte_put, stat_console, stat_delivered, stat_goes_on, stat_looks}
-use Rattle.lib_os.proofs.BytesDelivered.{stat_putting, stat_step, stat_word_put, terminal_byte, terminal_word}
+use Rattle.lib_os.proofs.BytesDelivered.{stat_putting, stat_step, stat_word_put, told_byte, told_word}
 use Rattle.lib_os.proofs.BytesRefused.{stat_lost_after, stat_lost_byte, stat_lost_lowers, stat_lost_stands, stat_lost_word}
 use Rattle.lib_os.proofs.DeviceLooks.{at_device, device_answers, device_object, device_va, device_word, reading_device}
 use Rattle.lib_os.proofs.FileOpened.{stat_file_outside, stat_finds_file}
 use Rattle.lib_os.proofs.Fences.{buffer_each}
 use Rattle.lib_os.proofs.Loading.{loaded}
 use Rattle.lib_os.proofs.Numbered.{named_at}
+use Rattle.lib_os.proofs.PipeBegun.{stat_locks, stat_refused}
+use Rattle.lib_os.proofs.PipesStand.{is_calm}
 use Rattle.lib_os.proofs.Serving.{IsServed, holds_page, printed_nothing, served, step_in}
 use Rattle.lib_os.proofs.StatesStand.{quiet_stands}
 use Rattle.lib_os.proofs.Touching.{touched_quiet}
+use Rattle.lib_stage.specs.declared.ask.Ask.{Ask}
 use Rattle.lib_stage.specs.declared.ask.Ask.TheVariants as ask
 use Rattle.lib_stage.specs.declared.ask.Next.{Next}
 use Rattle.lib_stage.specs.declared.ask.Next.TheVariants as next
@@ -63,9 +69,10 @@ use Rattle.lib_bytes.proofs.BytesLoad.{loading_holds, rest_holds}
 use Rattle.lib_bytes.proofs.BytesLook.{counting_holds, file_entry_holds, file_region_holds}
 use Rattle.lib_bytes.proofs.BytesPut.{faulting_holds, putting_holds}
 use Rattle.lib_bytes.proofs.BytesReturn.{returning_holds}
-use Rattle.lib_read.specs.StatStages.{delivery_asked, moved, next_of_delivery, next_of_device, stat_at, telling}
+use Rattle.lib_read.specs.StatStages.{delivery_asked, moved, next_of_delivery, next_of_device, pipe_stat, stat_at, telling, told}
 use Rattle.lib_bytes.proofs.Handing.{inside_aside, word_aside}
 use Rattle.lib_bytes.proofs.Delivery.{PutOrLost, byte_lives, delivery_holds, lost, put, word_lives}
+use Rattle.lib_read.proofs.EndLaw.{stat_end_holds}
 use Rattle.lib_read.proofs.TerminalBytes.{terminal_length, terminal_small}
 
 -- ---- its step in the abstract system, by its buffer
@@ -80,6 +87,13 @@ module _ (a : AbstractState) (n : ℕ) (b : Born) (regs : Regs) (fd va : ℕ) (i
   unfolding library_step stat_bytes
   stat_finds inside = rw (is, inside) refl
 
+-- what is told of a pipe that holds so many bytes, by one more
+as_told : (held : ℕ) → stat_told (suc held) ≡ told (suc held)
+as_told held =
+    let some : (suc held == 0) ≡ false = grind (arith, nat_tests) in
+    let less : suc held - 1 ≡ held = omega arith in
+    sym (ap (λ (c : Bool). if c then terminal_stat else pipe_stat (suc held - 1)) some ∙ ap pipe_stat less)
+
 module _ (s : KernelState) (n fd va : ℕ) (live : is_live (slot_at s n) ≡ true) (small : AreSmall (slot_at s n).registers) where
   abbrev stat : Service
   stat = service.Stat fd va
@@ -88,17 +102,20 @@ module _ (s : KernelState) (n fd va : ℕ) (live : is_live (slot_at s n) ≡ tru
 
   module _ (stands : place_of (slot_at s n) ≡ place.InService (service.Stat fd va) step.ReadingDevice) where
     device_falls : (word : ℕ) → Falls stat step.ReadingDevice (next_of_device va word)
-    device_falls word = by_tests (word == DEVICE_FILE) (word == DEVICE_CONSOLE) (is_buffer va STAT_SIZE)
+    device_falls word =
+        by_tests (word == DEVICE_FILE) (not (word == DEVICE_CONSOLE) && not (word == DEVICE_PIPE)) (word == DEVICE_PIPE) (is_buffer va STAT_SIZE)
       where
-        by_tests : (of_file console inside : Bool) → Falls stat step.ReadingDevice
+        by_tests : (of_file other of_pipe inside : Bool) → Falls stat step.ReadingDevice
             (if of_file then (if not inside then next.Answer (negated E_INVAL) else next.GoOn step.TakingPage)
-            else if not console then next.Answer (negated E_NOT_SUPP)
-            else if not inside then next.Answer (negated E_INVAL) else next.Show (step.BufferRegion 0 0))
-        by_tests true console false = tt
-        by_tests true console true = omega arith
-        by_tests false false inside = tt
-        by_tests false true false = tt
-        by_tests false true true = tt
+            else if other then next.Answer (negated E_NOT_SUPP)
+            else if not inside then next.Answer (negated E_INVAL)
+            else if of_pipe then next.GoOn (step.Piped pipe.StatLocking) else next.Show (step.BufferRegion 0 0))
+        by_tests true other of_pipe false = tt
+        by_tests true other of_pipe true = omega arith
+        by_tests false true of_pipe inside = tt
+        by_tests false false of_pipe false = tt
+        by_tests false false true true = omega arith
+        by_tests false false false true = tt
 
     -- it names a file
     file_follows : (names : Names) (a : AbstractState) → StandsFor names s a → IsInOrder (loaded s n (device_va fd)) → device_word s n fd ≡ DEVICE_FILE →
@@ -109,6 +126,16 @@ module _ (s : KernelState) (n fd va : ℕ) (live : is_live (slot_at s n) ≡ tru
             (if not t then next.Answer (negated E_INVAL) else next.GoOn step.TakingPage)
         by_test false outside = stat_file_outside s n fd h order word va stands outside
         by_test true inside = (refl, (names, stat_finds_file s n fd h order word va stands inside))
+
+    -- it names an end of a pipe
+    end_follows : (names : Names) (a : AbstractState) → StandsFor names s a → IsInOrder (loaded s n (device_va fd)) → device_word s n fd ≡ DEVICE_PIPE →
+        Follows (loaded s n (device_va fd)) n stat a (next_of_device va DEVICE_PIPE)
+    end_follows names a h order word = by_test (is_buffer va STAT_SIZE) refl
+      where
+        by_test : (t : Bool) → is_buffer va STAT_SIZE ≡ t → Follows (loaded s n (device_va fd)) n stat a
+            (if not t then next.Answer (negated E_INVAL) else next.GoOn (step.Piped pipe.StatLocking))
+        by_test false outside = stat_refused s n fd h word order va stands outside
+        by_test true inside = (refl, (names, stat_locks s n fd h word order va stands inside))
 
     module _ (names : Names) (a : AbstractState) (h : StandsFor names s a) (order : IsInOrder (loaded s n (device_va fd)))
         (word : device_word s n fd ≡ DEVICE_CONSOLE) where
@@ -144,7 +171,7 @@ module _ (s : KernelState) (n fd va : ℕ) (live : is_live (slot_at s n) ≡ tru
           (at_stage a n v.b stat (delivering va terminal_stat 0))
       looks inside =
           stage_stands (quiet_stands h (touched_quiet s.spaces (slot_at s n).directory (device_va fd) Read) order) n SERVICE_STAT v.b v.is v.outside
-          (ap borne_in stands) stat (step.BufferRegion 0 0) (delivering va terminal_stat 0) (ap holds_page stands) refl
+          (ap borne_in stands) (ap is_calm stands) stat (step.BufferRegion 0 0) (delivering va terminal_stat 0) (ap holds_page stands) refl refl
           (named_at (slot_at s n) stat step.ReadingDevice stands)
           (begins (record (slot_at s n) { extra = words_at SERVICE_STAT (step.BufferRegion 0 0) }) refl refl inside, tt)
 
@@ -165,20 +192,20 @@ module _ (s : KernelState) (n fd va : ℕ) (live : is_live (slot_at s n) ≡ tru
           )
 
     device_told : ServiceHolds s n (staged stat (device_asked fd) (next_of_device va))
-    device_told = device_holds_each s n stat fd refl live stands (next_of_device va) device_falls device_follows file_follows
+    device_told = device_holds_each s n stat fd refl live stands (next_of_device va) device_falls device_follows file_follows end_follows
 
   -- ---- it puts bytes
 
   module _ (done word : ℕ) (stands : place_of (slot_at s n) ≡ place.InService (service.Stat fd va) (step.Delivering done word)) where
     shows : (called : Called) (after : KernelState) →
-        Lowers (Ok (seen_as (next_of_delivery va done))) n s (settled SERVICE_STAT (next_of_delivery va done) after n)
+        Lowers (Ok (seen_as (next_of_delivery va done word))) n s (settled SERVICE_STAT (next_of_delivery va done word) after n)
     shows called after = by_tests (nat_le STAT_SIZE behind) (next_va va behind % PGSIZE == 0)
       where
         behind : ℕ
         behind = (done + moved va done) % 2 ^ 32
 
         by_tests : (past page : Bool) →
-            let x = if past then next.Answer 0 else if page then next.Show (step.BufferRegion behind 0) else next.Show (step.Delivering behind 0) in
+            let x = if past then next.Answer 0 else if page then next.Show (step.BufferRegion behind word) else next.Show (step.Delivering behind word) in
             Lowers (Ok (seen_as x)) n s (settled SERVICE_STAT x after n)
         by_tests true page = tt
         by_tests false true = tt
@@ -190,40 +217,40 @@ module _ (s : KernelState) (n fd va : ℕ) (live : is_live (slot_at s n) ≡ tru
 
       -- what it is in the abstract system
       put_follows : (on : is_allowed s.spaces (slot_at s n).directory (next_va va done) Write ≡ true) →
-          Follows (stat_putting h n fd va done word w on) n stat a (next_of_delivery va done)
+          s.last ≡ Some n → Follows (stat_putting h n fd va done word w on) n stat a (next_of_delivery va done word)
       put_follows on = by_past (nat_le STAT_SIZE behind) refl
         where
           behind : ℕ
           behind = stat_behind h n fd va done word w
 
           goes : (x : Next) → Type 0
-          goes x = Follows (stat_putting h n fd va done word w on) n stat a x
+          goes x = s.last ≡ Some n → Follows (stat_putting h n fd va done word w on) n stat a x
 
-          same : (stat_delivered h n fd va done word w).console ≡ a.console ++ []
-          same = stat_console h n fd va done word w on ∙ printed_nothing a
+          same : s.last ≡ Some n → (stat_delivered h n fd va done word w).console ≡ a.console ++ []
+          same last = stat_console h n fd va done word w on last ∙ printed_nothing a
 
           by_page : nat_le STAT_SIZE behind ≡ false → (t : Bool) → (next_va va behind % PGSIZE == 0) ≡ t →
-              goes (if t then next.Show (step.BufferRegion behind 0) else next.Show (step.Delivering behind 0))
-          by_page more true test =
-              (stat_delivered h n fd va done word w, stat_step h n fd va done word w, same, (names, stat_looks h n fd va done word w on more))
-          by_page more false test =
-              (stat_delivered h n fd va done word w, stat_step h n fd va done word w, same, (names, stat_goes_on h n fd va done word w on more test))
+              goes (if t then next.Show (step.BufferRegion behind word) else next.Show (step.Delivering behind word))
+          by_page more true test last =
+              (stat_delivered h n fd va done word w, stat_step h n fd va done word w, same last, (names, stat_looks h n fd va done word w on last more))
+          by_page more false test last =
+              (stat_delivered h n fd va done word w, stat_step h n fd va done word w, same last, (names, stat_goes_on h n fd va done word w on last more test))
 
           by_past : (t : Bool) → nat_le STAT_SIZE behind ≡ t →
-              goes (if t then next.Answer 0 else if next_va va behind % PGSIZE == 0 then next.Show (step.BufferRegion behind 0)
-              else next.Show (step.Delivering behind 0))
-          by_past true past =
-              (stat_delivered h n fd va done word w, stat_step h n fd va done word w, same, (names, stat_answers h n fd va done word w on past))
-          by_past false more = by_page more (next_va va behind % PGSIZE == 0) refl
+              goes (if t then next.Answer 0 else if next_va va behind % PGSIZE == 0 then next.Show (step.BufferRegion behind word)
+              else next.Show (step.Delivering behind word))
+          by_past true past last =
+              (stat_delivered h n fd va done word w, stat_step h n fd va done word w, same last, (names, stat_answers h n fd va done word w on last past))
+          by_past false more last = by_page more (next_va va behind % PGSIZE == 0) refl last
 
       -- a word, or a byte
       word_comes : (moved va done == 4) ≡ true →
-          PutOrLost s n (staged stat (ask.Store (next_va va done) (terminal_word done)) (λ x. next_of_delivery va done)) names a
+          PutOrLost s n (staged stat (ask.Store (next_va va done) (told_word word done)) (λ x. next_of_delivery va done word)) names a
       unfolding performed
       word_comes test = by_allowed (is_allowed s.spaces (slot_at s n).directory (next_va va done) Write) refl
         where
           by_allowed : (t : Bool) → is_allowed s.spaces (slot_at s n).directory (next_va va done) Write ≡ t →
-              PutOrLost s n (staged stat (ask.Store (next_va va done) (terminal_word done)) (λ x. next_of_delivery va done)) names a
+              PutOrLost s n (staged stat (ask.Store (next_va va done) (told_word word done)) (λ x. next_of_delivery va done word)) names a
           by_allowed true on = put (record {
             after = stat_putting h n fd va done word w on;
             is = ap (λ (z : CallStep (Unit {0})). told_as (λ x. 0) z) (stat_word_put h n fd va done word w on test);
@@ -231,18 +258,18 @@ module _ (s : KernelState) (n fd va : ℕ) (live : is_live (slot_at s n) ≡ tru
           })
           by_allowed false off = lost (record {
             after = stat_lost_after h n fd va done word w off;
-            is = ap (λ (z : CallStep (Unit {0})). told_as (λ x. 0) z) (stat_lost_word h n fd va done word w off (terminal_word done));
+            is = ap (λ (z : CallStep (Unit {0})). told_as (λ x. 0) z) (stat_lost_word h n fd va done word w off (told_word word done));
             stands = stat_lost_stands h n fd va done word w off small;
             lower = stat_lost_lowers h n fd va done word w off;
           })
 
       byte_comes : (moved va done == 4) ≡ false →
-          PutOrLost s n (staged stat (ask.StoreByte (next_va va done) (terminal_byte done)) (λ x. next_of_delivery va done)) names a
+          PutOrLost s n (staged stat (ask.StoreByte (next_va va done) (told_byte word done)) (λ x. next_of_delivery va done word)) names a
       unfolding performed
       byte_comes test = by_allowed (is_allowed s.spaces (slot_at s n).directory (next_va va done) Write) refl
         where
           by_allowed : (t : Bool) → is_allowed s.spaces (slot_at s n).directory (next_va va done) Write ≡ t →
-              PutOrLost s n (staged stat (ask.StoreByte (next_va va done) (terminal_byte done)) (λ x. next_of_delivery va done)) names a
+              PutOrLost s n (staged stat (ask.StoreByte (next_va va done) (told_byte word done)) (λ x. next_of_delivery va done word)) names a
           by_allowed true on = put (record {
             after = stat_putting h n fd va done word w on;
             is = ap (λ (z : CallStep (Unit {0})). told_as (λ x. 0) z) (stat_byte_put h n fd va done word w on test);
@@ -250,42 +277,59 @@ module _ (s : KernelState) (n fd va : ℕ) (live : is_live (slot_at s n) ≡ tru
           })
           by_allowed false off = lost (record {
             after = stat_lost_after h n fd va done word w off;
-            is = ap (λ (z : CallStep (Unit {0})). told_as (λ x. 0) z) (stat_lost_byte h n fd va done word w off (terminal_byte done));
+            is = ap (λ (z : CallStep (Unit {0})). told_as (λ x. 0) z) (stat_lost_byte h n fd va done word w off (told_byte word done));
             stands = stat_lost_stands h n fd va done word w off small;
             lower = stat_lost_lowers h n fd va done word w off;
           })
 
     -- they lie on no page of a descriptor's
-    aside : (a : AbstractState) → Stands s a → is_descriptor (page_number (next_va va done)) ≡ false
+    aside : (a : AbstractState) → Stands s a → is_of_descriptor (page_number (next_va va done)) ≡ false
     aside a h =
         let v = served h.1 n (service.Stat fd va) (step.Delivering done word) stands in
         let some = v.at.0.some in
         inside_aside (va + done)
-        (buffer_each (va + done) (length (drop done terminal_stat)) (va + done) v.at.0.inside (omega arith) (omega (arith, some)))
+        (buffer_each (va + done) (length (drop done (stat_told word))) (va + done) v.at.0.inside (omega arith) (omega (arith, some)))
 
-    delivering_holds : ServiceHolds s n (staged stat (delivery_asked va done) (λ x. next_of_delivery va done))
-    delivering_holds = by_test (moved va done == 4) refl
+    delivering_by : ServiceHolds s n (staged stat (if moved va done == 4 then ask.Store (next_va va done) (told_word word done)
+        else ask.StoreByte (next_va va done) (told_byte word done)) (λ x. next_of_delivery va done word))
+    delivering_by = by_test (moved va done == 4) refl
       where
         by_test : (t : Bool) → (moved va done == 4) ≡ t →
-            ServiceHolds s n (staged stat (if t then ask.Store (next_va va done) (terminal_word done)
-            else ask.StoreByte (next_va va done) (terminal_byte done)) (λ x. next_of_delivery va done))
+            ServiceHolds s n (staged stat (if t then ask.Store (next_va va done) (told_word word done)
+            else ask.StoreByte (next_va va done) (told_byte word done)) (λ x. next_of_delivery va done word))
         by_test true test =
-            delivery_holds s n (staged stat (ask.Store (next_va va done) (terminal_word done)) (λ x. next_of_delivery va done)) stat
+            delivery_holds s n (staged stat (ask.Store (next_va va done) (told_word word done)) (λ x. next_of_delivery va done word)) stat
             (step.Delivering done word)
             (record {
               stands = stands;
-              plain = word_aside s n (next_va va done) (STAT_SIZE - done) (terminal_word done) test aside;
+              plain = word_aside s n (next_va va done) (STAT_SIZE - done) (told_word word done) test aside;
               goes_on = refl;
               few = omega arith;
             })
-            (λ called. word_lives s n live (next_va va done) called (terminal_word done)) (λ may. may) shows
+            (λ called. word_lives s n live (next_va va done) called (told_word word done)) (λ may. may) shows
             (λ names a h. word_comes names a h test)
         by_test false test =
-            delivery_holds s n (staged stat (ask.StoreByte (next_va va done) (terminal_byte done)) (λ x. next_of_delivery va done)) stat
+            delivery_holds s n (staged stat (ask.StoreByte (next_va va done) (told_byte word done)) (λ x. next_of_delivery va done word)) stat
             (step.Delivering done word)
-            (record { stands = stands; plain = store_byte_aside s n (next_va va done) (terminal_byte done) aside; goes_on = refl; few = omega arith })
-            (λ called. byte_lives s n live (next_va va done) called (terminal_byte done)) (λ may. may) shows
+            (record { stands = stands; plain = store_byte_aside s n (next_va va done) (told_byte word done) aside; goes_on = refl; few = omega arith })
+            (λ called. byte_lives s n live (next_va va done) called (told_byte word done)) (λ may. may) shows
             (λ names a h. byte_comes names a h test)
+
+  -- its word, or its byte, of what is told
+  delivery_by : ℕ → ℕ → List ℕ → Ask
+  delivery_by done word bytes =
+      if moved va done == 4 then ask.Store (next_va va done) (from_le_bytes w32 (slice_index bytes (done % 2 ^ 32)
+      ∷ slice_index bytes ((done + 1) % 2 ^ 32) ∷ slice_index bytes ((done + 2) % 2 ^ 32) ∷ slice_index bytes ((done + 3) % 2 ^ 32) ∷ []))
+      else ask.StoreByte (next_va va done) (slice_index bytes (done % 2 ^ 32))
+
+  -- of the console, or of a pipe
+  delivering_holds : (done word : ℕ) → place_of (slot_at s n) ≡ place.InService (service.Stat fd va) (step.Delivering done word) →
+      ServiceHolds s n (staged stat (delivery_asked va done word) (λ x. next_of_delivery va done word))
+  unfolding delivery_by
+  delivering_holds done zero stands = delivering_by done zero stands
+  delivering_holds done (suc held) stands =
+      subst (λ (bytes : List ℕ). ServiceHolds s n (staged stat (delivery_by done (suc held) bytes) (λ x. next_of_delivery va done (suc held))))
+      (as_told held) (delivering_by done (suc held) stands)
 
   -- ---- each step
 
@@ -299,8 +343,8 @@ module _ (s : KernelState) (n fd va : ℕ) (live : is_live (slot_at s n) ≡ tru
     stat_holds step.Entered stands = region_holds s n stat fd refl live stands
     stat_holds (step.DescriptorEntry at) stands = entry_holds s n stat fd refl live at stands
     stat_holds step.ReadingDevice stands = device_told stands
-    stat_holds (step.BufferRegion done word) stands = buffer_region_holds s n stat live done word 0 tt stands
-    stat_holds (step.BufferEntry done word) stands = buffer_entry_holds s n stat live done word 0 tt stands
+    stat_holds (step.BufferRegion done word) stands = buffer_region_holds s n stat live done word word refl stands
+    stat_holds (step.BufferEntry done word) stands = buffer_entry_holds s n stat live done word word refl stands
     stat_holds (step.Delivering done word) stands = delivering_holds done word stands
     stat_holds (step.Faulting done word) stands = stat_faulting_holds s n small done word fd va stands 0
     stat_holds step.TakingPage stands = taking_holds s n stat refl live stands
@@ -321,6 +365,7 @@ module _ (s : KernelState) (n fd va : ℕ) (live : is_live (slot_at s n) ≡ tru
     stat_holds (step.PuttingBytes done count word) stands = putting_holds s n stat refl live small done count word stands
     stat_holds (step.FileFaulting done count) stands = faulting_holds s n stat refl live small done count stands
     stat_holds (step.Returning answer) stands = returning_holds s n stat refl live answer stands
+    stat_holds (step.Piped at) stands = stat_end_holds s n fd va live at stands
     stat_holds (step.Trying perm) stands = no_step (step.Trying perm) stands refl (λ view k b h. h)
     stat_holds step.ReadingRegion stands = no_step step.ReadingRegion stands refl (λ view k b h. h)
     stat_holds step.ReadingEntry stands = no_step step.ReadingEntry stands refl (λ view k b h. h)

@@ -1,11 +1,13 @@
 -- read: what it asks at each stage, and what it does next by the reply. The console gives one byte; the byte 4, and the end of the input, are
--- the end. Of a file it reads the mode, by which one that is open only for writing refuses it; then it does as `lib_bytes` tells.
+-- the end. Of a file it reads the mode, by which one that is open only for writing refuses it; then it does as `lib_bytes` tells. Of a pipe it does
+-- as `lib_pipe` tells, and delivers the bytes as those of a file.
 -- (MIT 6.828, lab 5: lib/fd.c, read, lib/console.c, devcons_read, and lib/file.c, devfile_read.)
 use Rattle.std.specs.Prelude.{ℕ, ◌+◌, ◌%◌, ◌==◌, not, Bool, min, Option, Some, if◌then◌else◌}
 use Rattle.std.specs.Option.{option_map}
 use Rattle.jos_base.specs.declared.numbers.TheConstants.{E_INVAL, E_NOT_SUPP, END_OF_INPUT, SYS_CGETC}
 use Rattle.jos_base.specs.Words.{negated}
-use Rattle.lib_os.specs.declared.numbers.TheConstants.{DEVICE_CONSOLE, DEVICE_FILE, FD_MODE, SERVICE_READ, TRANSFER_MAX}
+use Rattle.lib_os.specs.declared.numbers.TheConstants.{DEVICE_CONSOLE, DEVICE_FILE, DEVICE_PIPE, FD_MODE, SERVICE_READ, TRANSFER_MAX}
+use Rattle.lib_os.specs.declared.place.PipeStep.TheVariants as pipe
 use Rattle.lib_os.specs.declared.place.Step.{Step}
 use Rattle.lib_os.specs.declared.place.Step.TheVariants as step
 use Rattle.lib_os.specs.Fence.{is_buffer}
@@ -23,6 +25,8 @@ use Rattle.lib_file.specs.Finding.{device_asked, next_of_entry, next_of_region}
 use Rattle.lib_file.specs.Keeping.{next_va}
 use Rattle.lib_bytes.specs.declared.bytes.FileService.TheVariants as of
 use Rattle.lib_bytes.specs.FileStages as bytes
+use Rattle.lib_pipe.specs.declared.ends.PipeService.TheVariants as end_of
+use Rattle.lib_pipe.specs.PipeStages as ends
 use Rattle.lib_read.specs.declared.read.Read.{Read}
 use Rattle.lib_read.specs.declared.read.ReadStage.{ReadStage}
 use Rattle.lib_read.specs.declared.read.ReadStage.TheVariants as stage
@@ -38,6 +42,7 @@ stage_at (step.BufferEntry done word) = Some (stage.BufferEntry done word)
 stage_at (step.Delivering done word) = Some (stage.Delivering done word)
 stage_at (step.Faulting done word) = Some (stage.Faulting done word)
 stage_at step.ReadingMode = Some stage.ReadingMode
+stage_at (step.Piped at) = option_map (λ at. stage.OfPipe at) (ends.stage_of at)
 stage_at step = option_map (λ at. stage.OfFile at) (bytes.stage_at step)
 
 abbrev pub read_at : ℕ → ℕ → ℕ → Step → Option Read
@@ -56,6 +61,7 @@ ask_of fd va len (stage.Delivering done byte) = ask.StoreByte (next_va va done) 
 ask_of fd va len (stage.Faulting done byte) = ask.StoreByte (next_va va done) (byte % 256)
 ask_of fd va len stage.ReadingMode = ask.Load (descriptor_va fd + FD_MODE)
 ask_of fd va len (stage.OfFile at) = bytes.ask_of (of.Read len) fd va at
+ask_of fd va len (stage.OfPipe at) = ends.ask_of fd at
 
 -- ---- what it does next
 
@@ -66,6 +72,7 @@ has_room va len = is_buffer va (min len TRANSFER_MAX)
 abbrev pub next_of_device : ℕ → ℕ → ℕ → Next
 next_of_device va len device =
     if device == DEVICE_FILE then next.GoOn step.ReadingMode
+    else if device == DEVICE_PIPE then next.GoOn (step.Piped pipe.EndMode)
     else if not (device == DEVICE_CONSOLE) then next.Answer (negated E_NOT_SUPP)
     else if not (has_room va len) then next.Answer (negated E_INVAL)
     else if len == 0 then next.Answer 0
@@ -91,6 +98,7 @@ next_of fd va len (stage.Delivering done byte) word = next.Answer 1
 next_of fd va len (stage.Faulting done byte) word = next.Gone
 next_of fd va len stage.ReadingMode word = next_of_mode va len word
 next_of fd va len (stage.OfFile at) word = bytes.next_of (of.Read len) va at word
+next_of fd va len (stage.OfPipe at) word = ends.next_of (end_of.Read len) va at word
 
 -- ---- the plan
 

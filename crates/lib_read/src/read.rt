@@ -10,8 +10,10 @@ use lib_file::{
     ask_device, ask_page_entry, ask_page_region, is_writable, next_of_entry, next_of_region,
 };
 use lib_os::{
-    DEVICE_CONSOLE, DEVICE_FILE, FD_MODE, SERVICE_READ, Step, TRANSFER_MAX, answer_of, is_buffer,
+    DEVICE_CONSOLE, DEVICE_FILE, DEVICE_PIPE, FD_MODE, PipeStep, SERVICE_READ, Step, TRANSFER_MAX,
+    answer_of, is_buffer,
 };
+use lib_pipe::{PipeService, PipeStage, ask_of_pipe, next_of_pipe, pipe_stage_of};
 use lib_stage::{Ask, Next, Planned};
 
 /// How far read is.
@@ -35,12 +37,15 @@ pub enum ReadStage {
     Faulting { done: u32, byte: u32 },
     /// The descriptor names a file, and read is about to read the mode of that.
     ReadingMode,
-    /// It is at one of the stages that it has in common with stat of a file.
+    /// It is at one of the stages that it has in common with stat of a file. So are the bytes of a pipe delivered, too.
     OfFile { at: FileStage },
+    /// The descriptor names an end of a pipe, and read is at one of the stages of that.
+    OfPipe { at: PipeStage },
 }
 
 /// read(fd, va, len), at a stage: at most `len` bytes, and at most `TRANSFER_MAX`, go to `va`, and it answers how many. Of the console they are
-/// one, or none at the end of the input; of a file they are those from its offset on, none at its end. It answers `E_INVAL` negated where `fd` is
+/// one, or none at the end of the input; of a file they are those from its offset on, none at its end; of a pipe those that it holds, and at least
+/// one, or none where its writing end is closed. It answers `E_INVAL` negated where `fd` is
 /// not open, or is open only for writing, or where the buffer does not lie in the fence, and else the error of which the kernel or the file server
 /// tells. (MIT 6.828, lab 5: lib/fd.c, `read`, lib/console.c, `devcons_read`, and lib/file.c, `devfile_read`)
 #[derive(Clone, Copy, Debug, PartialEq, Eq)]
@@ -66,6 +71,10 @@ impl Read {
             Step::Delivering { done, word } => ReadStage::Delivering { done, byte: word },
             Step::Faulting { done, word } => ReadStage::Faulting { done, byte: word },
             Step::ReadingMode => ReadStage::ReadingMode,
+            Step::Piped { at } => match pipe_stage_of(at) {
+                Some(at) => ReadStage::OfPipe { at },
+                None => return None,
+            },
             _ => match file_stage_at(step) {
                 Some(at) => ReadStage::OfFile { at },
                 None => return None,
@@ -88,6 +97,11 @@ fn next_of_device(va: u32, len: u32, device: u32) -> Next
 {
     if device == DEVICE_FILE {
         return Next::GoOn(Step::ReadingMode);
+    }
+    if device == DEVICE_PIPE {
+        return Next::GoOn(Step::Piped {
+            at: PipeStep::EndMode,
+        });
     }
     if device != DEVICE_CONSOLE {
         return Next::Answer(E_NOT_SUPP.wrapping_neg());
@@ -146,6 +160,7 @@ impl Planned for Read {
             ReadStage::OfFile { at } => {
                 ask_of_file(FileService::Read { len: self.len }, self.fd, self.va, at)
             }
+            ReadStage::OfPipe { at } => ask_of_pipe(self.fd, at),
         }
     }
 
@@ -178,6 +193,9 @@ impl Planned for Read {
             ReadStage::ReadingMode => next_of_mode(self.va, self.len, word),
             ReadStage::OfFile { at } => {
                 next_of_file(FileService::Read { len: self.len }, self.va, at, word)
+            }
+            ReadStage::OfPipe { at } => {
+                next_of_pipe(PipeService::Read { len: self.len }, self.va, at, word)
             }
         }
     }

@@ -13,10 +13,12 @@ use Rattle.lib_os.specs.declared.service.Service.TheVariants as service
 use Rattle.lib_os.specs.AbstractState.{entered}
 use Rattle.lib_os.specs.LibrarySteps.{KeepsStanding}
 use Rattle.lib_os.specs.Places.{place_of, words_at}
-use Rattle.lib_os.specs.StandsFor.{IsIn, borne_in}
+use Rattle.lib_os.specs.InService.{IsIn}
+use Rattle.lib_os.specs.StandsFor.{borne_in}
 use Rattle.lib_os.specs.UserCalls.{got}
 use Rattle.lib_os.proofs.GoingOn.{in_with_words, words_stand}
 use Rattle.lib_os.proofs.Numbered.{named_at}
+use Rattle.lib_os.proofs.PipesStand.{is_calm}
 use Rattle.lib_os.proofs.ServerAsked.{ask_call, asked_keeps, asking_answer, waiting_keeps}
 use Rattle.lib_os.proofs.Serving.{holds_page, served}
 use Rattle.lib_os.proofs.Trying.{IsAnswered, try_send_answered}
@@ -32,14 +34,15 @@ module _ (s : KernelState) (n : ℕ) (stands : place_of (slot_at s n) ≡ place.
   own = (slot_at s n).id
 
   pub entered_keeps : let x = next_of stage.Entered own in KeepsStanding (seen_as x) n s (settled SERVICE_SYNC x s n) []
-  entered_keeps a h quiet =
+  entered_keeps a h turn quiet =
       let v = served h.1 n service.Sync step.Entered stands in
       let here : IsIn (slot_at s n) v.b service.Sync entered = v.at in (
         refl,
         (
           h.0,
-          words_stand h.1 n SERVICE_SYNC v.b v.is v.own v.outside (ap borne_in v.place) service.Sync (step.Asking own) (ap holds_page v.place) refl
-              (named_at (slot_at s n) service.Sync step.Entered stands) (refl, in_with_words (words_at SERVICE_SYNC (step.Asking own)) here),
+          words_stand h.1 n SERVICE_SYNC v.b v.is v.own v.outside (ap borne_in v.place) (ap is_calm v.place) service.Sync (step.Asking own)
+              (ap holds_page v.place) refl refl (named_at (slot_at s n) service.Sync step.Entered stands)
+              (refl, in_with_words (words_at SERVICE_SYNC (step.Asking own)) here),
         ),
       )
 
@@ -62,7 +65,7 @@ module _ (s : KernelState) (n id : ℕ) (stands : place_of (slot_at s n) ≡ pla
           KeepsStanding (seen_as x) n s (settled SERVICE_SYNC x (ask_call s n).state n) []
       by_test true u vain zero = waiting_keeps s n id stands (given (negated E_IPC_NOT_RECV) (grind (arith, nat_tests, vain)))
       by_test false true off zero = asked_keeps s n id stands (given 0 (grind (arith, nat_tests, zero)))
-      by_test false false off some = λ a h quiet. absurd (neither (asking_answer s n id stands a h tried.answer tried.gives))
+      by_test false false off some = λ a h turn quiet. absurd (neither (asking_answer s n id stands a h tried.answer tried.gives))
         where
           neither : (tried.answer ≡ 0) ⊎ (tried.answer ≡ negated E_IPC_NOT_RECV) → ⊥
           neither (inl is) = grind (arith, nat_tests, is, some)

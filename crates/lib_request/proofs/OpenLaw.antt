@@ -52,6 +52,7 @@ module _ (s : KernelState) (n path mode : ℕ) (live : is_live (slot_at s n) ≡
   open_holds (step.OpenAwaiting id fd) stands = open_awaiting_holds s n path mode live small id fd stands
   open_holds (step.OpenClearing id fd) stands = open_clearing_holds s n path mode live small awake id fd stands
   open_holds (step.ReadingOpened id fd) stands = open_reading_holds s n path mode live small id fd stands
+  open_holds (step.Piped at) stands = no_step (step.Piped at) stands refl (λ view k b h. h)
   open_holds (step.Trying perm) stands = no_step (step.Trying perm) stands refl (λ view k b h. h)
   open_holds step.ReadingRegion stands = no_step step.ReadingRegion stands refl (λ view k b h. h)
   open_holds step.ReadingEntry stands = no_step step.ReadingEntry stands refl (λ view k b h. h)
@@ -105,4 +106,4 @@ module _ (s : KernelState) (n path mode : ℕ) (live : is_live (slot_at s n) ≡
   open_holds (step.FileFaulting done count) stands =
       no_step (step.FileFaulting done count) stands refl (λ view k b h. let contradiction : false ≡ true = h.0.hands in cc)
   open_holds (step.Returning answer) stands =
-      no_step (step.Returning answer) stands refl (λ view k b h. let contradiction : false ≡ true = h.hands in cc)
+      no_step (step.Returning answer) stands refl (λ view k b h. let contradiction : false ≡ true = h.goes in cc)

@@ -34,6 +34,7 @@ use Rattle.lib_os.proofs.PageAsked.{page_lacking_keeps, page_pausing_keeps, page
 use Rattle.lib_os.proofs.PageAwaited.{page_awaiting_stands, page_awaiting_step}
 use Rattle.lib_os.proofs.PageCleared.{clearing_keeps}
 use Rattle.lib_os.proofs.PageGiven.{give_is, give_lives}
+use Rattle.lib_os.proofs.PipesStand.{is_calm}
 use Rattle.lib_os.proofs.ReplyRead.{reply_load}
 use Rattle.lib_os.proofs.AskedPlaces.{asked_step, awaiting_step}
 use Rattle.lib_os.proofs.RequestPages.{asked_there, asks_with_page, brings_page, identifying_step, pausing_step, put_there, replied_there}
@@ -218,18 +219,19 @@ module _ (s : KernelState) (n : ℕ) (call : Service) (with_page : asks_with_pag
     awaiting_keeps :
         KeepsStanding progress.Visible n s
         (with_extra (system s n SYS_IPC_RECV (UTOP ∷ FIRST_ENV_ID ∷ 0 ∷ 0 ∷ 0 ∷ [])).state n (words_at (number_of call) (awaiting_step call id 0))) []
-    awaiting_keeps a h quiet =
+    awaiting_keeps a h turn quiet =
         let v = served h.1 n call (step.Awaiting id) stands in
         let at : (id ≡ (slot_at s n).id) × HasAsked (slot_at s n) v.b call =
         asked_there (view_of s.spaces (slot_at s n).directory) (slot_at s n) v.b call with_page id v.at in
         let unborne = ap borne_in v.place ∙ request_unborne call with_page (step.Awaiting id) in
-        let holds = ap holds_page v.place ∙ request_held call with_page (step.Awaiting id) refl in (
+        let holds = ap holds_page v.place ∙ request_held call with_page (step.Awaiting id) refl in
+        let calm : is_calm (place_of (slot_at s n)) ≡ true = ap is_calm v.place in (
           await_reply a n v.b call,
-          page_awaiting_step h.1 n v.b v.is v.outside unborne holds call with_page at.1,
+          page_awaiting_step h.1 n v.b v.is v.outside unborne holds calm call with_page at.1,
           printed_nothing a,
           (
             h.0,
-            page_awaiting_stands h.1 n v.b v.is v.outside unborne holds call with_page id (0 ∷ 0 ∷ 0 ∷ []) at.0 at.1
+            page_awaiting_stands h.1 n v.b v.is v.outside unborne holds calm call with_page id (0 ∷ 0 ∷ 0 ∷ []) at.0 at.1
                 (put_there (view_of s.spaces (slot_at s n).directory) (slot_at s n) v.b call with_page id v.at)
                 (named_at (slot_at s n) call (step.Awaiting id) stands),
           ),
@@ -312,13 +314,14 @@ module _ (s : KernelState) (n : ℕ) (call : Service) (with_page : asks_with_pag
         let at : (id ≡ (slot_at s n).id) × HasReply (slot_at s n) v.b call =
         replied_there (view_of s.spaces (slot_at s n).directory) (slot_at s n) v.b call with_page id v.at in
         let unborne = ap borne_in v.place ∙ request_unborne call with_page (step.ReadingReply id) in
-        let holds = ap holds_page v.place ∙ request_unheld call with_page id in (
+        let holds = ap holds_page v.place ∙ request_unheld call with_page id in
+        let calm : is_calm (place_of (slot_at s n)) ≡ true = ap is_calm v.place in (
           answered a n v.b at.1.regs value,
-          page_reply_step h n v.b v.is v.outside unborne holds call with_page at.1,
+          page_reply_step h n v.b v.is v.outside unborne holds calm call with_page at.1,
           printed_nothing a,
           (
             names,
-            page_reply_stands h n v.b v.is v.outside unborne holds call with_page at.1 (reply_place id) order,
+            page_reply_stands h n v.b v.is v.outside unborne holds calm call with_page at.1 (reply_place id) order,
           ),
         )
 

@@ -117,16 +117,16 @@ module _ (s : KernelState) (n : ℕ) (call : Service) (takes : has_path call ≡
           (told_byte (load_byte s n at_next)).gives ≡ got (Answered (byte_at a (there h).b at_next))
       byte_given h = ap (λ (z : CallStep Called). z.gives) (byte_is h)
 
-      byte_never : NeverFaults s (told_byte (load_byte s n at_next))
-      byte_never a h handled =
+      byte_never : NeverFaults s n (told_byte (load_byte s n at_next))
+      byte_never a h turn handled =
           absurd (let contradiction : ◌≡◌ {A = Got Called} to_handler (got (Answered (byte_at a (there h.1).b at_next))) = sym handled ∙ byte_given h.1 in cc)
 
       byte_keeps : IsInOrder (load_byte s n at_next).state → KeepsBy s n (asking true false) (told_byte (load_byte s n at_next))
-      byte_keeps order a h quiet =
+      byte_keeps order a h turn quiet =
           subst (λ (z : CallStep Called). FollowsBy s n (asking true false) a z) (sym (byte_is h.1)) (byte_follows test h.0 a h.1)
 
       byte_fails : FailsBy s n (asking true false) (told_byte (load_byte s n at_next))
-      byte_fails may a h =
+      byte_fails may a h turn =
           absurd (let contradiction : ◌≡◌ {A = Got Called} gone (got (Answered (byte_at a (there h.1).b at_next))) = sym may ∙ byte_given h.1 in cc)
 
     by_word : (word : Bool) → (moved == 4) ≡ word → ServiceHolds s n (asking true word)

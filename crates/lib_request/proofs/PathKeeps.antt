@@ -150,23 +150,23 @@ module _ (s : KernelState) (n : ℕ) (of : Service) (takes : has_path of ≡ tru
   given : {names : Names} {a : AbstractState} (h : StandsFor names s a) → call.gives ≡ got (Answered 0)
   given h = ap (λ (z : CallStep Called). z.gives) (call_is h)
 
-  never : NeverFaults s call
-  never a h handled = absurd (let contradiction : ◌≡◌ {A = Got Called} to_handler (got (Answered 0)) = sym handled ∙ given h.1 in cc)
+  never : NeverFaults s n call
+  never a h turn handled = absurd (let contradiction : ◌≡◌ {A = Got Called} to_handler (got (Answered 0)) = sym handled ∙ given h.1 in cc)
 
   -- what follows it, by where it goes on
   abbrev keeping_to : Next → Plan
   keeping_to x = record { number = number_of of; asks = keeping_asked done word left; next = λ called. x }
 
   keeps : IsInOrder call.state → KeepsBy s n plan call
-  keeps order a h quiet =
+  keeps order a h turn quiet =
       let it = kept h.1 in
       subst (λ (z : CallStep Called). FollowsBy s n plan a z) (sym (call_is h.1))
       (subst (λ (x : Next). FollowsBy s n (keeping_to x) a (giving (with_spaces s it.spaces) (Answered 0)))
       (sym (next_is of done word left (path_small s n of takes (step.Keeping done word left) stands small)))
-      (refl, (h.0, it.stands (subst (λ (t : KernelState). IsInOrder t) (ap (λ (z : CallStep Called). z.state) (call_is h.1)) order))))
+      (refl, (h.0, it.stands (subst (λ (t : KernelState). IsInOrder t) (ap (λ (z : CallStep Called). z.state) (call_is h.1)) order) turn.last)))
 
   fails : FailsBy s n plan call
-  fails may a h =
+  fails may a h turn =
       let is_gone : call.gives ≡ gone = fails_gone (kept_at_once done left == 4) call.gives may in
       absurd (let contradiction : ◌≡◌ {A = Got Called} gone (got (Answered 0)) = sym is_gone ∙ given h.1 in cc)
 
@@ -174,6 +174,6 @@ module _ (s : KernelState) (n : ℕ) (of : Service) (takes : has_path of ≡ tru
       (λ x. next_of_keeping (buffer_of of) (whole_step of) done word left))
   keeping_holds =
       law_of s n plan of (step.Keeping done word left) here (subst (λ (z : CallStep Called). GoesOn s n plan z) (sym performed_is) goes)
-      (subst (λ (z : CallStep Called). NeverFaults s z) (sym performed_is) never)
+      (subst (λ (z : CallStep Called). NeverFaults s n z) (sym performed_is) never)
       (subst (λ (z : CallStep Called). IsInOrder z.state → KeepsBy s n plan z) (sym performed_is) keeps)
       (subst (λ (z : CallStep Called). FailsBy s n plan z) (sym performed_is) fails)

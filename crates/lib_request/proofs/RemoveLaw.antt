@@ -50,6 +50,7 @@ module _ (s : KernelState) (n path : ℕ) (live : is_live (slot_at s n) ≡ true
   remove_holds (step.Awaiting id) stands = awaiting_holds s n remove refl live id stands
   remove_holds (step.Clearing id) stands = clearing_holds s n remove refl live awake id stands
   remove_holds (step.ReadingReply id) stands = reading_holds s n remove refl live id stands
+  remove_holds (step.Piped at) stands = no_step (step.Piped at) stands refl (λ view k b h. h)
   remove_holds (step.Trying perm) stands = no_step (step.Trying perm) stands refl (λ view k b h. h)
   remove_holds step.ReadingRegion stands = no_step step.ReadingRegion stands refl (λ view k b h. h)
   remove_holds step.ReadingEntry stands = no_step step.ReadingEntry stands refl (λ view k b h. h)
@@ -106,4 +107,4 @@ module _ (s : KernelState) (n path : ℕ) (live : is_live (slot_at s n) ≡ true
   remove_holds (step.FileFaulting done count) stands =
       no_step (step.FileFaulting done count) stands refl (λ view k b h. let contradiction : false ≡ true = h.0.hands in cc)
   remove_holds (step.Returning answer) stands =
-      no_step (step.Returning answer) stands refl (λ view k b h. let contradiction : false ≡ true = h.hands in cc)
+      no_step (step.Returning answer) stands refl (λ view k b h. let contradiction : false ≡ true = h.goes in cc)

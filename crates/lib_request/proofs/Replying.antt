@@ -19,6 +19,7 @@ use Rattle.lib_os.specs.StandsFor.{StandsFor, HasAsked, HasReply, AwaitsOrHas, b
 use Rattle.lib_os.specs.UserCalls.{load, system}
 use Rattle.lib_os.proofs.Loading.{loaded}
 use Rattle.lib_os.proofs.Numbered.{named_at}
+use Rattle.lib_os.proofs.PipesStand.{is_calm}
 use Rattle.lib_os.proofs.ReplyRead.{awaiting_stands, awaiting_step, awake_reply, reply_load, reply_stands, reply_step}
 use Rattle.lib_os.proofs.Serving.{holds_page, printed_nothing, served}
 use Rattle.lib_os.proofs.SlotsStand.{born_live}
@@ -34,15 +35,15 @@ module _ (s : KernelState) (n id : ℕ) where
   pub awaiting_keeps : place_of k ≡ place.InService service.Sync (step.Awaiting id) →
       KeepsStanding progress.Visible n s
       (with_extra (system s n SYS_IPC_RECV (UTOP ∷ FIRST_ENV_ID ∷ 0 ∷ 0 ∷ 0 ∷ [])).state n (words_at SERVICE_SYNC (step.ReadingReply id))) []
-  awaiting_keeps stands a h quiet =
+  awaiting_keeps stands a h turn quiet =
       let v = served h.1 n service.Sync (step.Awaiting id) stands in
       let at : (id ≡ k.id) × HasAsked k v.b service.Sync = v.at in (
         await_reply a n v.b service.Sync,
-        awaiting_step h.1 n v.b v.is v.outside (ap borne_in v.place) (ap holds_page v.place) at.1,
+        awaiting_step h.1 n v.b v.is v.outside (ap borne_in v.place) (ap holds_page v.place) (ap is_calm v.place) at.1,
         printed_nothing a,
         (
           h.0,
-          awaiting_stands h.1 n v.b v.is v.outside (ap borne_in v.place) (ap holds_page v.place) id (0 ∷ 0 ∷ 0 ∷ []) at.0 at.1
+          awaiting_stands h.1 n v.b v.is v.outside (ap borne_in v.place) (ap holds_page v.place) (ap is_calm v.place) id (0 ∷ 0 ∷ 0 ∷ []) at.0 at.1
               (named_at k service.Sync (step.Awaiting id) stands),
         ),
       )
@@ -64,7 +65,7 @@ module _ (s : KernelState) (n id : ℕ) where
         let at : (id ≡ k.id) × AwaitsOrHas k v.b service.Sync = v.at in
         let has : HasReply k v.b service.Sync = awake_reply k v.b service.Sync v.own.runs awake at.1 in (
           answered a n v.b has.regs k.rendezvous.value,
-          reply_step h n v.b v.is v.outside (ap borne_in v.place) (ap holds_page v.place) has,
+          reply_step h n v.b v.is v.outside (ap borne_in v.place) (ap holds_page v.place) (ap is_calm v.place) has,
           printed_nothing a,
-          (names, reply_stands h n v.b v.is v.outside (ap borne_in v.place) (ap holds_page v.place) has (reply_place id) order),
+          (names, reply_stands h n v.b v.is v.outside (ap borne_in v.place) (ap holds_page v.place) (ap is_calm v.place) has (reply_place id) order),
         )

@@ -69,22 +69,22 @@ module _ (s : KernelState) (n : ℕ) (service : Service) (live : is_live (slot_a
   given : (names : Names) (a : AbstractState) (h : StandsFor names s a) → does.gives ≡ got (Answered 0)
   given names a h = ap (λ (z : CallStep Called). z.gives) (does_is names a h)
 
-  never : NeverFaults s does
-  never a h handled =
+  never : NeverFaults s n does
+  never a h turn handled =
       absurd (let contradiction : ◌≡◌ {A = Got Called} to_handler (got (Answered 0)) = sym handled ∙ given h.0 a h.1 in cc)
 
   keeps : IsInOrder does.state → KeepsBy s n storing does
-  keeps order a h quiet =
+  keeps order a h turn quiet =
       let it = stored h.0 a h.1 in
       subst (λ (z : CallStep Called). FollowsBy s n storing a z) (sym (does_is h.0 a h.1))
-      (refl, (h.0, it.stands (subst (λ (t : KernelState). IsInOrder t) (ap (λ (z : CallStep Called). z.state) (does_is h.0 a h.1)) order)))
+      (refl, (h.0, it.stands (subst (λ (t : KernelState). IsInOrder t) (ap (λ (z : CallStep Called). z.state) (does_is h.0 a h.1)) order) turn.last))
 
   fails : FailsBy s n storing does
-  fails may a h = absurd (let contradiction : ◌≡◌ {A = Got Called} gone (got (Answered 0)) = sym may ∙ given h.0 a h.1 in cc)
+  fails may a h turn = absurd (let contradiction : ◌≡◌ {A = Got Called} gone (got (Answered 0)) = sym may ∙ given h.0 a h.1 in cc)
 
   pub storing_holds : ServiceHolds s n (staged service (ask.Store (UTEMP + o) word) (λ done. next.GoOn to))
   storing_holds =
       law_of s n storing service from here (subst (λ (z : CallStep Called). GoesOn s n storing z) (sym performed_is) goes)
-      (subst (λ (z : CallStep Called). NeverFaults s z) (sym performed_is) never)
+      (subst (λ (z : CallStep Called). NeverFaults s n z) (sym performed_is) never)
       (subst (λ (z : CallStep Called). IsInOrder z.state → KeepsBy s n storing z) (sym performed_is) keeps)
       (subst (λ (z : CallStep Called). FailsBy s n storing z) (sym performed_is) fails)

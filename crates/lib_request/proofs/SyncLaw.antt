@@ -115,6 +115,7 @@ module _ (s : KernelState) (n : ℕ) (live : is_live (slot_at s n) ≡ true)
         record { word = (slot_at s n).rendezvous.value; is = reply_there s n id stands awake names a h },
         reply_follows s n id stands awake names a h,
       ))
+  sync_holds (step.Piped at) stands = no_step (step.Piped at) stands refl (λ view k b h. h)
   sync_holds (step.Trying perm) stands = no_step (step.Trying perm) stands refl (λ view k b h. h)
   sync_holds step.ReadingRegion stands = no_step step.ReadingRegion stands refl (λ view k b h. h)
   sync_holds step.ReadingEntry stands = no_step step.ReadingEntry stands refl (λ view k b h. h)
@@ -179,4 +180,4 @@ module _ (s : KernelState) (n : ℕ) (live : is_live (slot_at s n) ≡ true)
   sync_holds (step.FileFaulting done count) stands =
       no_step (step.FileFaulting done count) stands refl (λ view k b h. let contradiction : false ≡ true = h.0.hands in cc)
   sync_holds (step.Returning answer) stands =
-      no_step (step.Returning answer) stands refl (λ view k b h. let contradiction : false ≡ true = h.hands in cc)
+      no_step (step.Returning answer) stands refl (λ view k b h. let contradiction : false ≡ true = h.goes in cc)

@@ -26,12 +26,14 @@ use Rattle.lib_os.specs.MemoryServices.{lives}
 use Rattle.lib_os.specs.Places.{place_of, words_at, is_handlers}
 use Rattle.lib_os.specs.Services.{service_of}
 use Rattle.lib_os.specs.Rows.{Names}
-use Rattle.lib_os.specs.StandsFor.{StandsFor, IsIn, IsWaiting, borne_in}
+use Rattle.lib_os.specs.InService.{IsIn}
+use Rattle.lib_os.specs.StandsFor.{StandsFor, IsWaiting, borne_in}
 use Rattle.lib_os.specs.UserCalls.{CallStep, Got, got, giving, system}
 use Rattle.lib_os.proofs.Answering.{back_stands}
 use Rattle.lib_os.proofs.GoingOn.{in_with_words, words_stand}
 use Rattle.jos_base.proofs.Maps.{upd-at}
 use Rattle.lib_os.proofs.Numbered.{named_at}
+use Rattle.lib_os.proofs.PipesStand.{is_calm}
 use Rattle.lib_os.proofs.Sends.{found_some, found_none, nobody_named, never_taken}
 use Rattle.lib_os.proofs.Serving.{IsServed, holds_page, printed_nothing, served, step_in}
 use Rattle.lib_os.proofs.SlotsStand.{born_at}
@@ -91,14 +93,14 @@ module _ (s : KernelState) (n id : ℕ) (stands : place_of (slot_at s n) ≡ pla
   entered_keeps = by_tests (id == 0) (id == own) refl refl
     where
       refused : (id ≡ 0) ⊎ (id ≡ own) → let x = next.Answer (negated E_INVAL) in KeepsStanding (seen_as x) n s (settled SERVICE_WAIT x s n) []
-      refused why a h quiet =
+      refused why a h turn quiet =
           let v = served h.1 n (service.Wait id) step.Entered stands in
           let here : IsIn (slot_at s n) v.b (service.Wait id) entered = v.at in
           let regs = (slot_at s n).registers in (
             abstract_system.refused a n v.b regs E_INVAL,
             step_in a n v.b (slot_at s n) (service.Wait id) entered v.is here ∙ refused_step a n v.b regs id (by_own v.b v.own.id why),
             printed_nothing a,
-            (h.0, back_stands h.1 n v.b v.is (record regs { eax = negated E_INVAL }) (ap borne_in v.place) (ap holds_page v.place) here.silent here.awake v.outside refl refl),
+            (h.0, back_stands h.1 n v.b v.is (record regs { eax = negated E_INVAL }) (ap borne_in v.place) (ap holds_page v.place) (ap is_calm v.place) here.silent here.awake v.outside refl refl),
           )
         where
           by_own : (b : Born) → own ≡ b.id → (id ≡ 0) ⊎ (id ≡ own) → (id ≡ 0) ⊎ (id ≡ b.id)
@@ -106,13 +108,13 @@ module _ (s : KernelState) (n id : ℕ) (stands : place_of (slot_at s n) ≡ pla
           by_own b e (inr o) = inr (o ∙ e)
 
       goes_on : id ≢ 0 → id ≢ own → let x = next.GoOn (step.Trying 0) in KeepsStanding (seen_as x) n s (settled SERVICE_WAIT x s n) []
-      goes_on some other a h quiet =
+      goes_on some other a h turn quiet =
           let v = served h.1 n (service.Wait id) step.Entered stands in
           let here : IsIn (slot_at s n) v.b (service.Wait id) entered = v.at in (
             refl,
             (
               h.0,
-              words_stand h.1 n SERVICE_WAIT v.b v.is v.own v.outside (ap borne_in v.place) (service.Wait id) (step.Trying 0) (ap holds_page v.place) refl (named_at (slot_at s n) (service.Wait id) step.Entered stands)
+              words_stand h.1 n SERVICE_WAIT v.b v.is v.own v.outside (ap borne_in v.place) (ap is_calm v.place) (service.Wait id) (step.Trying 0) (ap holds_page v.place) refl refl (named_at (slot_at s n) (service.Wait id) step.Entered stands)
                   (record { is_in = in_with_words (words_at SERVICE_WAIT (step.Trying 0)) here; some = some; other = λ e. other (e ∙ sym v.own.id) }),
             ),
           )
@@ -178,7 +180,7 @@ module _ (s : KernelState) (n id perm : ℕ) (stands : place_of (slot_at s n) �
           (sym (there_stands h id) ∙ rw (there.1, test) refl)
 
   pub trying_keeps : let x = next_of id (stage.Trying perm) word in KeepsStanding (seen_as x) n s (settled SERVICE_WAIT x mid n) []
-  trying_keeps a h quiet = by_test (word == negated E_BAD_ENV) refl (tried h.1 v.b v.at)
+  trying_keeps a h turn quiet = by_test (word == negated E_BAD_ENV) refl (tried h.1 v.b v.at)
     where
       v : IsServed h.0 s a n (service.Wait id) (step.Trying perm)
       v = served h.1 n (service.Wait id) (step.Trying perm) stands
@@ -196,7 +198,7 @@ module _ (s : KernelState) (n id perm : ℕ) (stands : place_of (slot_at s n) �
             abstract_system.answered a n v.b regs 0,
             step_in a n v.b (slot_at s n) (service.Wait id) entered v.is at.is_in ∙ over_step a n v.b regs id at.some at.other gone,
             printed_nothing a,
-            (h.0, back_stands h.1 n v.b v.is (record regs { eax = 0 }) (ap borne_in v.place) (ap holds_page v.place) at.is_in.silent at.is_in.awake v.outside refl refl),
+            (h.0, back_stands h.1 n v.b v.is (record regs { eax = 0 }) (ap borne_in v.place) (ap holds_page v.place) (ap is_calm v.place) at.is_in.silent at.is_in.awake v.outside refl refl),
           )
       by_test false is (lives_on other as_before there) =
           let words = words_at SERVICE_WAIT (step.Pausing perm) in
@@ -205,7 +207,7 @@ module _ (s : KernelState) (n id perm : ℕ) (stands : place_of (slot_at s n) �
               refl,
               (
                 h.0,
-                words_stand h.1 n SERVICE_WAIT v.b v.is v.own v.outside (ap borne_in v.place) (service.Wait id) (step.Pausing perm) (ap holds_page v.place) refl
+                words_stand h.1 n SERVICE_WAIT v.b v.is v.own v.outside (ap borne_in v.place) (ap is_calm v.place) (service.Wait id) (step.Pausing perm) (ap holds_page v.place) refl refl
                     (named_at (slot_at s n) (service.Wait id) (step.Trying perm) stands)
                     (record { is_in = in_with_words words at.is_in; some = at.some; other = at.other }),
               ),
@@ -217,7 +219,7 @@ module _ (s : KernelState) (n id perm : ℕ) (stands : place_of (slot_at s n) �
 
 module _ (s : KernelState) (n id perm : ℕ) (stands : place_of (slot_at s n) ≡ place.InService (service.Wait id) (step.Pausing perm)) where
   pub pausing_keeps : KeepsStanding progress.Hidden n s (with_extra (with_status s n Runnable) n (words_at SERVICE_WAIT (step.Trying perm))) []
-  pausing_keeps a h quiet =
+  pausing_keeps a h turn quiet =
       let v = served h.1 n (service.Wait id) (step.Pausing perm) stands in
       let at : IsWaiting (slot_at s n) v.b id = v.at in
       let ran = status_stands h.1 n v.b v.is at.is_in.awake in
@@ -232,8 +234,9 @@ module _ (s : KernelState) (n id perm : ℕ) (stands : place_of (slot_at s n) �
           h.0,
           words_stand ran n SERVICE_WAIT v.b v.is (born_at ran n v.b v.is)
               (ap (λ (x : Slot). is_handlers x.registers.esp) slot_is ∙ v.outside)
-              (ap (λ (x : Slot). borne_in (place_of x)) slot_is ∙ ap borne_in v.place) (service.Wait id) (step.Trying perm)
-              (ap (λ (x : Slot). holds_page (place_of x)) slot_is ∙ ap holds_page v.place) refl
+              (ap (λ (x : Slot). borne_in (place_of x)) slot_is ∙ ap borne_in v.place)
+              (ap (λ (x : Slot). is_calm (place_of x)) slot_is ∙ ap is_calm v.place) (service.Wait id) (step.Trying perm)
+              (ap (λ (x : Slot). holds_page (place_of x)) slot_is ∙ ap holds_page v.place) refl refl
               (subst (λ (x : Slot). service_of (record x.registers { eax = SERVICE_WAIT }) ≡ service.Wait id) (sym slot_is)
               (named_at (slot_at s n) (service.Wait id) (step.Pausing perm) stands))
               (subst (λ (x : Slot). IsWaiting (record x { extra = w }) v.b id) (sym slot_is)

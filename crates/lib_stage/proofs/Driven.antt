@@ -1,8 +1,8 @@
 -- What the law of a service says of a step that its driver has made.
 use Rattle.std.proofs.Common.{◌≡◌, ◌∙◌, ℕ, false, true, Result, Ok, Err, sym, ap, subst, arith}
-use Rattle.std.specs.Prelude.{IfOk}
+use Rattle.std.specs.Prelude.{IfOk, List, Option}
 use Rattle.jos_host.specs.declared.host.Failed.{Failed}
-use Rattle.jos_host.specs.Frames.{Around}
+use Rattle.jos_host.specs.Frames.{Around, from_to}
 use Rattle.jos_host.specs.Told.{HasCause}
 use Rattle.jos_base.specs.declared.called.Called.{Called}
 use Rattle.jos_base.specs.Environments.{is_live}
@@ -49,6 +49,10 @@ module _ (s : KernelState) (n : ℕ) (plan : Plan) where
           subst (λ (d : Upshot). Prints output d.written) (sym so) h.2,
         )
 
+    pub settled_ordered : (called : Called) → IsPerformed plan.asks (performed s n plan.asks) (Ok called) mid output →
+        IsInOrder mid → IsInOrder (performed s n plan.asks).state
+    settled_ordered called h order = subst (λ (t : KernelState). IsInOrder t) h.1 order
+
     pub stopped_so : (e : Stop) (result : Result Progress Failed) → IsPerformed plan.asks (performed s n plan.asks) (Err e) mid output →
         IsStopped e result → IsServiceStep result s n plan mid output
     stopped_so stop.Failed (Err failed) h is = h
@@ -81,7 +85,7 @@ module _ (s : KernelState) (n : ℕ) (plan : Plan) where
           subst (λ (p : Progress). KeepsStanding p n s after did.written) (sym h.0)
               (subst (λ (t : KernelState). KeepsStanding did.progress n s t did.written) (sym h.1) (law.keeps order)),
         )
-    law_step (Err failed) after output h order = ((performed s n plan.asks).written, h.1, law.fails h.0)
+    law_step (Err failed) after output h order = ((performed s n plan.asks).written, h.1, λ a stands turn. law.fails h.0 a stands turn)
 
     pub law_leaves : (result : Result Progress Failed) (after : KernelState) (output : Output) → IsServiceStep result s n plan after output →
         Leaves result n s after
@@ -109,6 +113,14 @@ module _ (s : KernelState) (n : ℕ) (plan : Plan) where
         IfOk result (λ done. TakesByPlace n s after)
     law_takes (Ok done) after output h = subst (λ (t : KernelState). TakesByPlace n s t) (sym h.1) law.takes
     law_takes (Err failed) after output h = tt
+
+-- ---- what is written stays counted so
+
+pub counted_so : (result : Result Progress Failed) (n : ℕ) (before after : KernelState) (console : Around (Option (List ℕ))) (first last counted : ℕ) →
+    counted ≡ last → IsLibraryStep result n before after (record { console = console; count = from_to first last }) →
+    IsLibraryStep result n before after (record { console = console; count = from_to first counted })
+counted_so result n before after console first last counted same h =
+    subst (λ (w : ℕ). IsLibraryStep result n before after (record { console = console; count = from_to first w })) (sym same) h
 
 -- ---- why the host failed
 

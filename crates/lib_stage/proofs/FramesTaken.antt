@@ -39,6 +39,7 @@ settled_takes : (s mid : KernelState) (n number k : ℕ) (x : Next) → TakesAtM
     TakesAtMost k s.spaces (settled number x mid n).spaces
 settled_takes s mid n number k (next.Answer word) h = h
 settled_takes s mid n number k (next.Answers eax edx ecx ebx) h = h
+settled_takes s mid n number k (next.AnswersEnds reading writing) h = h
 settled_takes s mid n number k (next.GoOn at) h = h
 settled_takes s mid n number k (next.GoBack word) h = h
 settled_takes s mid n number k (next.Show at) h = h

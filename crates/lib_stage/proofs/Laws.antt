@@ -1,5 +1,5 @@
 -- The parts of a service's law that are the same for all services: by what it asks, and by where it goes on.
-use Rattle.std.proofs.Common.{◌≡◌, ◌∙◌, ◌+◌, ◌-◌, ◌*◌, ◌^◌, ◌<◌, ◌++◌, ◌&&◌, ℕ, Bool, true, false, not, List, [], length, Ok, Some, None, refl, sym, ap, subst}
+use Rattle.std.proofs.Common.{◌⊎◌, inl, inr, ◌≡◌, ◌∙◌, ◌+◌, ◌-◌, ◌*◌, ◌^◌, ◌<◌, ◌++◌, ◌&&◌, ℕ, Bool, true, false, not, List, [], length, Ok, Some, None, refl, sym, ap, subst}
 use Rattle.std.specs.Prelude.{min}
 use Rattle.std.proofs.Common.{◌≤◌, arith, if◌then◌else◌}
 use Rattle.std.proofs.lemmas.Bool.{and_parts}
@@ -23,11 +23,12 @@ use Rattle.lib_os.specs.AbstractRun.{abs_step}
 use Rattle.lib_os.specs.AbstractState.{AbstractState, Born}
 use Rattle.lib_os.specs.InOrder.{IsInOrder}
 use Rattle.lib_os.specs.Need.{EachHasUse}
-use Rattle.lib_os.specs.LibrarySteps.{Stands, AbstractFollows, KeepsServer, KeepsStanding, KeepsUses, Leaves, LeavesRest, Lowers, counts_copies, is_pausing}
+use Rattle.lib_os.specs.LibrarySteps.{Stands, AbstractFollows, AsksAgain, KeepsServer, KeepsStanding, KeepsUses, Leaves, LeavesRest, Lowers, LowersOrAsksAgain}
+use Rattle.lib_os.specs.LibrarySteps.{HasTurn, TEST_STEPS_MAX, counts_copies, is_pausing}
 use Rattle.lib_os.specs.LibrarySteps.{copy_steps, most_copy_steps, steps_left, copies_left, left_at, hidden_left, frames_asked, frames_at}
 use Rattle.lib_os.specs.LibraryPages.{View}
 use Rattle.lib_os.specs.Places.{place_of, words_at, handler_registers}
-use Rattle.lib_os.specs.Rows.{EntryRow, Names, is_descriptor, rows_of}
+use Rattle.lib_os.specs.Rows.{EntryRow, Names, is_of_descriptor, rows_of}
 use Rattle.jos_base.specs.Counting.{page_limit}
 use Rattle.lib_os.specs.StandsFor.{StandsFor, StandsAtStep, view_of}
 use Rattle.lib_os.specs.UserCalls.{CallStep, Got, got, to_handler, gone, giving, load, asking, system, Output}
@@ -71,25 +72,25 @@ is_calm _ = true
 
 -- an access that writes a word there writes no page of a descriptor's
 abbrev pub is_word_beside : ℕ → Bool
-is_word_beside va = not (is_descriptor (page_number va)) && not (is_descriptor (page_number (va + 3)))
+is_word_beside va = not (is_of_descriptor (page_number va)) && not (is_of_descriptor (page_number (va + 3)))
 
 -- And in which it sends nothing to the file server, and maps into no other space a page that waits to be copied, nor one that a service works with;
 -- and one that writes, writes no page of a descriptor's.
 abbrev pub is_plain : Ask → Bool
 is_plain (ask.System number args) = (not (wakes number) && not (sets_others number)) && (sends_aside number args && maps_no_copy number args)
 is_plain (ask.Store va word) = is_word_beside va
-is_plain (ask.StoreByte va byte) = not (is_descriptor (page_number va))
+is_plain (ask.StoreByte va byte) = not (is_of_descriptor (page_number va))
 is_plain (ask.Exchange va word) = is_word_beside va
-is_plain (ask.Touch ip va true) = not (is_descriptor (page_number va))
+is_plain (ask.Touch ip va true) = not (is_of_descriptor (page_number va))
 is_plain _ = true
 
 -- the same of the file server alone, wherever the state stands for an abstract one
 abbrev pub IsAsideAsk : KernelState → Ask → Type 0
 IsAsideAsk s (ask.System number args) = SendsAside s number args
 IsAsideAsk s (ask.Store va word) = (a : AbstractState) → Stands s a → IsWordBeside va
-IsAsideAsk s (ask.StoreByte va byte) = (a : AbstractState) → Stands s a → is_descriptor (page_number va) ≡ false
+IsAsideAsk s (ask.StoreByte va byte) = (a : AbstractState) → Stands s a → is_of_descriptor (page_number va) ≡ false
 IsAsideAsk s (ask.Exchange va word) = (a : AbstractState) → Stands s a → IsWordBeside va
-IsAsideAsk s (ask.Touch ip va true) = (a : AbstractState) → Stands s a → is_descriptor (page_number va) ≡ false
+IsAsideAsk s (ask.Touch ip va true) = (a : AbstractState) → Stands s a → is_of_descriptor (page_number va) ≡ false
 IsAsideAsk s _ = Unit {0}
 
 -- A plain one, or one of which it is known by where the service stands that others' pages are left, and that nothing is sent to the file
@@ -204,7 +205,7 @@ touch_keeps s n ip va apart =
     (λ a h d aside. store_byte_server d (at_instruction s n ip) n aside va 0 (apart a h))
 
 -- a plain one writes no page of a descriptor's
-byte_apart : (va : ℕ) → not (is_descriptor (page_number va)) ≡ true → is_descriptor (page_number va) ≡ false
+byte_apart : (va : ℕ) → not (is_of_descriptor (page_number va)) ≡ true → is_of_descriptor (page_number va) ≡ false
 byte_apart va is = is_not is
   where
     is_not : {t : Bool} → not t ≡ true → t ≡ false
@@ -213,7 +214,7 @@ byte_apart va is = is_not is
 
 word_apart : (va : ℕ) → is_word_beside va ≡ true → IsWordBeside va
 word_apart va is =
-    let parts = and_parts (not (is_descriptor (page_number va))) (not (is_descriptor (page_number (va + 3)))) is in
+    let parts = and_parts (not (is_of_descriptor (page_number va))) (not (is_of_descriptor (page_number (va + 3)))) is in
     (byte_apart va parts.0, byte_apart (va + 3) parts.1)
 
 -- ---- each
@@ -297,6 +298,24 @@ unfolding performed
 exchange_aside s n va word apart =
     knowingly refl (copies_kept s (performed s n (ask.Exchange va word)).state n (exchange_wait _ s n (not_beside s n) va word)) apart
 
+-- One of which it is known what is done to the file server.
+pub store_known : (s : KernelState) (n va word : ℕ) → KeepsServer n s (performed s n (ask.Store va word)).state → IsPlain s n (ask.Store va word)
+unfolding performed
+store_known s n va word server =
+    kept_so refl (copies_kept s (performed s n (ask.Store va word)).state n (store_wait _ s n (not_beside s n) va word)) server
+
+pub store_byte_known : (s : KernelState) (n va byte : ℕ) → KeepsServer n s (performed s n (ask.StoreByte va byte)).state →
+    IsPlain s n (ask.StoreByte va byte)
+unfolding performed
+store_byte_known s n va byte server =
+    kept_so refl (copies_kept s (performed s n (ask.StoreByte va byte)).state n (store_byte_wait _ s n (not_beside s n) va byte)) server
+
+pub exchange_known : (s : KernelState) (n va word : ℕ) → KeepsServer n s (performed s n (ask.Exchange va word)).state →
+    IsPlain s n (ask.Exchange va word)
+unfolding performed
+exchange_known s n va word server =
+    kept_so refl (copies_kept s (performed s n (ask.Exchange va word)).state n (exchange_wait _ s n (not_beside s n) va word)) server
+
 pub touch_aside : (s : KernelState) (n ip va : ℕ) (write : Bool) → IsAsideAsk s (ask.Touch ip va write) → IsPlain s n (ask.Touch ip va write)
 unfolding performed
 touch_aside s n ip va false apart = plainly refl
@@ -314,6 +333,8 @@ pub settled_leaves : (s mid : KernelState) (n number : ℕ) (x : Next) → Behin
 settled_leaves s mid n number (next.Answer word) h = answers s mid _ n word progress.Finished h refl
 settled_leaves s mid n number (next.Answers eax edx ecx ebx) h =
     goes_back s mid _ n (record (slot_at mid n).registers { eax = eax; edx = edx; ecx = ecx; ebx = ebx }) progress.Finished h refl
+settled_leaves s mid n number (next.AnswersEnds reading writing) h =
+    goes_back s mid _ n (record (slot_at mid n).registers { eax = 0; edx = reading; ecx = writing }) progress.Finished h refl
 settled_leaves s mid n number (next.GoOn at) h = goes_on s mid _ n (words_at number at) progress.Hidden h refl
 settled_leaves s mid n number (next.GoBack word) h = answers s mid _ n word progress.Hidden h refl
 settled_leaves s mid n number (next.Show at) h = goes_on s mid _ n (words_at number at) progress.Visible h refl
@@ -377,31 +398,69 @@ left_least service at copies = by_counting (counts_copies at)
 
 -- a service that goes on at a step has a lower number, whatever pages wait to be copied
 service_lowers : (s after : KernelState) (n : ℕ) (service : Service) (from to : Step) → place_of (slot_at s n) ≡ place.InService service from →
-    place_of (slot_at after n) ≡ place.InService service to → most_left to < steps_left from → Lowers (Ok progress.Hidden) n s after
-service_lowers s after n service from to was is less a h quiet =
+    place_of (slot_at after n) ≡ place.InService service to → most_left to < steps_left from → LowersOrAsksAgain n s after
+service_lowers s after n service from to was is less =
     let most = left_most service to (rows_of after.spaces (slot_at after n).directory) in
     let least = left_least service from (copies_left (rows_of s.spaces (slot_at s n).directory)) in
     let there : hidden_left after n ≡ left_at (place.InService service to) (copies_left (rows_of after.spaces (slot_at after n).directory)) =
     ap (λ (p : Place). left_at p (copies_left (rows_of after.spaces (slot_at after n).directory))) is in
     let here : hidden_left s n ≡ left_at (place.InService service from) (copies_left (rows_of s.spaces (slot_at s n).directory)) =
     ap (λ (p : Place). left_at p (copies_left (rows_of s.spaces (slot_at s n).directory))) was in
+    inl (
     by_numbers (left_at (place.InService service to) (copies_left (rows_of after.spaces (slot_at after n).directory)))
     (left_at (place.InService service from) (copies_left (rows_of s.spaces (slot_at s n).directory))) (most_left to) (steps_left from)
     (hidden_left after n) (hidden_left s n) most less least there here
+    )
   where
     by_numbers : (left before most steps after_is before_is : ℕ) → left ≤ most → most < steps → steps ≤ before → after_is ≡ left →
         before_is ≡ before → after_is < before_is
     by_numbers left before most steps after_is before_is few less enough there here = omega (arith, few, less, enough, there, here)
 
--- an access of it never faults where the state stands for an abstract one
-abbrev pub NeverFaults : KernelState → CallStep Called → Type 0
-NeverFaults s step = (a : AbstractState) → Stands s a → step.gives ≡ to_handler → ⊥
+-- one that asks the test for a closed pipe again has no higher number than that test
+service_asks : (s after : KernelState) (n : ℕ) (service : Service) (from to : Step) → place_of (slot_at s n) ≡ place.InService service from →
+    place_of (slot_at after n) ≡ place.InService service to → AsksAgain (slot_at s n).runs (place.InService service from) →
+    most_left to ≤ TEST_STEPS_MAX → LowersOrAsksAgain n s after
+service_asks s after n service from to was is asks few =
+    let most = left_most service to (rows_of after.spaces (slot_at after n).directory) in
+    let there : hidden_left after n ≡ left_at (place.InService service to) (copies_left (rows_of after.spaces (slot_at after n).directory)) =
+    ap (λ (p : Place). left_at p (copies_left (rows_of after.spaces (slot_at after n).directory))) is in
+    inr (
+      subst (λ (p : Place). AsksAgain (slot_at s n).runs p) (sym was) asks,
+      by_numbers (left_at (place.InService service to) (copies_left (rows_of after.spaces (slot_at after n).directory))) (most_left to)
+          TEST_STEPS_MAX (hidden_left after n) most few there,
+    )
+  where
+    by_numbers : (left most test after_is : ℕ) → left ≤ most → most ≤ test → after_is ≡ left → after_is ≤ test
+    by_numbers left most test after_is few less there = omega (arith, few, less, there)
 
-pub falling_lowers : (s : KernelState) (n : ℕ) (plan : Plan) (step : CallStep Called) (service : Service) (from : Step) →
-    place_of (slot_at s n) ≡ place.InService service from → plan.number ≡ number_of service → GoesOn s n plan step → NeverFaults s step →
-    ((called : Called) → Falls service from (plan.next called)) →
+-- Where the state stands for an abstract one, the number falls, or the test for a closed pipe is asked again.
+abbrev pub FallsOrAsks : KernelState → ℕ → Service → Step → Next → Type 0
+FallsOrAsks s n service from (next.GoOn to) =
+    (a : AbstractState) → Stands s a → HasTurn s n →
+    (most_left to < steps_left from) ⊎ (AsksAgain (slot_at s n).runs (place.InService service from) × (most_left to ≤ TEST_STEPS_MAX))
+FallsOrAsks s n service from x = Falls service from x
+
+falls_so : (s : KernelState) (n : ℕ) (service : Service) (from : Step) (x : Next) → Falls service from x → FallsOrAsks s n service from x
+falls_so s n service from (next.GoOn to) falls = λ a h turn. inl falls
+falls_so s n service from (next.Answer word) falls = falls
+falls_so s n service from (next.Answers eax edx ecx ebx) falls = falls
+falls_so s n service from (next.AnswersEnds reading writing) falls = falls
+falls_so s n service from (next.GoBack word) falls = falls
+falls_so s n service from (next.Show to) falls = falls
+falls_so s n service from (next.Wait to) falls = falls
+falls_so s n service from (next.Handle to) falls = falls
+falls_so s n service from next.Leave falls = falls
+falls_so s n service from next.Gone falls = falls
+
+-- an access of it never faults where the state stands for an abstract one, in the slot's turn
+abbrev pub NeverFaults : KernelState → ℕ → CallStep Called → Type 0
+NeverFaults s n step = (a : AbstractState) → Stands s a → HasTurn s n → step.gives ≡ to_handler → ⊥
+
+pub asking_lowers : (s : KernelState) (n : ℕ) (plan : Plan) (step : CallStep Called) (service : Service) (from : Step) →
+    place_of (slot_at s n) ≡ place.InService service from → plan.number ≡ number_of service → GoesOn s n plan step → NeverFaults s n step →
+    ((called : Called) → step.gives ≡ got called → FallsOrAsks s n service from (plan.next called)) →
     let did = upshot_by plan n step step.gives in Lowers (Ok did.progress) n s did.state
-falling_lowers s n plan step service from stands numbered goes never falls = by_got step.gives refl
+asking_lowers s n plan step service from stands numbered goes never falls = by_got step.gives refl
   where
     there : (to : Step) → (slot_at step.state n).registers ≡ (slot_at s n).registers →
         place_of (slot_at (settled plan.number (next.GoOn to) step.state n) n) ≡ place.InService service to
@@ -409,12 +468,19 @@ falling_lowers s n plan step service from stands numbered goes never falls = by_
         went_to s step.state (settled plan.number (next.GoOn to) step.state n) n n n service from to stands kept refl refl
         (ap (λ (number : ℕ). settled number (next.GoOn to) step.state n) numbered)
 
-    by_next : (x : Next) → (is_gone x ≡ false → (slot_at step.state n).registers ≡ (slot_at s n).registers) → Falls service from x →
+    by_next : (x : Next) → (is_gone x ≡ false → (slot_at step.state n).registers ≡ (slot_at s n).registers) → FallsOrAsks s n service from x →
         Lowers (Ok (seen_as x)) n s (settled plan.number x step.state n)
     by_next (next.Answer word) kept falls = tt
     by_next (next.Answers eax edx ecx ebx) kept falls = tt
-    by_next (next.GoOn to) kept falls =
-        service_lowers s (settled plan.number (next.GoOn to) step.state n) n service from to stands (there to (kept refl)) falls
+    by_next (next.AnswersEnds reading writing) kept falls = tt
+    by_next (next.GoOn to) kept falls = λ a h turn quiet. by_way (falls a h turn)
+      where
+        by_way : (most_left to < steps_left from) ⊎ (AsksAgain (slot_at s n).runs (place.InService service from) × (most_left to ≤ TEST_STEPS_MAX)) →
+            LowersOrAsksAgain n s (settled plan.number (next.GoOn to) step.state n)
+        by_way (inl less) =
+            service_lowers s (settled plan.number (next.GoOn to) step.state n) n service from to stands (there to (kept refl)) less
+        by_way (inr asks) =
+            service_asks s (settled plan.number (next.GoOn to) step.state n) n service from to stands (there to (kept refl)) asks.0 asks.1
     by_next (next.GoBack word) kept falls = absurd falls
     by_next (next.Show to) kept falls = tt
     by_next (next.Wait to) kept falls = ap is_pausing (there to (kept refl)) ∙ falls
@@ -424,9 +490,16 @@ falling_lowers s n plan step service from stands numbered goes never falls = by_
 
     by_got : (g : Got Called) → step.gives ≡ g →
         let did = upshot_by plan n step g in Lowers (Ok did.progress) n s did.state
-    by_got (got called) is = by_next (plan.next called) (goes.registers called is) (falls called)
-    by_got to_handler is = λ a h quiet. absurd (never a h is)
+    by_got (got called) is = by_next (plan.next called) (goes.registers called is) (falls called is)
+    by_got to_handler is = λ a h turn quiet. absurd (never a h turn is)
     by_got gone is = tt
+
+pub falling_lowers : (s : KernelState) (n : ℕ) (plan : Plan) (step : CallStep Called) (service : Service) (from : Step) →
+    place_of (slot_at s n) ≡ place.InService service from → plan.number ≡ number_of service → GoesOn s n plan step → NeverFaults s n step →
+    ((called : Called) → Falls service from (plan.next called)) →
+    let did = upshot_by plan n step step.gives in Lowers (Ok did.progress) n s did.state
+falling_lowers s n plan step service from stands numbered goes never falls =
+    asking_lowers s n plan step service from stands numbered goes never (λ called given. falls_so s n service from (plan.next called) (falls called))
 
 -- ---- the law, by its parts
 
@@ -438,7 +511,7 @@ abbrev pub KeepsBy : KernelState → ℕ → Plan → CallStep Called → Type 0
 KeepsBy s n plan step = let did = upshot_by plan n step step.gives in KeepsStanding did.progress n s did.state did.written
 
 abbrev pub FailsBy : KernelState → ℕ → Plan → CallStep Called → Type 0
-FailsBy s n plan step = MayFail plan.asks step.gives → (a : AbstractState) → Stands s a →
+FailsBy s n plan step = MayFail plan.asks step.gives → (a : AbstractState) → Stands s a → HasTurn s n →
     (b : AbstractState) × (abs_step a n ≡ Some b) × (b.console ≡ a.console ++ step.written)
 
 -- a stage of a service, at which it stands and does not give up its turn, nor takes more frames than it may
@@ -482,7 +555,7 @@ pub stands_there : {s : KernelState} {n : ℕ} {plan : Plan} {service : Service}
 stands_there at = record { stands = at.stands; plain = at.plain; goes_on = at.goes_on; few = at.few }
 
 pub law_of : (s : KernelState) (n : ℕ) (plan : Plan) (service : Service) (from : Step) → IsAt s n plan service from →
-    GoesOn s n plan (performed s n plan.asks) → NeverFaults s (performed s n plan.asks) →
+    GoesOn s n plan (performed s n plan.asks) → NeverFaults s n (performed s n plan.asks) →
     (IsInOrder (performed s n plan.asks).state → KeepsBy s n plan (performed s n plan.asks)) →
     FailsBy s n plan (performed s n plan.asks) → ServiceHolds s n plan
 law_of s n plan service from at goes never keeps fails =
@@ -500,8 +573,8 @@ pub system_gives : (s : KernelState) (n number : ℕ) (args : List ℕ) → (cal
 unfolding system
 system_gives s n number args = ((system_call (with_registers s n (asking (slot_at s n).registers number args)) n).called, refl)
 
-pub system_never : (s : KernelState) (n number : ℕ) (args : List ℕ) → NeverFaults s (system s n number args)
-system_never s n number args a h is =
+pub system_never : (s : KernelState) (n number : ℕ) (args : List ℕ) → NeverFaults s n (system s n number args)
+system_never s n number args a h turn is =
     let gives = system_gives s n number args in
     let contradiction : ◌≡◌ {A = Got Called} to_handler (got gives.0) = sym is ∙ gives.1 in cc
 
@@ -511,7 +584,7 @@ is_system (ask.System number args) = true
 is_system ask.Exofork = true
 is_system _ = false
 
-pub asked_never : (s : KernelState) (n : ℕ) (a : Ask) → is_system a ≡ true → NeverFaults s (performed s n a)
+pub asked_never : (s : KernelState) (n : ℕ) (a : Ask) → is_system a ≡ true → NeverFaults s n (performed s n a)
 unfolding performed
 asked_never s n (ask.System number args) is = system_never s n number args
 asked_never s n ask.Exofork is = system_never s n SYS_EXOFORK (as_given (slot_at s n).registers)
@@ -526,9 +599,9 @@ law_of_call s n plan service from at number args asks silent on keeps =
     let is : performed s n plan.asks ≡ system s n number args = ap (λ (x : Ask). performed s n x) asks in
     law_of s n plan service from at
     (subst (λ (z : CallStep Called). GoesOn s n plan z) (sym is) (giving_goes s n plan (system s n number args) on))
-    (subst (λ (z : CallStep Called). NeverFaults s z) (sym is) (system_never s n number args))
+    (subst (λ (z : CallStep Called). NeverFaults s n z) (sym is) (system_never s n number args))
     (subst (λ (z : CallStep Called). IsInOrder z.state → KeepsBy s n plan z) (sym is) keeps)
-    (λ may a h. absurd (let contradiction : true ≡ false = sym (subst (λ (x : Ask). MayFail x (performed s n plan.asks).gives) asks may) ∙ silent in cc))
+    (λ may a h turn. absurd (let contradiction : true ≡ false = sym (subst (λ (x : Ask). MayFail x (performed s n plan.asks).gives) asks may) ∙ silent in cc))
 
 -- a call that has answered, by its answer
 pub answered_keeps : (s : KernelState) (n : ℕ) (plan : Plan) (step : CallStep Called) (it : IsAnswered step n (slot_at s n).registers) →
@@ -552,11 +625,11 @@ shown_keeps s n number args plan to on shows keeps =
 -- ---- a system call that prints nothing, behind which the environment is gone
 
 gone_lowers : (s : KernelState) (n number : ℕ) (asks : Ask) (step : CallStep Called) (g : Got Called) →
-    ((a : AbstractState) → Stands s a → g ≡ to_handler → ⊥) →
+    ((a : AbstractState) → Stands s a → HasTurn s n → g ≡ to_handler → ⊥) →
     let did = upshot_by (record { number = number; asks = asks; next = λ called. next.Gone }) n step g in
     Lowers (Ok did.progress) n s did.state
 gone_lowers s n number asks step (got called) never = tt
-gone_lowers s n number asks step to_handler never = λ a h quiet. absurd (never a h refl)
+gone_lowers s n number asks step to_handler never = λ a h turn quiet. absurd (never a h turn refl)
 gone_lowers s n number asks step gone never = tt
 
 module _ (s : KernelState) (n : ℕ) (service : Service) (from : Step) (stands : place_of (slot_at s n) ≡ place.InService service from)
@@ -572,7 +645,7 @@ module _ (s : KernelState) (n : ℕ) (service : Service) (from : Step) (stands :
       record {
         lives = λ called is stays. absurd (let contradiction : true ≡ false = stays in cc);
         keeps = keeps;
-        fails = λ may a h. absurd (let contradiction : true ≡ false = sym may ∙ silent in cc);
+        fails = λ may a h turn. absurd (let contradiction : true ≡ false = sym may ∙ silent in cc);
         leaves = plain_leaves s n ending plain;
         lowers = gone_lowers s n number ending.asks (performed s n ending.asks) (performed s n ending.asks).gives (system_never s n call args);
         gives_up = gives_nothing_up (Ok did.progress) (slot_at s n) (slot_at did.state n) (ap is_pausing stands ∙ goes_on);
@@ -593,11 +666,11 @@ module _ (s : KernelState) (n : ℕ) (service : Service) (at : Step) (stands : p
       let did = upshot_by nowhere n (performed s n nowhere.asks) (performed s n nowhere.asks).gives in
       record {
         lives = λ called is stays. absurd (let contradiction : true ≡ false = stays in cc);
-        keeps = λ order a h quiet. absurd (nobody h.0 a h.1);
-        fails = λ may a h. absurd (nobody h.0 a h.1);
+        keeps = λ order a h turn quiet. absurd (nobody h.0 a h.1);
+        fails = λ may a h turn. absurd (nobody h.0 a h.1);
         leaves = plain_leaves s n nowhere refl;
         lowers = gone_lowers s n SERVICES nowhere.asks (performed s n nowhere.asks) (performed s n nowhere.asks).gives
-            (λ a h is. nobody h.0 a h.1);
+            (λ a h turn is. nobody h.0 a h.1);
         gives_up = gives_nothing_up (Ok did.progress) (slot_at s n) (slot_at did.state n) (ap is_pausing stands ∙ goes_on);
         takes = asks_few s n nowhere (place.InService service at) stands (omega arith);
       }
@@ -629,32 +702,58 @@ load_goes s n plan va live = record {
       λ i. (slot_at (load_got s n va w.0 w.1 i) n).registers;
 }
 
--- It gives a word wherever the state stands for an abstract one, and what follows is told by that word.
-pub law_of_load : (s : KernelState) (n : ℕ) (plan : Plan) (service : Service) (from : Step) → IsAt s n plan service from →
-    (va : ℕ) → plan.asks ≡ ask.Load va →
-    ((names : Names) (a : AbstractState) → StandsFor names s a →
-    (w : GivesWord s n va) × (IsInOrder (loaded s n va) → FollowsBy s n plan a (word_read s n va w.word))) → ServiceHolds s n plan
+-- It gives a word wherever the state stands for an abstract one, and what follows in its turn is told by that word.
+pub law_of_load_with : (s : KernelState) (n : ℕ) (plan : Plan) (service : Service) (from : Step) → StandsThere s n plan service from →
+    is_live (slot_at s n) ≡ true → (va : ℕ) → plan.asks ≡ ask.Load va →
+    ((names : Names) (a : AbstractState) → StandsFor names s a → HasTurn s n →
+    (w : GivesWord s n va) × (IsInOrder (loaded s n va) → FollowsBy s n plan a (word_read s n va w.word))) →
+    (GoesOn s n plan (performed s n plan.asks) → NeverFaults s n (performed s n plan.asks) →
+    let did = upshot_by plan n (performed s n plan.asks) (performed s n plan.asks).gives in Lowers (Ok did.progress) n s did.state) →
+    ServiceHolds s n plan
 unfolding performed
-law_of_load s n plan service from at va asks gives =
-    law_of s n plan service from at
-    (subst (λ (z : CallStep Called). GoesOn s n plan z) (sym is) (load_goes s n plan va at.live))
-    (λ a h handled. let w = (gives h.0 a h.1).0 in
-    let given : (performed s n plan.asks).gives ≡ got (Answered w.word) = ap (λ (z : CallStep Called). z.gives) is ∙ ap (λ (z : CallStep ℕ). got_as (λ w. w) z.gives) w.is in
-    absurd (let contradiction : ◌≡◌ {A = Got Called} to_handler (got (Answered w.word)) = sym handled ∙ given in cc))
+law_of_load_with s n plan service from at live va asks gives lowers =
+    law_with s n plan service from at goes.live
     (subst (λ (z : CallStep Called). IsInOrder z.state → KeepsBy s n plan z) (sym is) keeps)
-    (λ may a h. let w = (gives h.0 a h.1).0 in
+    (λ may a h turn. let w = (gives h.0 a h.1 turn).0 in
     let given : (performed s n plan.asks).gives ≡ got (Answered w.word) = ap (λ (z : CallStep Called). z.gives) is ∙ ap (λ (z : CallStep ℕ). got_as (λ w. w) z.gives) w.is in
     let none : (performed s n plan.asks).gives ≡ gone = subst (λ (x : Ask). MayFail x (performed s n plan.asks).gives) asks may in
     absurd (let contradiction : gone ≡ got (Answered w.word) = sym none ∙ given in cc))
+    (lowers goes never)
   where
     is : performed s n plan.asks ≡ told_as (λ w. w) (load s n va)
     is = ap (λ (x : Ask). performed s n x) asks
 
+    goes : GoesOn s n plan (performed s n plan.asks)
+    goes = subst (λ (z : CallStep Called). GoesOn s n plan z) (sym is) (load_goes s n plan va live)
+
+    never : NeverFaults s n (performed s n plan.asks)
+    never a h turn handled =
+        let w = (gives h.0 a h.1 turn).0 in
+        let given : (performed s n plan.asks).gives ≡ got (Answered w.word) = ap (λ (z : CallStep Called). z.gives) is ∙ ap (λ (z : CallStep ℕ). got_as (λ w. w) z.gives) w.is in
+        let contradiction : ◌≡◌ {A = Got Called} to_handler (got (Answered w.word)) = sym handled ∙ given in cc
+
     keeps : IsInOrder (load s n va).state → KeepsBy s n plan (told_as (λ w. w) (load s n va))
-    keeps order a h quiet =
-        let it = gives h.0 a h.1 in
+    keeps order a h turn quiet =
+        let it = gives h.0 a h.1 turn in
         subst (λ (z : CallStep ℕ). FollowsBy s n plan a (told_as (λ w. w) z)) (sym it.0.is)
         (it.1 (subst (λ (t : KernelState). IsInOrder t) (ap (λ (z : CallStep ℕ). z.state) it.0.is) order))
+
+-- the same of one from which the service goes on lower
+pub law_of_load_in_turn : (s : KernelState) (n : ℕ) (plan : Plan) (service : Service) (from : Step) → IsAt s n plan service from →
+    (va : ℕ) → plan.asks ≡ ask.Load va →
+    ((names : Names) (a : AbstractState) → StandsFor names s a → HasTurn s n →
+    (w : GivesWord s n va) × (IsInOrder (loaded s n va) → FollowsBy s n plan a (word_read s n va w.word))) → ServiceHolds s n plan
+law_of_load_in_turn s n plan service from at va asks gives =
+    law_of_load_with s n plan service from (stands_there at) at.live va asks gives
+    (λ goes never. falling_lowers s n plan (performed s n plan.asks) service from at.stands at.numbered goes never at.falls)
+
+-- and where nothing is needed of the turn
+pub law_of_load : (s : KernelState) (n : ℕ) (plan : Plan) (service : Service) (from : Step) → IsAt s n plan service from →
+    (va : ℕ) → plan.asks ≡ ask.Load va →
+    ((names : Names) (a : AbstractState) → StandsFor names s a →
+    (w : GivesWord s n va) × (IsInOrder (loaded s n va) → FollowsBy s n plan a (word_read s n va w.word))) → ServiceHolds s n plan
+law_of_load s n plan service from at va asks gives =
+    law_of_load_in_turn s n plan service from at va asks (λ names a h turn. gives names a h)
 
 -- ---- a stage that gives up its turn, and then goes on
 
@@ -694,7 +793,7 @@ module _ (s : KernelState) (n : ℕ) (service : Service) (from to : Step) (numbe
       subst (λ (z : CallStep Called). PlanHolds s n pause z) (sym (yield_is s n live args)) (record {
         lives = λ called is stays. ap (λ (k : Slot). is_live k) slot_is;
         keeps = λ order. keeps;
-        fails = λ may a h. absurd (let contradiction : false ≡ true = may in cc);
+        fails = λ may a h turn. absurd (let contradiction : false ≡ true = may in cc);
         leaves = record {
           rest = record { last = rest.last; turns = rest.turns; frames = rest.frames; refused = rest.refused; told = rest.told };
           turn = λ a stands_for running silent runs. ap is_pausing stands ∙ pausing;
@@ -706,7 +805,7 @@ module _ (s : KernelState) (n : ℕ) (service : Service) (from to : Step) (numbe
         };
         lowers = falling_lowers s n pause call service from stands numbered
             (record { live = λ called is stays. ap (λ (k : Slot). is_live k) slot_is; registers = λ called is stays. ap (λ (k : Slot). k.registers) slot_is })
-            (λ a h is. absurd (let contradiction : ◌≡◌ {A = Got Called} to_handler (got (Answered 0)) = sym is in cc)) (λ called. falls);
+            (λ a h turn is. absurd (let contradiction : ◌≡◌ {A = Got Called} to_handler (got (Answered 0)) = sym is in cc)) (λ called. falls);
         gives_up = gave_up s ran after n n n (words_at number to) refl refl refl refl;
         takes = takes_none s n pause call refl;
       })

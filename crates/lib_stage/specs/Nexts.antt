@@ -11,6 +11,7 @@ use Rattle.lib_stage.specs.declared.ask.Next.TheVariants as next
 abbrev pub seen_as : Next → Progress
 seen_as (next.Answer word) = progress.Finished
 seen_as (next.Answers eax edx ecx ebx) = progress.Finished
+seen_as (next.AnswersEnds reading writing) = progress.Finished
 seen_as (next.GoOn step) = progress.Hidden
 seen_as (next.GoBack word) = progress.Hidden
 seen_as (next.Show step) = progress.Visible
@@ -28,6 +29,8 @@ abbrev pub settled : ℕ → Next → KernelState → ℕ → KernelState
 settled number (next.Answer word) s n = service_answered s n word
 settled number (next.Answers eax edx ecx ebx) s n =
     gone_back s n (record (slot_at s n).registers { eax = eax; edx = edx; ecx = ecx; ebx = ebx })
+settled number (next.AnswersEnds reading writing) s n =
+    gone_back s n (record (slot_at s n).registers { eax = 0; edx = reading; ecx = writing })
 settled number (next.GoOn step) s n = with_extra s n (words_at number step)
 settled number (next.GoBack word) s n = service_answered s n word
 settled number (next.Show step) s n = with_extra s n (words_at number step)

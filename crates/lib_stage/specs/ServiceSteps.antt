@@ -11,7 +11,7 @@ use Rattle.lib_os.specs.declared.progress.Progress.TheVariants as progress
 use Rattle.lib_os.specs.AbstractRun.{abs_step}
 use Rattle.lib_os.specs.AbstractState.{AbstractState}
 use Rattle.lib_os.specs.InOrder.{IsInOrder}
-use Rattle.lib_os.specs.LibrarySteps.{Stands, KeepsStanding, Leaves, Lowers, GivesUp, TakesByPlace}
+use Rattle.lib_os.specs.LibrarySteps.{HasTurn, Stands, KeepsStanding, Leaves, Lowers, GivesUp, TakesByPlace}
 use Rattle.lib_os.specs.UserCalls.{CallStep, Got, got, to_handler, gone, Output, Prints, PrintsPart}
 use Rattle.lib_stage.specs.declared.ask.Ask.{Ask}
 use Rattle.lib_stage.specs.declared.ask.Ask.TheVariants as ask
@@ -58,7 +58,7 @@ pub record PlanHolds (s : KernelState) (n : ℕ) (plan : Plan) (step : CallStep 
   -- who goes on is there
   pub lives : (called : Called) → step.gives ≡ got called → is_gone (plan.next called) ≡ false → is_live (slot_at step.state n) ≡ true
   pub keeps : IsInOrder step.state → let did = upshot_by plan n step step.gives in KeepsStanding did.progress n s did.state did.written
-  pub fails : MayFail plan.asks step.gives → (a : AbstractState) → Stands s a →
+  pub fails : MayFail plan.asks step.gives → (a : AbstractState) → Stands s a → HasTurn s n →
       (b : AbstractState) × (abs_step a n ≡ Some b) × (b.console ≡ a.console ++ step.written)
   pub leaves : let did = upshot_by plan n step step.gives in Leaves (Ok did.progress) n s did.state
   pub lowers : let did = upshot_by plan n step step.gives in Lowers (Ok did.progress) n s did.state

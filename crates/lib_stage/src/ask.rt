@@ -38,6 +38,11 @@ pub enum Next {
         ecx: u32,
         ebx: u32,
     },
+    /// It is over, and answers 0 with the descriptors of a pipe's ends.
+    AnswersEnds {
+        reading: u32,
+        writing: u32,
+    },
     /// Nothing that anybody sees: it goes on at a step.
     GoOn(Step),
     /// Nothing that anybody sees: it is over, with the word that its last seen step has answered.

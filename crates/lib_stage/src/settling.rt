@@ -41,6 +41,19 @@ pub fn settle<O: UserOs>(os: &mut O, number: u32, next: Next) -> Progress
             );
             Progress::Finished
         }
+        Next::AnswersEnds { reading, writing } => {
+            let registers = os.registers();
+            go_back(
+                os,
+                Regs {
+                    eax: 0,
+                    edx: reading,
+                    ecx: writing,
+                    ..registers
+                },
+            );
+            Progress::Finished
+        }
         Next::GoOn(step) => {
             go_on(os, number, step);
             Progress::Hidden

@@ -11,7 +11,8 @@ use Rattle.jos_base.specs.declared.registers.Regs.{Regs}
 use Rattle.jos_base.specs.Environments.{is_live}
 use Rattle.jos_base.specs.KernelState.{KernelState, slot_at, with_spaces}
 use Rattle.jos_base.specs.Words.{negated}
-use Rattle.lib_os.specs.declared.numbers.TheConstants.{DEVICE_CONSOLE, DEVICE_FILE, FD_MODE, REQUEST_BYTES, SERVICE_WRITE}
+use Rattle.lib_os.specs.declared.numbers.TheConstants.{DEVICE_CONSOLE, DEVICE_FILE, DEVICE_PIPE, FD_MODE, REQUEST_BYTES, SERVICE_WRITE}
+use Rattle.lib_os.specs.declared.place.PipeStep.TheVariants as pipe
 use Rattle.lib_os.specs.declared.place.Place.TheVariants as place
 use Rattle.lib_os.specs.declared.place.Step.TheVariants as step
 use Rattle.lib_os.specs.declared.service.Service.{Service}
@@ -34,6 +35,7 @@ use Rattle.lib_os.proofs.FileWrites.{write_buffer_refuses, write_file_goes_on, w
 use Rattle.lib_os.proofs.Loading.{loaded}
 use Rattle.lib_os.proofs.PageTaken.{refused_keeps, take_asked, take_holds, take_lives, taking_keeps, working_perm}
 use Rattle.lib_os.proofs.PathTaken.{path_untaken_keeps}
+use Rattle.lib_os.proofs.PipeBegun.{write_looks}
 use Rattle.lib_os.proofs.RequestTaken.{request_taking_keeps, step_taken}
 use Rattle.lib_stage.specs.declared.ask.Ask.TheVariants as ask
 use Rattle.lib_stage.specs.declared.ask.Next.{Next}
@@ -72,16 +74,18 @@ module _ (s : KernelState) (n fd va len : ℕ) (live : is_live (slot_at s n) ≡
 
   device_falls : (word : ℕ) → Falls write step.ReadingDevice (next_of_device va len word)
   device_falls word =
-      by_tests (word == DEVICE_FILE) (not (word == DEVICE_CONSOLE)) (not (is_buffer va (wanted_of len))) (len == 0)
+      by_tests (word == DEVICE_FILE) (word == DEVICE_PIPE) (not (word == DEVICE_CONSOLE)) (not (is_buffer va (wanted_of len))) (len == 0)
     where
-      by_tests : (of_file other outside nothing : Bool) →
-          Falls write step.ReadingDevice (if of_file then next.GoOn step.ReadingMode else if other then next.Answer (negated E_NOT_SUPP)
-          else if outside then next.Answer (negated E_INVAL) else if nothing then next.Answer 0 else next.GoOn step.TakingPage)
-      by_tests true other outside nothing = omega arith
-      by_tests false true outside nothing = tt
-      by_tests false false true nothing = tt
-      by_tests false false false true = tt
-      by_tests false false false false = omega arith
+      by_tests : (of_file of_pipe other outside nothing : Bool) →
+          Falls write step.ReadingDevice (if of_file then next.GoOn step.ReadingMode else if of_pipe then next.GoOn (step.Piped pipe.EndMode)
+          else if other then next.Answer (negated E_NOT_SUPP) else if outside then next.Answer (negated E_INVAL)
+          else if nothing then next.Answer 0 else next.GoOn step.TakingPage)
+      by_tests true of_pipe other outside nothing = omega arith
+      by_tests false true other outside nothing = omega arith
+      by_tests false false true outside nothing = tt
+      by_tests false false false true nothing = tt
+      by_tests false false false false true = tt
+      by_tests false false false false false = omega arith
 
   module _ (stands : place_of (slot_at s n) ≡ place.InService write step.ReadingDevice) where
     device_follows : (names : Names) (a : AbstractState) → StandsFor names s a → IsInOrder (loaded s n (device_va fd)) →
@@ -98,7 +102,7 @@ module _ (s : KernelState) (n fd va len : ℕ) (live : is_live (slot_at s n) ≡
               refl,
               (
                 names,
-                device_goes_on s n write fd refl stands h order step.TakingPage refl (
+                device_goes_on s n write fd refl stands h order step.TakingPage refl refl (
                   record { program = it.is_in.program; phase = it.is_in.phase; silent = it.is_in.silent; awake = it.is_in.awake },
                   record { below = it.below; console = device_console s n write fd refl stands h word; buffer = inside },
                   grind (arith, nat_tests),
@@ -118,6 +122,7 @@ module _ (s : KernelState) (n fd va len : ℕ) (live : is_live (slot_at s n) ≡
     write_device_holds =
         device_holds_each s n write fd refl live stands (next_of_device va len) device_falls device_follows
         (λ names a h order word. (refl, (names, write_file_goes_on s n fd h order va len stands word)))
+        (λ names a h order word. (refl, (names, write_looks s n fd h word order va len stands)))
 
   -- ---- the mode of a file
 

@@ -9,6 +9,7 @@ use Rattle.jos_base.specs.declared.numbers.TheConstants.{PGSIZE, UTEMP}
 use Rattle.jos_base.specs.Environments.{Slot, is_live}
 use Rattle.jos_base.specs.KernelState.{KernelState, slot_at, with_spaces}
 use Rattle.lib_os.specs.declared.numbers.TheConstants.{SERVICE_WRITE}
+use Rattle.lib_os.specs.declared.place.PipeStep.TheVariants as pipe
 use Rattle.lib_os.specs.declared.place.Place.TheVariants as place
 use Rattle.lib_os.specs.declared.place.Step.TheVariants as step
 use Rattle.lib_os.specs.declared.service.Service.{Service}
@@ -37,11 +38,15 @@ use Rattle.lib_write.specs.WriteStages.{next_behind, next_of_keeping, next_with_
 -- ---- where it goes on
 
 all_is : (start : ℕ) → next_with_all start ≡ next.GoOn (step_with_all start)
-all_is start = by_test (start == 0)
+all_is start = by_tests (start == 0) (start == PGSIZE)
   where
-    by_test : (t : Bool) → (if t then next.GoOn step.Printing else next.GoOn step.ReadingNumber) ≡ next.GoOn (if t then step.Printing else step.ReadingNumber)
-    by_test true = refl
-    by_test false = refl
+    by_tests : (printed piped : Bool) →
+        (if printed then next.GoOn step.Printing
+        else if piped then next.GoOn (step.Piped (pipe.Locking 0 0 0)) else next.GoOn step.ReadingNumber)
+        ≡ next.GoOn (if printed then step.Printing else if piped then step.Piped (pipe.Locking 0 0 0) else step.ReadingNumber)
+    by_tests true piped = refl
+    by_tests false true = refl
+    by_tests false false = refl
 
 behind_is : (va len start done : ℕ) → next_behind va len start done ≡ next.GoOn (step_behind va len start done)
 behind_is va len start done = by_tests (nat_le (wanted_from start len) done) ((va + done) % 2 ^ 32 % PGSIZE == 0)
@@ -68,16 +73,18 @@ next_is va len start done word left =
 behind_falls : (fd va len start done word left behind : ℕ) →
     Falls (service.Write fd va len) (step.KeepingBytes done word left start) (next_behind va len start behind)
 behind_falls fd va len start done word left behind =
-    by_tests (nat_le (wanted_from start len) behind) ((va + behind) % 2 ^ 32 % PGSIZE == 0) (start == 0)
+    by_tests (nat_le (wanted_from start len) behind) ((va + behind) % 2 ^ 32 % PGSIZE == 0) (start == 0) (start == PGSIZE)
   where
-    by_tests : (all edge printed : Bool) →
+    by_tests : (all edge printed piped : Bool) →
         Falls (service.Write fd va len) (step.KeepingBytes done word left start)
-        (if all then (if printed then next.GoOn step.Printing else next.GoOn step.ReadingNumber)
+        (if all then (if printed then next.GoOn step.Printing
+        else if piped then next.GoOn (step.Piped (pipe.Locking 0 0 0)) else next.GoOn step.ReadingNumber)
         else if edge then next.GoOn (step.BufferRegion behind start) else next.GoOn (step.GatheringBytes behind start))
-    by_tests true edge true = omega arith
-    by_tests true edge false = omega arith
-    by_tests false true printed = omega arith
-    by_tests false false printed = omega arith
+    by_tests true edge true piped = omega arith
+    by_tests true edge false true = omega arith
+    by_tests true edge false false = omega arith
+    by_tests false true printed piped = omega arith
+    by_tests false false printed piped = omega arith
 
 keeping_falls : (fd va len start done word left : ℕ) →
     Falls (service.Write fd va len) (step.KeepingBytes done word left start) (next_of_keeping va len start done word left)
@@ -158,28 +165,28 @@ module _ (s : KernelState) (n fd va len start done word left : ℕ) (live : is_l
   given : {names : Names} {a : AbstractState} (h : StandsFor names s a) → call.gives ≡ got (Answered 0)
   given h = ap (λ (z : CallStep Called). z.gives) (call_is h)
 
-  never : NeverFaults s call
-  never a h handled = absurd (let contradiction : ◌≡◌ {A = Got Called} to_handler (got (Answered 0)) = sym handled ∙ given h.1 in cc)
+  never : NeverFaults s n call
+  never a h turn handled = absurd (let contradiction : ◌≡◌ {A = Got Called} to_handler (got (Answered 0)) = sym handled ∙ given h.1 in cc)
 
   -- what follows it, by where it goes on
   abbrev keeping_to : Next → Plan
   keeping_to x = record { number = SERVICE_WRITE; asks = keeping_asked at_place word left; next = λ called. x }
 
   keeps : IsInOrder call.state → KeepsBy s n plan call
-  keeps order a h quiet =
+  keeps order a h turn quiet =
       let it = kept h.1 in
       subst (λ (z : CallStep Called). FollowsBy s n plan a z) (sym (call_is h.1))
       (subst (λ (x : Next). FollowsBy s n (keeping_to x) a (giving (with_spaces s it.spaces) (Answered 0))) (sym (next_is va len start done word left))
-      (refl, (h.0, it.stands (subst (λ (t : KernelState). IsInOrder t) (ap (λ (z : CallStep Called). z.state) (call_is h.1)) order))))
+      (refl, (h.0, it.stands (subst (λ (t : KernelState). IsInOrder t) (ap (λ (z : CallStep Called). z.state) (call_is h.1)) order) turn.last)))
 
   fails : FailsBy s n plan call
-  fails may a h =
+  fails may a h turn =
       let is_gone : call.gives ≡ gone = fails_gone (kept_at_once at_place left == 4) call.gives may in
       absurd (let contradiction : ◌≡◌ {A = Got Called} gone (got (Answered 0)) = sym is_gone ∙ given h.1 in cc)
 
   pub keeping_holds : ServiceHolds s n (writing (record { fd = fd; va = va; len = len; at = stage.Keeping done word left start }))
   keeping_holds =
       law_of s n plan write (step.KeepingBytes done word left start) here (subst (λ (z : CallStep Called). GoesOn s n plan z) (sym performed_is) goes)
-      (subst (λ (z : CallStep Called). NeverFaults s z) (sym performed_is) never)
+      (subst (λ (z : CallStep Called). NeverFaults s n z) (sym performed_is) never)
       (subst (λ (z : CallStep Called). IsInOrder z.state → KeepsBy s n plan z) (sym performed_is) keeps)
       (subst (λ (z : CallStep Called). FailsBy s n plan z) (sym performed_is) fails)

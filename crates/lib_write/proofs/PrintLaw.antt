@@ -20,6 +20,7 @@ use Rattle.lib_os.specs.Places.{place_of}
 use Rattle.lib_os.specs.StandsInHandler.{wanted_of}
 use Rattle.lib_os.specs.UserCalls.{CallStep, giving, got, system}
 use Rattle.lib_os.proofs.BytesPrinted.{IsPrinted, PrintedOn, cputs_goes_on, prints_bytes}
+use Rattle.lib_os.proofs.FileReturned.{returning_keeps, returning_lowers}
 use Rattle.lib_os.proofs.PageGiven.{give_asked, give_is, give_lives, releasing_keeps, releasing_lowers, without_working}
 use Rattle.lib_stage.specs.Asks.{performed}
 use Rattle.lib_stage.specs.Nexts.{is_gone}
@@ -75,13 +76,13 @@ module _ (s : KernelState) (n fd va len : ℕ) (live : is_live (slot_at s n) ≡
     }
 
     printing_keeps : IsInOrder printed.state → KeepsBy s n printing printed
-    printing_keeps order a h quiet =
+    printing_keeps order a h turn quiet =
         let it : IsPrinted s a n len (0 ∷ 0 ∷ 0 ∷ []) = prints_bytes h.1 n fd va len stands (0 ∷ 0 ∷ 0 ∷ []) in
         subst (λ (z : CallStep Called). FollowsBy s n printing a z) (sym it.step_is)
         (it.goes (subst (λ (t : KernelState). IsInOrder t) (ap (λ (z : CallStep Called). z.state) it.step_is) order))
 
     printing_fails : FailsBy s n printing printed
-    printing_fails may a h =
+    printing_fails may a h turn =
         let it : IsPrinted s a n len (0 ∷ 0 ∷ 0 ∷ []) = prints_bytes h.1 n fd va len stands (0 ∷ 0 ∷ 0 ∷ []) in
         subst (λ (bytes : List ℕ). (b : AbstractState) × (abs_step a n ≡ Some b) × (b.console ≡ a.console ++ bytes))
         (sym (ap (λ (z : CallStep Called). z.written) it.step_is)) it.fails
@@ -118,4 +119,29 @@ module _ (s : KernelState) (n fd va len : ℕ) (live : is_live (slot_at s n) ≡
     unfolding performed
     releasing_holds =
         law_with s n releasing write step.Releasing there (λ called is stays. (give_lives s n live).live) given_keeps
-        (λ may a h. absurd (let contradiction : false ≡ true = may in cc)) given_lowers
+        (λ may a h turn. absurd (let contradiction : false ≡ true = may in cc)) given_lowers
+
+  -- ---- it gives back the page from which the bytes of a pipe were put
+
+  module _ (answer : ℕ) (stands : place_of (slot_at s n) ≡ place.InService (service.Write fd va len) (step.Returning answer)) where
+    abbrev returning : Plan
+    returning = writing (record { fd = fd; va = va; len = len; at = stage.Returning answer })
+
+    back_there : StandsThere s n returning write (step.Returning answer)
+    back_there = record { stands = stands; plain = plainly refl; goes_on = refl; few = omega arith }
+
+    back_keeps : IsInOrder (give_asked s n).state → KeepsBy s n returning (give_asked s n)
+    back_keeps =
+        subst (λ (z : CallStep Called). IsInOrder z.state → KeepsBy s n returning z) (sym (give_is s n live))
+        (λ order. returning_keeps s n answer write stands order)
+
+    back_lowers : let did = upshot_by returning n (give_asked s n) (give_asked s n).gives in Lowers (Ok did.progress) n s did.state
+    back_lowers =
+        subst (λ (z : CallStep Called). let did = upshot_by returning n z z.gives in Lowers (Ok did.progress) n s did.state)
+        (sym (give_is s n live)) (returning_lowers s n answer write stands)
+
+    pub returning_holds : ServiceHolds s n (writing (record { fd = fd; va = va; len = len; at = stage.Returning answer }))
+    unfolding performed
+    returning_holds =
+        law_with s n returning write (step.Returning answer) back_there (λ called is stays. (give_lives s n live).live) back_keeps
+        (λ may a h turn. absurd (let contradiction : false ≡ true = may in cc)) back_lowers

@@ -24,7 +24,8 @@ use Rattle.lib_write.specs.WriteStages.{write_at, writing}
 use Rattle.lib_write.proofs.BeginLaw.{requesting_holds, taking_holds, write_device_holds, write_mode_holds}
 use Rattle.lib_write.proofs.GatherLaw.{gathering_holds}
 use Rattle.lib_write.proofs.KeepLaw.{keeping_holds}
-use Rattle.lib_write.proofs.PrintLaw.{printing_holds, releasing_holds}
+use Rattle.lib_write.proofs.EndLaw.{write_end_holds}
+use Rattle.lib_write.proofs.PrintLaw.{printing_holds, releasing_holds, returning_holds}
 
 module _ (s : KernelState) (n fd va len : ℕ) (live : is_live (slot_at s n) ≡ true) (small : AreSmall (slot_at s n).registers)
     (awake : (is_runnable (slot_at s n).status || is_running (slot_at s n).status) ≡ true) where
@@ -106,5 +107,5 @@ module _ (s : KernelState) (n fd va len : ℕ) (live : is_live (slot_at s n) ≡
       no_step (step.PuttingBytes done count word) stands refl (λ view k b h. let contradiction : false ≡ true = h.has.hands in cc)
   write_holds (step.FileFaulting done count) stands =
       no_step (step.FileFaulting done count) stands refl (λ view k b h. let contradiction : false ≡ true = h.0.hands in cc)
-  write_holds (step.Returning answer) stands =
-      no_step (step.Returning answer) stands refl (λ view k b h. let contradiction : false ≡ true = h.hands in cc)
+  write_holds (step.Returning answer) stands = returning_holds s n fd va len live answer stands
+  write_holds (step.Piped at) stands = write_end_holds s n fd va len live at stands

@@ -1,5 +1,7 @@
 -- write: what it asks at each stage, and what it does next by the reply. The bytes are kept in a page at UTEMP until all are there: those for the
--- console from its beginning on, and those for a file where the request has them by which the file server is asked to write them.
+-- console from its beginning on, and those for a file where the request has them by which the file server is asked to write them. Those for a pipe
+-- are there from its beginning on too; that they are for one is told by their place, which is kept as one page behind. They are moved into the pipe
+-- as `lib_pipe` tells.
 -- (MIT 6.828, lab 5: lib/fd.c, write, and lib/console.c, devcons_write.)
 use Rattle.std.specs.Prelude.{ℕ, ◌+◌, ◌-◌, ◌/◌, ◌%◌, ◌^◌, ◌==◌, not, nat_le, [], ◌∷◌, Option, Some, None, if◌then◌else◌}
 use Rattle.std.specs.Option.{option_map}
@@ -8,8 +10,9 @@ use Rattle.jos_base.specs.declared.called.Called.TheVariants.{Answered}
 use Rattle.jos_base.specs.declared.numbers.TheConstants.{E_INVAL, E_NOT_SUPP, PGSIZE, PTE_P, PTE_U, PTE_W}
 use Rattle.jos_base.specs.declared.numbers.TheConstants.{SYS_CPUTS, SYS_GETENVID, SYS_PAGE_ALLOC, SYS_PAGE_UNMAP, SYS_YIELD, UTEMP}
 use Rattle.jos_base.specs.Words.{negated}
-use Rattle.lib_os.specs.declared.numbers.TheConstants.{DEVICE_CONSOLE, DEVICE_FILE, FD_FILE, FD_MODE, FSREQ_WRITE, REQUEST_BYTES}
+use Rattle.lib_os.specs.declared.numbers.TheConstants.{DEVICE_CONSOLE, DEVICE_FILE, DEVICE_PIPE, FD_FILE, FD_MODE, FSREQ_WRITE, REQUEST_BYTES}
 use Rattle.lib_os.specs.declared.numbers.TheConstants.{REQUEST_COUNT, REQUEST_FILE, SERVICE_WRITE}
+use Rattle.lib_os.specs.declared.place.PipeStep.TheVariants as pipe
 use Rattle.lib_os.specs.declared.place.Step.{Step}
 use Rattle.lib_os.specs.declared.place.Step.TheVariants as step
 use Rattle.lib_os.specs.Answers.{moved_at_once}
@@ -29,6 +32,8 @@ use Rattle.lib_file.specs.Keeping.{keeping_asked, kept_at_once, next_va}
 use Rattle.lib_file.specs.Finding.{device_asked, next_of_entry, next_of_region}
 use Rattle.lib_request.specs.PageRequests.{clearing_asked, next_of_asking, reply_asked, request_asked}
 use Rattle.lib_request.specs.Replies.{reply_place}
+use Rattle.lib_pipe.specs.declared.ends.PipeService.TheVariants as end_of
+use Rattle.lib_pipe.specs.PipeStages as ends
 use Rattle.lib_write.specs.declared.write.Write.{Write}
 use Rattle.lib_write.specs.declared.write.WriteStage.{WriteStage}
 use Rattle.lib_write.specs.declared.write.WriteStage.TheVariants as stage
@@ -57,6 +62,8 @@ stage_at (step.Pausing id) = Some (stage.Pausing id)
 stage_at (step.Awaiting id) = Some (stage.Awaiting id)
 stage_at (step.Clearing id) = Some (stage.Clearing id)
 stage_at (step.ReadingReply id) = Some (stage.ReadingReply id)
+stage_at (step.Piped at) = option_map (λ at. stage.OfPipe at) (ends.stage_of at)
+stage_at (step.Returning answer) = Some (stage.Returning answer)
 stage_at _ = None
 
 abbrev pub write_at : ℕ → ℕ → ℕ → Step → Option Write
@@ -110,12 +117,15 @@ ask_of fd va len (stage.Pausing id) = ask.System SYS_YIELD no_args
 ask_of fd va len (stage.Awaiting id) = reply_asked
 ask_of fd va len (stage.Clearing id) = clearing_asked
 ask_of fd va len (stage.ReadingReply id) = ask.Load (reply_place id)
+ask_of fd va len (stage.OfPipe at) = ends.ask_of fd at
+ask_of fd va len (stage.Returning answer) = clearing_asked
 
 -- ---- what it does next
 
 abbrev pub next_of_device : ℕ → ℕ → ℕ → Next
 next_of_device va len device =
     if device == DEVICE_FILE then next.GoOn step.ReadingMode
+    else if device == DEVICE_PIPE then next.GoOn (step.Piped pipe.EndMode)
     else if not (device == DEVICE_CONSOLE) then next.Answer (negated E_NOT_SUPP)
     else if not (is_buffer va (wanted_of len)) then next.Answer (negated E_INVAL)
     else if len == 0 then next.Answer 0
@@ -137,7 +147,10 @@ next_of_request len word =
 
 -- its page has all bytes
 abbrev pub next_with_all : ℕ → Next
-next_with_all start = if start == 0 then next.GoOn step.Printing else next.GoOn step.ReadingNumber
+next_with_all start =
+    if start == 0 then next.GoOn step.Printing
+    else if start == PGSIZE then next.GoOn (step.Piped (pipe.Locking 0 0 0))
+    else next.GoOn step.ReadingNumber
 
 -- it has so many; at the next page of the buffer it looks at that
 abbrev pub next_behind : ℕ → ℕ → ℕ → ℕ → Next
@@ -184,6 +197,8 @@ next_of fd va len (stage.Pausing id) called = next.GoOn (step.Asking id)
 next_of fd va len (stage.Awaiting id) called = next.Show (step.Clearing id)
 next_of fd va len (stage.Clearing id) called = next.GoOn (step.ReadingReply id)
 next_of fd va len (stage.ReadingReply id) called = next.Answer (answer_of called)
+next_of fd va len (stage.OfPipe at) called = ends.next_of (end_of.Write len) va at (answer_of called)
+next_of fd va len (stage.Returning answer) called = next.GoBack answer
 
 -- ---- the plan
 

@@ -13,9 +13,11 @@ use lib_file::{
     next_of_entry, next_of_region,
 };
 use lib_os::{
-    DEVICE_CONSOLE, DEVICE_FILE, FD_FILE, FD_MODE, FSREQ_WRITE, REQUEST_BYTES, REQUEST_COUNT,
-    REQUEST_FILE, SERVICE_WRITE, Step, TRANSFER_MAX, answer_of, is_buffer,
+    DEVICE_CONSOLE, DEVICE_FILE, DEVICE_PIPE, FD_FILE, FD_MODE, FSREQ_WRITE, PipeStep,
+    REQUEST_BYTES, REQUEST_COUNT, REQUEST_FILE, SERVICE_WRITE, Step, TRANSFER_MAX, answer_of,
+    is_buffer,
 };
+use lib_pipe::{PipeService, PipeStage, ask_of_pipe, next_of_pipe, pipe_stage_of};
 use lib_request::{ask_clearing, ask_reply, ask_with_page, next_of_asking, reply_place};
 use lib_stage::{Ask, Next, Planned};
 
@@ -95,6 +97,14 @@ pub enum WriteStage {
     ReadingReply {
         id: u32,
     },
+    /// The descriptor names an end of a pipe, and write is at one of the stages of that.
+    OfPipe {
+        at: PipeStage,
+    },
+    /// It has moved its bytes into a pipe, and is about to give its page back, and to answer this.
+    Returning {
+        answer: u32,
+    },
 }
 
 /// write(fd, va, len), at a stage.
@@ -144,6 +154,11 @@ impl Write {
             Step::Awaiting { id } => WriteStage::Awaiting { id },
             Step::Clearing { id } => WriteStage::Clearing { id },
             Step::ReadingReply { id } => WriteStage::ReadingReply { id },
+            Step::Piped { at } => match pipe_stage_of(at) {
+                Some(at) => WriteStage::OfPipe { at },
+                None => return None,
+            },
+            Step::Returning { answer } => WriteStage::Returning { answer },
             _ => return None,
         };
         Some(Write { fd, va, len, at })
@@ -156,11 +171,11 @@ impl Write {
         self.len.min(TRANSFER_MAX)
     }
 
-    /// How many it takes where they begin at this place in its page.
+    /// How many it takes where they begin at this place in its page, or, for a pipe, one page behind that.
     fn wanted_from(&self, start: u32) -> u32
         ensures { result ≡ stages.wanted_from start self.now.len }
     {
-        self.len.min(PGSIZE.saturating_sub(start))
+        self.len.min(PGSIZE - start % PGSIZE)
     }
 
     /// How many it takes at once, behind so many.
@@ -191,6 +206,11 @@ impl Write {
     {
         if device == DEVICE_FILE {
             return Next::GoOn(Step::ReadingMode);
+        }
+        if device == DEVICE_PIPE {
+            return Next::GoOn(Step::Piped {
+                at: PipeStep::EndMode,
+            });
         }
         if device != DEVICE_CONSOLE {
             return Next::Answer(E_NOT_SUPP.wrapping_neg());
@@ -253,6 +273,15 @@ fn next_with_all(start: u32) -> Next
 {
     if start == 0 {
         return Next::GoOn(Step::Printing);
+    }
+    if start == PGSIZE {
+        return Next::GoOn(Step::Piped {
+            at: PipeStep::Locking {
+                done: 0,
+                id: 0,
+                runs: 0,
+            },
+        });
     }
     Next::GoOn(Step::ReadingNumber)
 }
@@ -331,6 +360,8 @@ impl Planned for Write {
             WriteStage::ReadingReply { id } => Ask::Load {
                 va: reply_place(id),
             },
+            WriteStage::OfPipe { at } => ask_of_pipe(self.fd, at),
+            WriteStage::Returning { answer: _ } => ask_clearing(),
         }
     }
 
@@ -399,6 +430,10 @@ impl Planned for Write {
             WriteStage::Awaiting { id } => Next::Show(Step::Clearing { id }),
             WriteStage::Clearing { id } => Next::GoOn(Step::ReadingReply { id }),
             WriteStage::ReadingReply { id: _ } => Next::Answer(word),
+            WriteStage::OfPipe { at } => {
+                next_of_pipe(PipeService::Write { len: self.len }, self.va, at, word)
+            }
+            WriteStage::Returning { answer } => Next::GoBack(answer),
         }
     }
 }

@@ -115,7 +115,7 @@ static void of_messages(void)
 static void of_numbers(void)
 {
     static const uint32_t numbers[] = {
-        10, 11, 12, 13, 14, 15, 16, 17, 19, 20, 21, 22, 0x40, 0x100, 0x80000001, 0xFFFFFFFF,
+        10, 11, 12, 13, 14, 15, 16, 17, 19, 21, 22, 0x40, 0x100, 0x80000001, 0xFFFFFFFF,
     };
 
     for (uint32_t k = 0; k < COUNT(numbers); k++) {

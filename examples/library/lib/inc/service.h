@@ -33,6 +33,7 @@ enum {
     SERVICE_remove = 17,
     SERVICE_sync = 18,
     SERVICE_dup = 19,
+    SERVICE_pipe = 20,
 };
 
 /* errors of the services on files, beside those of error.h */
@@ -113,15 +114,28 @@ int open(uint32_t path, uint32_t mode); /* the lowest descriptor that is free */
 int close(uint32_t fd);
 int dup(uint32_t old_fd, uint32_t new_fd); /* new_fd, which is closed first where it is open */
 
-/* ---- files.c: what a descriptor names, the console or a file. */
+/* ---- pipes.c */
+
+/* the bytes that a pipe holds */
+#define PIPESIZE 32
+
+/* A pipe gets the two lowest descriptors that are free: of what is written to the second the first one reads. */
+struct pipe {
+    uint32_t reading, writing;
+};
+
+int pipe(struct pipe *pipe); /* 0 */
+
+/* ---- files.c: what a descriptor names, the console, a file or an end of a pipe. */
 
 /* the most bytes of one read and of one write, and of one write to a file: of more, only so many are taken */
 #define TRANSFER_MAX 4096
 #define FILE_WRITE_MAX 4088
 
-/* how many bytes were read: of a file those that are left, of the console one, and 0 at the end of either */
+/* how many bytes were read: of a file those that are left, of the console one, and 0 at the end of either; of a pipe those that it has, one at
+   least, and 0 when nobody has its writing end any more */
 int read(uint32_t fd, uint32_t va, uint32_t len);
-int write(uint32_t fd, uint32_t va, uint32_t len); /* how many bytes were written */
+int write(uint32_t fd, uint32_t va, uint32_t len); /* how many bytes were written: to a pipe all, but where nobody has its reading end any more */
 
 /* what stat tells: a name with zeros behind, a size in bytes, and 1 for a directory */
 struct stat {

@@ -1,7 +1,18 @@
 use Rattle.std.proofs.Common.{Ok, Err}
+use Rattle.jos_host.specs.Frames.{around}
 use Rattle.lib_stage.proofs.FramesTaken.{frames_taken}
-use Rattle.lib_stage.proofs.Driven.{asked_so, settled_so, stopped_so, stopped_ordered, law_step, law_leaves, law_takes}
+use Rattle.lib_stage.proofs.Driven.{asked_so, counted_so, settled_ordered, settled_so, stopped_so, stopped_ordered, law_step, law_leaves, law_takes}
 use Rattle.lib_stage.proofs.driving.drive.Goals as goal
+
+pub returns-in-Ok-clause-step : goal.returns-in-Ok-clause-step
+returns-in-Ok-clause-step g c =
+    counted_so (Ok c.settle.result) (g.O.UserOs.slot c.args.os.now) (g.O.UserOs.state c.args.os.now) (g.O.UserOs.state c.settle.new.os)
+    (around g.H.Host.console c.args.host.now c.perform.new.host) (g.O.UserOs.written c.args.os.now) (g.O.UserOs.written c.perform.new.os)
+    (g.O.UserOs.written c.settle.new.os) c.settle.ensures.written
+    (law_step (g.O.UserOs.state c.args.os.now) (g.O.UserOs.slot c.args.os.now) (g.S.Planned.plan c.args.stage.now) c.requires.holds (Ok c.settle.result) (g.O.UserOs.state c.settle.new.os) _
+    (settled_so (g.O.UserOs.state c.args.os.now) (g.O.UserOs.slot c.args.os.now) (g.S.Planned.plan c.args.stage.now) (g.O.UserOs.state c.perform.new.os) _ c.in-Ok.called (g.O.UserOs.state c.settle.new.os) (g.O.UserOs.slot c.perform.new.os) c.settle.result
+    c.perform.ensures.slot (rw c.ask.ensures.asks at c.in-Ok.ensures.step) (rw c.next.ensures at c.settle.ensures.progress) (rw (c.next.ensures, c.number.ensures.number) at c.settle.ensures.state))
+    (settled_ordered (g.O.UserOs.state c.args.os.now) (g.O.UserOs.slot c.args.os.now) (g.S.Planned.plan c.args.stage.now) (g.O.UserOs.state c.perform.new.os) _ c.in-Ok.called (rw c.ask.ensures.asks at c.in-Ok.ensures.step) c.perform.ensures.in_order))
 
 pub returns-in-Ok-clause-leaves : goal.returns-in-Ok-clause-leaves
 returns-in-Ok-clause-leaves g c =

@@ -190,9 +190,10 @@ returns-then-slot-eq0-clause-told g c =
     let b = subst (λ (last : Result StepOutcome Failed). HasMade g at last) c.in-Err.is (has_made g at) in
     let is_first = c.if-slot-eq0.true in
     let first : (c.args.slot == 0) ≡ true = grind (arith, nat_tests, is_first) in
+    let zero : c.args.slot ≡ 0 = grind (arith, nat_tests, is_first) in
     failed_quietly (record {
       before = before_last g at (Err c.in-Err.failed) b;
-      none = λ a stands. subst (λ (t : Bool). WouldFollow t c.args.slot a b.step.0) first (b.step.2 a stands);
+      none = λ a stands. subst (λ (t : Bool). WouldFollow t c.args.slot a b.step.0) first (b.step.2 a stands (λ other. absurd (other zero)));
       slot = c.make_steps-made.ensures.slot ∙ before.slot;
       book = λ i. (before.rest i).book;
       counts = c.count_steps-then-slot-eq0.ensures.counted;
@@ -208,7 +209,7 @@ returns-else-slot-eq0-clause-told g c =
     let other : (c.args.slot == 0) ≡ false = grind (arith, nat_tests, no_first) in
     failed_last (record {
       before = before_last g at (Err c.in-Err.failed) b;
-      would = λ a stands. subst (λ (t : Bool). WouldFollow t c.args.slot a b.step.0) other (b.step.2 a stands);
+      would = λ a stands may. subst (λ (t : Bool). WouldFollow t c.args.slot a b.step.0) other (b.step.2 a stands may);
       slot = c.make_steps-made.ensures.slot ∙ before.slot;
       book = c.tell_failed_steps.ensures
           ∙ (λ i. record (before.rest i).book { visible = (before.rest i).book.visible + (c.make_steps-made.result.going + 1) });

@@ -16,5 +16,6 @@ returns c =
     let same = slot_looked machine is c.self.inside.slot c.environment-environment.ensures in
     rw (← c.self.view_is) (has_words machine c.self.inside.slot sound (in_order machine.system (left_of machine.input) sound keeps)
     (subst (λ (k : Slot). (i : ℕ) → get_or k.extra i 0 < 2 ^ 32) same c.are_words.ensures)
+    (subst (λ (k : Slot). k.runs < 2 ^ 32) same (omega arith))
     (subst (λ (k : Slot). k.rendezvous.value < 2 ^ 32) same (omega arith))
     (subst (λ (k : Slot). k.rendezvous.sender < 2 ^ 32) same (omega arith)))

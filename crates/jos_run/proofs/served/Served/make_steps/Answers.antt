@@ -75,7 +75,7 @@ returns-in-InService-clause-made g c =
     subst (λ (d : Option Disk). MakesSteps n 0 c.came_with-in-InService.result (beside s disk) (beside after d) output) told
     (library_made disk s after n output user c.requires.awake c.raised_by-trap.result
     (subst (λ (p : Place). Raises p n s c.raised_by-trap.result after) (sym is) c.raised_by-trap.ensures)
-    c.drive-answer.result c.came_with-in-InService.result c.came_with-in-InService.ensures.answer c.came_with-in-InService.ensures.trap
+    c.keep_words.ensures.counted c.drive-answer.result c.came_with-in-InService.result c.came_with-in-InService.ensures.answer c.came_with-in-InService.ensures.trap
     c.drive-answer.ensures.step c.drive-answer.ensures.leaves c.drive-answer.ensures.lowers
     (subst (λ (m : ℕ). GivesUp c.drive-answer.result (slot_at s n) (slot_at after m)) same c.drive-answer.ensures.gives_up)
     c.drive-answer.ensures.by_place
@@ -98,7 +98,7 @@ returns-in-InHandler-clause-made g c =
     subst (λ (d : Option Disk). MakesSteps n 0 c.came_with-in-InHandler.result (beside s disk) (beside after d) output) told
     (library_made disk s after n output user c.requires.awake c.raised_again-trap.result
     (subst (λ (p : Place). Raises p n s c.raised_again-trap.result after) (sym is) c.raised_again-trap.ensures)
-    c.drive-handled.result c.came_with-in-InHandler.result c.came_with-in-InHandler.ensures.answer c.came_with-in-InHandler.ensures.trap
+    c.keep_words.ensures.counted c.drive-handled.result c.came_with-in-InHandler.result c.came_with-in-InHandler.ensures.answer c.came_with-in-InHandler.ensures.trap
     c.drive-handled.ensures.step c.drive-handled.ensures.leaves c.drive-handled.ensures.lowers
     (subst (λ (m : ℕ). GivesUp c.drive-handled.result (slot_at s n) (slot_at after m)) same c.drive-handled.ensures.gives_up)
     c.drive-handled.ensures.by_place (handler_calm s after n c.in-InHandler.step is c.drive-handled.result))

@@ -1,0 +1,9 @@
+pub mod EndStores
+pub mod EndStored
+pub mod MakingTakes
+pub mod MakingLaw
+pub mod PipeAside
+pub mod EndSteps
+pub mod EndsHold
+pub mod EndsLaw
+pub mod ShortLocks

@@ -1,0 +1,3 @@
+pub mod MakingStages
+pub mod PipeStages
+pub mod ShortLocks
