@@ -21,9 +21,10 @@ type Failure = (
 );
 
 // A run of the image `h` makes five calls: the size, the bytes, the input's end, the line and the note. An example program is
-// written over the 32 bytes of `e` by three: the file, its bytes and the note.
+// written over the 32 bytes of `e` by three: the file, its bytes and the note. So is the disk of a program that is made from a
+// number, before all calls of its run; where the number is out of its range, the note is all.
 #[rattlefmt::skip]
-static FAILURES: [Failure; 9] = [
+static FAILURES: [Failure; 12] = [
     (&["exo", "h"], 0, 7, b"", "host fault\n", 32),
     (&["exo", "h"], 1, 7, b"", "host fault\n", 32),
     (&["exo", "h"], 2, 7, b"", "host fault\n", 32),
@@ -33,6 +34,9 @@ static FAILURES: [Failure; 9] = [
     (&["demo", "xhello", "e"], 0, 7, b"", "host fault\n", 32),
     (&["demo", "xhello", "e"], 1, 7, b"", "host fault\n", 0),
     (&["demo", "xhello", "e"], 2, 7, b"", "", 119),
+    (&["gen", "1", "e"], 0, 7, b"", "host fault\n", 32),
+    (&["gen", "1", "e"], 1, 7, b"", "host fault\n", 0),
+    (&["gen", "0", "e"], 0, 7, b"", "", 32),
 ];
 
 /// Ends the test where the command did not end so.

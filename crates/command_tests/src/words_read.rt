@@ -69,6 +69,10 @@ fn add_command(line: &mut String, command: &CommandWords) -> Result<(), AllocErr
             add_word(line, "cat ", Some(cat.disk))?;
             add_word(line, " ", Some(cat.path))
         }
+        CommandWords::Gen(words) => {
+            add_number(line, "gen seed ", Some(words.seed))?;
+            add_word(line, " ", Some(words.disk))
+        }
     }
 }
 
@@ -119,7 +123,10 @@ ls|d => ls d@1
 ls|d|a/b => ls d@1 path a/b@2
 ls|--|-d| => ls -d@2 path @3
 cat|d|a => cat d@1 a@2
-cat|--|--|-a => cat --@2 -a@3";
+cat|--|--|-a => cat --@2 -a@3
+gen|1|d => gen seed 1@1 d@2
+gen|0004294967296|--|-d => gen seed 4294967296@1 -d@3
+gen|d|1 => Usage";
 
 #[test]
 fn each_value_is_read_with_its_place(rt: HostRuntime) -> Result<(), AllocError> {

@@ -13,6 +13,7 @@
 //! | `elf write NAME` | an image that is written, and what it is read as |
 //! | `asm BASE ITEMS` | the bytes of a program, or its fault |
 //! | `demo "NAME"` | whether there is such an example program, and its file |
+//! | `work SEED` | how many children the program of a seed has, how many bytes each of them writes, and its file |
 #![tactic(auto)]
 
 mod images;
@@ -32,6 +33,7 @@ impl AnswersCases for Tried {
             "elf" => images::answer(alloc, out, words),
             "asm" => programs::assemble(alloc, out, words),
             "demo" => programs::demo(alloc, out, words),
+            "work" => programs::tell_work(alloc, out, words),
             _ => Ok(out.push_str("no case")?),
         }
     }

@@ -8,7 +8,7 @@ ghost use Rattle.jos_asm.specs.Calls.{IsName};
 use case_words::Words;
 use jos_asm::{Builder, NAME_MAX};
 use jos_base::NoMemory;
-use jos_demo::{is_program, program};
+use jos_demo::{is_program, program, work, workload_of};
 use jos_isa::{Decoded, Row, decode};
 use std::alloc::{AllocError, Global};
 use std::io;
@@ -113,6 +113,19 @@ pub fn demo(alloc: Global, out: &mut String, words: Words) -> io::Result<()> {
     match program(alloc, name) {
         Ok(Some(file)) => out.push_str(hex::encode(alloc, &file)?.as_str())?,
         Ok(None) => out.push_str("no file")?,
+        Err(NoMemory) => out.push_str("out of memory")?,
+    }
+    Ok(())
+}
+
+/// How much the program of a seed has to do, and its file.
+pub fn tell_work(alloc: Global, out: &mut String, mut words: Words) -> io::Result<()> {
+    let workload = workload_of(words.number());
+    let children = workload.children as u32;
+    let bytes = workload.bytes;
+    write!(out, "{children:x} {bytes:x} ")?;
+    match work(alloc, workload) {
+        Ok(file) => out.push_str(hex::encode(alloc, &file)?.as_str())?,
         Err(NoMemory) => out.push_str("out of memory")?,
     }
     Ok(())

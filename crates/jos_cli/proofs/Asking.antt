@@ -8,11 +8,13 @@ use Rattle.jos_host.specs.Frames.{from_to}
 use Rattle.std.proofs.lemmas.List.{append-nil, replicate-append-replicate}
 use Rattle.std.proofs.Common.{append_assoc}
 use Rattle.jos_words.specs.Arguments.{Word}
-use Rattle.jos_words.specs.Commands.{Command, exo, run, demo, mkfs, ls, cat}
+use Rattle.jos_words.specs.Commands.{Command, exo, run, demo, mkfs, ls, cat, gen}
 use Rattle.fs_image.specs.DiskHeld.{IsReadInPieces}
+use Rattle.jos_cli.specs.declared.outcome.Which.{Which}
+use Rattle.jos_cli.specs.Limits.{limit_of_seed}
 use Rattle.jos_cli.specs.Found.{sources_of_exo}
 use Rattle.jos_run.specs.DiskTouches.{AreDiskCalls}
-use Rattle.jos_cli.specs.FilesAsked.{AsksFor, AsksAll, MovesBlocks, AsksFiles, read_calls, schedule_calls, write_calls, files_calls, source_calls, mkfs_calls}
+use Rattle.jos_cli.specs.FilesAsked.{AsksFor, AsksAll, MovesBlocks, AsksWorkBy, AsksFiles, read_calls, schedule_calls, write_calls, files_calls, source_calls, mkfs_calls}
 use Rattle.jos_cli.specs.FilesAsked.{note_calls, AsksNotes, AsksSomeNotes, AsksNote}
 
 -- none is made
@@ -88,6 +90,11 @@ unfolding AreDiskCalls
 moves_none disk None new same = ([], tt, same)
 moves_none disk (Some asked) new same = ([], tt, same ∙ ap (λ l. Some l) (sym (append-nil asked)))
 
+-- no disk is made
+no_work : (passed : Option Which) (disk : List ℕ) (old new : Option (List Asked)) → new ≡ old → AsksWorkBy passed disk (from_to old new)
+no_work (Some which) disk old new same = same
+no_work None disk old new same = inl (asks_none (write_calls disk) old new same)
+
 -- a command may make no call
 pub asks_no_more : (command : Option Command) (old new : Option (List Asked)) → new ≡ old → AsksFiles command (from_to old new)
 asks_no_more None old new same = same
@@ -97,6 +104,7 @@ asks_no_more (Some (demo d)) old new same = asks_none (write_calls d.file.text) 
 asks_no_more (Some (mkfs m)) old new same = asks_none (mkfs_calls m) old new same
 asks_no_more (Some (ls l)) old new same = reads_none l.disk.text old new same
 asks_no_more (Some (cat c)) old new same = reads_none c.disk.text old new same
+asks_no_more (Some (gen g)) old new same = no_work (limit_of_seed g.seed) g.disk.text old new same
 
 -- ---- notes
 

@@ -99,7 +99,7 @@ is_run told told_input command faults own console h cause files input e f i c ca
 
 -- ---- a run under the library
 
-none_booted : {X : Type 0} (state : Option X) → state ≡ None → IsSome state → ⊥
+pub none_booted : {X : Type 0} (state : Option X) → state ≡ None → IsSome state → ⊥
 none_booted None e h = let some = h in cc
 none_booted (Some x) e h = cc
 
@@ -119,6 +119,7 @@ program_case p disks faults (outcome.Limit which.Input) console h can cause calm
 program_case p disks faults (outcome.Limit which.Blocks) console h can cause calm = absurd h
 program_case p disks faults (outcome.Limit which.File) console h can cause calm = absurd h
 program_case p disks faults (outcome.Limit which.Args) console h can cause calm = absurd h
+program_case p disks faults (outcome.Limit which.Seed) console h can cause calm = absurd h
 program_case p disks faults outcome.Usage console h can cause calm = absurd h
 program_case p disks faults (outcome.Absent word) console h can cause calm = absurd h
 program_case p disks faults (outcome.BadSchedule fault) console h can cause calm = absurd h
@@ -194,7 +195,7 @@ makes m files can =
     )
 
 -- a disk is there
-there : (file : FileAt) (bytes : List ℕ) (fault : Option ImageFault) → file.bytes ≡ Some bytes → checked (held_of bytes) ≡ checked_by fault (held_of bytes) → fault ≡ None →
+pub there : (file : FileAt) (bytes : List ℕ) (fault : Option ImageFault) → file.bytes ≡ Some bytes → checked (held_of bytes) ≡ checked_by fault (held_of bytes) → fault ≡ None →
     disk_of file ≡ Ok (held_of bytes)
 unfolding disk_of
 there file bytes fault stands same none =

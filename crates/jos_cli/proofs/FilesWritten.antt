@@ -1,4 +1,5 @@
 -- A file that is made and then written from its beginning.
+use mathlib.Core.Logic.{inl, inr}
 use Rattle.std.proofs.Common.{◌≡◌, ℕ, ◌+◌, Bool, true, false, List, [], ◌++◌, length, Option, Some, None, Result, Ok}
 use Rattle.std.proofs.Common.{Err, refl, sym, ap, ◌∙◌, subst, cond, append-nil, arith}
 use Rattle.std.specs.Prelude.{unwrap_or, OnOk}
@@ -11,11 +12,14 @@ use Rattle.jos_cli.specs.declared.outcome.Outcome.{Outcome}
 use Rattle.jos_cli.specs.declared.outcome.Outcome.TheVariants as outcome
 use Rattle.jos_kernel.specs.declared.report.Stopped.{Stopped}
 use Rattle.jos_host.specs.Frames.{Around, from_to}
-use Rattle.jos_words.specs.Commands.{Command, Mkfs, exo, run, demo, mkfs, ls, cat}
+use Rattle.jos_words.specs.Commands.{Command, Mkfs, Gen, exo, run, demo, mkfs, ls, cat, gen}
 use Rattle.jos_cli.specs.Commands.{program_file}
-use Rattle.jos_cli.specs.Making.{disk_in}
+use Rattle.jos_cli.specs.declared.outcome.Which.{Which}
+use Rattle.jos_cli.specs.Limits.{limit_of_seed}
+use Rattle.jos_cli.specs.Making.{disk_in, work_disk}
 use Rattle.jos_run.specs.DiskTouches.{KeepsFiles}
-use Rattle.jos_cli.specs.FilesLeft.{KeepsOthers, told_with, told_with_disk, LeavesBy, LeavesBlocks, LeavesFiles, LeavesGoodDisk}
+use Rattle.jos_cli.specs.FilesLeft.{KeepsOthers, told_with, told_with_disk, LeavesBy, LeavesBlocks, LeavesMadeAndRun, LeavesWorkBy}
+use Rattle.jos_cli.specs.FilesLeft.{LeavesFiles, LeavesAtNoMemory, LeavesGoodDisk}
 
 pub itself : (name : List ℕ) → bytes_eq name name ≡ true
 itself name = (bytes_eq-Decides name name).1 refl
@@ -46,13 +50,17 @@ pub keeps_all : (old new : Option Files) (name : List ℕ) → new ≡ old → K
 keeps_all None new name e = e
 keeps_all (Some files) new name e = (files, e, λ q apart. refl)
 
+-- under every other name the same stands
+elsewhere : (files : Files) (name bytes q : List ℕ) → (q ≡ name → ⊥) → with_bytes files name bytes q ≡ files q
+elsewhere files name bytes q apart = go (bytes_eq q name) refl
+  where
+    go : (b : Bool) → bytes_eq q name ≡ b → cond b (Some bytes) (files q) ≡ files q
+    go true e = absurd (apart ((bytes_eq-Decides q name).0 e))
+    go false e = refl
+
 keeps_others : (old new : Option Files) (name bytes : List ℕ) → new ≡ told_with old name bytes → KeepsOthers name (from_to old new)
 keeps_others None new name bytes e = e
-keeps_others (Some files) new name bytes e = (with_bytes files name bytes, e, λ q apart. elsewhere q apart (bytes_eq q name) refl)
-  where
-    elsewhere : (q : List ℕ) → (q ≡ name → ⊥) → (b : Bool) → bytes_eq q name ≡ b → cond b (Some bytes) (files q) ≡ files q
-    elsewhere q apart true e = absurd (apart ((bytes_eq-Decides q name).0 e))
-    elsewhere q apart false e = refl
+keeps_others (Some files) new name bytes e = (with_bytes files name bytes, e, λ q apart. elsewhere files name bytes q apart)
 
 disk_others : (old new : Option Files) (m : Mkfs) → new ≡ told_with_disk old m → KeepsOthers m.disk.text (from_to old new)
 disk_others None new m e = e
@@ -109,6 +117,58 @@ blocks_kept name old new (outcome.BadDisk fault) h = keeps_disk name old new h
 blocks_kept name old new (outcome.NotThere errno) h = keeps_disk name old new h
 blocks_kept name old new (outcome.BadMake fault) h = keeps_disk name old new h
 
+-- ---- the disk that is made and then run
+
+-- the run moved blocks of it
+moved_others : (name bytes : List ℕ) (old new : Option Files) → KeepsFiles name (told_with old name bytes) new → KeepsOthers name (from_to old new)
+moved_others name bytes None new h = h
+moved_others name bytes (Some files) new h = (h.0, h.1, λ q apart. h.2 q apart ∙ elsewhere files name bytes q apart)
+
+module _ (name bytes : List ℕ) (old new : Option Files) where
+  -- what a run of it leaves
+  pub made_and_run : (result : Outcome) → LeavesBlocks name result (from_to (told_with old name bytes) new) →
+      LeavesMadeAndRun name (told_with old name bytes) result (from_to old new)
+  made_and_run (outcome.HostFault stopped) h = moved_others name bytes old new h
+  made_and_run outcome.NoMemory h = inr h
+  made_and_run (outcome.Ran report trace) h = h
+  made_and_run outcome.Usage h = h
+  made_and_run (outcome.Absent word) h = h
+  made_and_run (outcome.Limit which) h = h
+  made_and_run (outcome.BadImage word fault) h = h
+  made_and_run (outcome.BadSchedule fault) h = h
+  made_and_run (outcome.Made count) h = h
+  made_and_run (outcome.BadDisk fault) h = h
+  made_and_run (outcome.NotThere errno) h = h
+  made_and_run (outcome.BadMake fault) h = h
+
+  run_others : (result : Outcome) → LeavesMadeAndRun name (told_with old name bytes) result (from_to old new) → KeepsOthers name (from_to old new)
+  run_others (outcome.HostFault stopped) h = h
+  run_others outcome.NoMemory (inl h) = keeps_all old new name h
+  run_others outcome.NoMemory (inr h) = keeps_others old new name bytes h
+  run_others (outcome.Ran report trace) h = moved_others name bytes old new h
+  run_others outcome.Usage h = keeps_others old new name bytes h
+  run_others (outcome.Absent word) h = keeps_others old new name bytes h
+  run_others (outcome.Limit which) h = keeps_others old new name bytes h
+  run_others (outcome.BadImage word fault) h = keeps_others old new name bytes h
+  run_others (outcome.BadSchedule fault) h = keeps_others old new name bytes h
+  run_others (outcome.Made count) h = keeps_others old new name bytes h
+  run_others (outcome.BadDisk fault) h = keeps_others old new name bytes h
+  run_others (outcome.NotThere errno) h = keeps_others old new name bytes h
+  run_others (outcome.BadMake fault) h = keeps_others old new name bytes h
+
+work_fault : (passed : Option Which) (g : Gen) (old new later : Option Files) (result : Outcome) (stopped : Stopped) → LeavesWorkBy passed g result (from_to old new) →
+    later ≡ new → LeavesWorkBy passed g (outcome.HostFault stopped) (from_to old later)
+work_fault (Some which) g old new later result stopped h same = same ∙ h
+work_fault None g old new later result stopped h same =
+    subst (λ (f : Option Files). KeepsOthers g.disk.text (from_to old f)) (sym same) (run_others g.disk.text (work_disk g.seed.value) old new result h)
+
+-- none was made
+work_kept : (passed : Option Which) (g : Gen) (told : Option Files) → LeavesWorkBy passed g outcome.NoMemory (from_to told told)
+work_kept (Some which) g told = refl
+work_kept None g told = inl refl
+
+-- ---- all commands
+
 pub leaves_fault : (old new later : Option Files) (command : Option Command) (result : Outcome) (stopped : Stopped) → LeavesFiles command result (from_to old new) → later ≡ new →
     LeavesFiles command (outcome.HostFault stopped) (from_to old later)
 leaves_fault old new later None result stopped h same = same ∙ h
@@ -124,16 +184,23 @@ leaves_fault old new later (Some (mkfs m)) result stopped h same =
     (by_fault old new m.disk.text (told_with_disk old m) (disk_others old new m) result h)
 leaves_fault old new later (Some (ls l)) result stopped h same = same ∙ h
 leaves_fault old new later (Some (cat c)) result stopped h same = same ∙ h
+leaves_fault old new later (Some (gen g)) result stopped h same = work_fault (limit_of_seed g.seed) g old new later result stopped h same
 
 -- where there was no memory
-pub leaves_no_memory : (command : Option Command) (old new : Option Files) → LeavesFiles command outcome.NoMemory (from_to old new) → new ≡ old
-leaves_no_memory None old new h = h
-leaves_no_memory (Some (exo e)) old new h = h
-leaves_no_memory (Some (run r)) old new h = h
-leaves_no_memory (Some (demo d)) old new h = h
-leaves_no_memory (Some (mkfs m)) old new h = h
-leaves_no_memory (Some (ls l)) old new h = h
-leaves_no_memory (Some (cat c)) old new h = h
+leaves_no_memory : (command : Option Command) (told : Around (Option Files)) → LeavesFiles command outcome.NoMemory told → LeavesAtNoMemory command told
+leaves_no_memory None told h = h
+leaves_no_memory (Some (exo e)) told h = h
+leaves_no_memory (Some (run r)) told h = h
+leaves_no_memory (Some (demo d)) told h = h
+leaves_no_memory (Some (mkfs m)) told h = h
+leaves_no_memory (Some (ls l)) told h = h
+leaves_no_memory (Some (cat c)) told h = h
+leaves_no_memory (Some (gen g)) told h = h
+
+pub leaves_at_no_memory : (command : Option Command) (old new later : Option Files) → LeavesFiles command outcome.NoMemory (from_to old new) → later ≡ new →
+    LeavesAtNoMemory command (from_to old later)
+leaves_at_no_memory command old new later h same =
+    subst (λ (f : Option Files). LeavesAtNoMemory command (from_to old f)) (sym same) (leaves_no_memory command (from_to old new) h)
 
 pub keeps_files : (command : Option Command) (told : Option Files) → LeavesFiles command outcome.NoMemory (from_to told told)
 keeps_files None told = refl
@@ -143,6 +210,7 @@ keeps_files (Some (demo d)) told = refl
 keeps_files (Some (mkfs m)) told = refl
 keeps_files (Some (ls l)) told = refl
 keeps_files (Some (cat c)) told = refl
+keeps_files (Some (gen g)) told = work_kept (limit_of_seed g.seed) g told
 
 pub no_disk : (command : Option Command) (told : Around (Option Files)) → LeavesGoodDisk command outcome.NoMemory told
 no_disk None told = tt
@@ -152,6 +220,7 @@ no_disk (Some (demo d)) told = tt
 no_disk (Some (mkfs m)) told = tt
 no_disk (Some (ls l)) told = tt
 no_disk (Some (cat c)) told = tt
+no_disk (Some (gen g)) told = tt
 
 -- a failed call of the host tells of no disk
 pub no_good_disk : (command : Option Command) (stopped : Stopped) (told : Around (Option Files)) → LeavesGoodDisk command (outcome.HostFault stopped) told
@@ -162,3 +231,4 @@ no_good_disk (Some (demo d)) stopped told = tt
 no_good_disk (Some (mkfs m)) stopped told = tt
 no_good_disk (Some (ls l)) stopped told = tt
 no_good_disk (Some (cat c)) stopped told = tt
+no_good_disk (Some (gen g)) stopped told = tt

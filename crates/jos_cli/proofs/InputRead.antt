@@ -39,7 +39,7 @@ module _ (E : Type 0) (mid new : Option (List ℕ)) (buffer rest part : List ℕ
 pub within_limit : (input : List ℕ) → length input ≤ INPUT_MAX → input_within input ≡ Ok input
 within_limit input h = within INPUT_MAX Input 0 input h
 
-past_limit : (input : List ℕ) → INPUT_MAX < length input → input_within input ≡ Err (limit Input)
+pub past_limit : (input : List ℕ) → INPUT_MAX < length input → input_within input ≡ Err (limit Input)
 past_limit input h = past INPUT_MAX Input 0 input h
 
 -- the buffer is full

@@ -4,7 +4,7 @@ use Rattle.std.proofs.lemmas.List.{drop_all}
 use Rattle.std.specs.Option.{option_map}
 use Rattle.jos_host.specs.Frames.{from_to}
 use Rattle.jos_base.specs.declared.numbers.TheConstants.{INPUT_MAX}
-use Rattle.jos_words.specs.Commands.{Command, exo, run, demo, mkfs, ls, cat}
+use Rattle.jos_words.specs.Commands.{Command, exo, run, demo, mkfs, ls, cat, gen}
 use Rattle.jos_kernel.specs.declared.kernel.BootFault.{BootFault}
 use Rattle.jos_kernel.specs.declared.kernel.BootFault.TheVariants as boot_fault
 use Rattle.jos_kernel.specs.declared.report.Stopped.{Stopped}
@@ -64,6 +64,7 @@ left_unread (outcome.Limit which.Input) old new h e = absurd h
 left_unread (outcome.Limit which.Boot) old new h e = absurd h
 left_unread (outcome.Limit which.Blocks) old new h e = absurd h
 left_unread (outcome.Limit which.Args) old new h e = absurd h
+left_unread (outcome.Limit which.Seed) old new h e = absurd h
 left_unread (outcome.Limit which.File) old new h e = kept (limit which.File) old new e (λ input. refl)
 left_unread (outcome.BadSchedule fault) old new h e = kept (bad_schedule fault) old new e (λ input. refl)
 left_unread (outcome.BadImage word fault) old new h e = kept (bad_image word fault) old new e (λ input. refl)
@@ -108,6 +109,10 @@ left_words which.Input old new h e = absurd h
 left_words which.Boot old new h e = absurd h
 left_words which.Blocks old new h e = absurd h
 left_words which.File old new h e = absurd h
+left_words which.Seed old new h e = absurd h
+
+pub left_seed : (old new : Option (List ℕ)) → new ≡ old → LeavesInputBy (answered (limit which.Seed)) (from_to old new)
+left_seed old new e = kept (limit which.Seed) old new e (λ input. refl)
 
 -- ---- what is left where the note could not be written
 
@@ -126,6 +131,7 @@ left_is (limit which.Boot) input = (length input, sym (drop_all (length input) i
 left_is (limit which.Blocks) input = (0, refl)
 left_is (limit which.File) input = (0, refl)
 left_is (limit which.Args) input = (0, refl)
+left_is (limit which.Seed) input = (0, refl)
 left_is (bad_schedule fault) input = (0, refl)
 left_is (bad_image word fault) input = (0, refl)
 left_is (made bytes) input = (0, refl)
@@ -148,6 +154,7 @@ left_fault (Some (ls l)) own stopped old new later h same = same ∙ h
 left_fault (Some (cat c)) own stopped old new later h same = same ∙ h
 left_fault (Some (exo e)) own stopped old new later h same = let part = left_part (kind_of own) old new h in (part.0, same ∙ part.1)
 left_fault (Some (run r)) own stopped old new later h same = let part = left_part (kind_of own) old new h in (part.0, same ∙ part.1)
+left_fault (Some (gen g)) own stopped old new later h same = let part = left_part (kind_of own) old new h in (part.0, same ∙ part.1)
 
 -- where there was no memory for the words
 left_memory : (own : Outcome) (old new : Option (List ℕ)) → IsMemoryCase own → new ≡ old → LeavesInputBy (kind_of own) (from_to old new)
@@ -172,3 +179,4 @@ left_no_memory (Some (ls l)) own old new h same = same
 left_no_memory (Some (cat c)) own old new h same = same
 left_no_memory (Some (exo e)) own old new h same = left_memory own old new h same
 left_no_memory (Some (run r)) own old new h same = left_memory own old new h same
+left_no_memory (Some (gen g)) own old new h same = left_memory own old new h same

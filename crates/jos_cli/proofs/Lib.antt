@@ -21,3 +21,5 @@ pub mod TextsRead
 pub mod Tops
 pub mod Cases
 pub mod Doing
+pub mod WorkDisks
+pub mod Generated

@@ -6,7 +6,7 @@ use Rattle.jos_host.specs.Frames.{Around}
 use Rattle.jos_elf.specs.declared.fault.ElfFault.{ElfFault}
 use Rattle.jos_elf.specs.Parsed.{Layout, parsed}
 use Rattle.jos_words.specs.Arguments.{Word}
-use Rattle.jos_words.specs.Commands.{Run}
+use Rattle.jos_words.specs.Commands.{Run, Gen}
 use Rattle.jos_kernel.specs.declared.kernel.BootFault.{BootFault}
 use Rattle.jos_kernel.specs.declared.kernel.BootFault.TheVariants as boot_fault
 use Rattle.jos_kernel.specs.Reports.{CutOff}
@@ -15,9 +15,9 @@ use Rattle.jos_run.specs.declared.programs.RunEnd.{RunEnd}
 use Rattle.jos_run.specs.declared.programs.RunEnd.TheVariants as end
 use Rattle.jos_run.specs.RunEnds.{Job, IsCut, AnswersFor, HasRunCause}
 use Rattle.jos_cli.specs.declared.limits.Settings.{Settings}
-use Rattle.jos_cli.specs.Commands.{path_word, texts_of}
+use Rattle.jos_cli.specs.Commands.{path_word, texts_of, run_of_gen}
 use Rattle.jos_cli.specs.declared.outcome.Which.TheVariants as which
-use Rattle.jos_cli.specs.Limits.{numbers_of_run, limit_of_run}
+use Rattle.jos_cli.specs.Limits.{numbers_of_run, limit_of_run, limit_of_seed}
 use Rattle.jos_cli.specs.Found.{FileAt, RunFound}
 use Rattle.jos_cli.specs.Answer.{Judged, Answer, usage, absent, limit, bad_schedule, bad_image, ran, made, bad_disk, not_there, bad_make}
 use Rattle.jos_cli.specs.Answer.{within, bytes_within, numbers_of, text_of, schedule_of, loadable_of, input_within}
@@ -32,7 +32,7 @@ use Rattle.jos_sched.specs.declared.fault.ScheduleFault.{ScheduleFault}
 use Rattle.jos_sched.specs.Schedule as schedule
 use Rattle.jos_cli.specs.declared.outcome.Which.{Which}
 use Rattle.jos_cli.specs.Kinds.{Kind, answered, cut_off, no_memory, kind_of}
-use Rattle.jos_cli.specs.RunAnswers.{image_on, program_on, GatheredProgram, gathered_program, job_of, disks_of, IsRefusal, AnswersAs, RunsAs, Then, AnswersRun}
+use Rattle.jos_cli.specs.RunAnswers.{image_on, program_on, GatheredProgram, gathered_program, job_of, disks_of, IsRefusal, AnswersAs, RunsAs, Then, AnswersRun, AnswersGen}
 use Rattle.jos_cli.specs.Outcomes.{HasCauseOf, HasRunCauseOf}
 use Rattle.jos_cli.specs.Stages.{RefusesBy, settings_of, outcome_of_run, nothing_done, cut_of}
 use Rattle.jos_cli.proofs.ProgramsRead.{read_all, from_input, from_program, from_schedule}
@@ -59,6 +59,7 @@ answer_behind p (limit which.Input) disks console h = absurd h
 answer_behind p (limit which.Blocks) disks console h = absurd h
 answer_behind p (limit which.File) disks console h = absurd h
 answer_behind p (limit which.Args) disks console h = absurd h
+answer_behind p (limit which.Seed) disks console h = absurd h
 answer_behind p usage disks console h = absurd h
 answer_behind p (absent word) disks console h = absurd h
 answer_behind p (bad_schedule fault) disks console h = absurd h
@@ -209,6 +210,29 @@ from_here r files read = RunsAs (job_of r read) (disks_of r read files)
 pub words_stage : (r : Run) (found : RunFound) (input : List ℕ) (files : Around (Option Files)) → IsStage (AnswersRun r found input files)
 words_stage r found input files =
     then_stage (gathered_program r found input) (from_here r files) (all_tell_none r found input) (λ read. run_stage (job_of r read) (disks_of r read files))
+
+-- ---- the run of `gen`
+
+pub gen_stage : (g : Gen) (found : RunFound) (input : List ℕ) (files : Around (Option Files)) → IsStage (AnswersGen g found input files)
+gen_stage g found input files =
+    then_stage (within (limit_of_seed g.seed)) (λ _. AnswersRun (run_of_gen g) found input files) (within_tells_none (limit_of_seed g.seed))
+    (λ _. words_stage (run_of_gen g) found input files)
+
+module _ (g : Gen) (found : RunFound) (input : List ℕ) (files : Around (Option Files)) (kind : Kind) (console : Around (Option (List ℕ))) where
+  abbrev by_limit : Option Which → Type 0
+  by_limit passed = Then (within passed) (λ _. AnswersRun (run_of_gen g) found input files) kind console
+
+  -- the seed passes a limit
+  pub gen_refused : (passed : Which) → limit_of_seed g.seed ≡ Some passed → IsRefusal (limit passed) kind console → AnswersGen g found input files kind console
+  gen_refused passed h answer = subst by_limit (sym h) answer
+
+  -- it passes none
+  pub gen_goes_on : limit_of_seed g.seed ≡ None → AnswersRun (run_of_gen g) found input files kind console → AnswersGen g found input files kind console
+  gen_goes_on h answer = subst by_limit (sym h) answer
+
+  -- the same backwards
+  pub gen_runs : limit_of_seed g.seed ≡ None → AnswersGen g found input files kind console → AnswersRun (run_of_gen g) found input files kind console
+  gen_runs h answer = subst by_limit h answer
 
 -- ---- the program of `run`
 

@@ -8,20 +8,21 @@ use Rattle.jos_cli.specs.declared.outcome.Outcome.{Outcome}
 use Rattle.jos_cli.specs.declared.outcome.Outcome.TheVariants as outcome
 use Rattle.jos_host.specs.Frames.{Around, from_to}
 use Rattle.jos_host.specs.Gains.{Gains, GainsPart}
-use Rattle.jos_words.specs.Commands.{Command, exo, run, demo, mkfs, ls, cat}
-use Rattle.jos_cli.specs.Commands.{command_of}
+use Rattle.jos_words.specs.Commands.{Command, exo, run, demo, mkfs, ls, cat, gen}
+use Rattle.jos_cli.specs.Commands.{command_of, run_of_gen}
 use Rattle.jos_cli.specs.Found.{sources_of_exo}
 use Rattle.jos_cli.specs.Answer.{Expected, refused, usage, expected_of_exo, expected_of_demo}
 use Rattle.jos_cli.specs.Making.{expected_of_mkfs}
 use Rattle.jos_cli.specs.Disks.{expected_of_ls, expected_of_cat}
 use Rattle.jos_cli.specs.Kinds.{Kind, answered, cut_off, no_memory, kind_of, AnswersBy}
-use Rattle.jos_cli.specs.RunAnswers.{AnswersRun}
+use Rattle.jos_cli.specs.FilesLeft.{told_with_work}
+use Rattle.jos_cli.specs.RunAnswers.{AnswersRun, AnswersGen}
 use Rattle.jos_cli.specs.Outcomes.{AnswersCommand, HasCauseOf, HasOutcomeCause, HasRunCauseOf, HasCommandCause}
 use Rattle.jos_cli.specs.Stages.{nothing_done, cut_of, cut_behind}
 use Rattle.jos_cli.specs.Notes.{note_of, IsNoted}
 use Rattle.jos_cli.specs.FaultNotes.{IfHostFault, IfNoFault, FaultIsNoted}
 use Rattle.jos_cli.proofs.Judging.{part_of}
-use Rattle.jos_cli.proofs.RunAnswered.{words_stage}
+use Rattle.jos_cli.proofs.RunAnswered.{words_stage, gen_stage}
 use Rattle.jos_cli.proofs.RunDisks.{begins_with_disk}
 use Rattle.jos_cli.proofs.Finding.{some_found, some_run_found, some_input, some_file, some_are_found}
 
@@ -53,6 +54,17 @@ answers_behind files input (Some (ls l)) own console left later h stays same =
     (h.0, h.1, part (expected_of_ls l h.0) (kind_of own) console later h.2 same)
 answers_behind files input (Some (cat c)) own console left later h stays same =
     (h.0, h.1, part (expected_of_cat c h.0) (kind_of own) console later h.2 same)
+answers_behind files input (Some (gen g)) own console left later h stays same =
+    let made = told_with_work files.before g in (
+      h.0,
+      h.1,
+      h.2,
+      h.3,
+      h.4,
+      subst (λ (f : Option Files). AnswersGen g h.0 h.1 (from_to made f) (cut_off (cut_of (kind_of own))) (from_to console.before later)) (sym stays)
+          (subst (λ (c : Option (List ℕ)). AnswersGen g h.0 h.1 (from_to made files.after) (cut_off (cut_of (kind_of own))) (from_to console.before c)) (sym same)
+          ((gen_stage g h.0 h.1 (from_to made files.after)).behind (kind_of own) console h.5)),
+    )
 
 -- no turns are told where there was no memory
 pub behind_memory : (command : Option Command) → cut_behind command outcome.NoMemory ≡ nothing_done
@@ -63,6 +75,7 @@ behind_memory (Some (run r)) = refl
 behind_memory (Some (mkfs m)) = refl
 behind_memory (Some (ls l)) = refl
 behind_memory (Some (cat c)) = refl
+behind_memory (Some (gen g)) = refl
 
 -- ---- the causes
 
@@ -80,6 +93,7 @@ command_cause (Some (run r)) faults own h = run_cause faults (kind_of own) h
 command_cause (Some (mkfs m)) faults own h = h
 command_cause (Some (ls l)) faults own h = h
 command_cause (Some (cat c)) faults own h = h
+command_cause (Some (gen g)) faults own h = run_cause faults (kind_of own) h
 
 -- and with them the count is the same
 pub cause_of : (command : Option Command) (faults : Around ℕ) (own : Outcome) → HasCommandCause command faults own → HasRunCauseOf faults (kind_of own)
@@ -90,6 +104,7 @@ cause_of (Some (run r)) faults own h = h
 cause_of (Some (mkfs m)) faults own h = run_cause faults (kind_of own) h
 cause_of (Some (ls l)) faults own h = run_cause faults (kind_of own) h
 cause_of (Some (cat c)) faults own h = run_cause faults (kind_of own) h
+cause_of (Some (gen g)) faults own h = h
 
 -- a failed call of the host, which a note was to be written by
 fault_cause : (command : Option Command) (faults : Around ℕ) (own : Outcome) → Rose faults.before faults.after →
@@ -101,6 +116,7 @@ fault_cause (Some (run r)) faults own rose = rose
 fault_cause (Some (mkfs m)) faults own rose = (rose, refl, refl)
 fault_cause (Some (ls l)) faults own rose = (rose, refl, refl)
 fault_cause (Some (cat c)) faults own rose = (rose, refl, refl)
+fault_cause (Some (gen g)) faults own rose = rose
 
 rose_behind : (kind : Kind) (a b c : ℕ) → HasRunCauseOf (from_to a b) kind → Rose b c → b ≤ c → c < 2 ^ 64 → Rose a c
 rose_behind (answered answer) a b c h rose later fits = subst (λ (n : ℕ). Rose n c) h rose
@@ -195,6 +211,16 @@ at_no_memory files input (Some (run r)) console same =
 at_no_memory files input (Some (mkfs m)) console same = let found = some_are_found files.before m.files in (found.0, found.1, same)
 at_no_memory files input (Some (ls l)) console same = let file = some_file files.before l.disk in (file.0, file.1, same)
 at_no_memory files input (Some (cat c)) console same = let file = some_file files.before c.disk in (file.0, file.1, same)
+at_no_memory files input (Some (gen g)) console same =
+    let made = told_with_work files.before g in
+    let found = some_run_found made (run_of_gen g) in let given = some_input input in (
+      found.0,
+      given.0,
+      found.1,
+      given.1,
+      begins_with_disk (run_of_gen g) found.0 given.0 made found.1,
+      (gen_stage g found.0 given.0 (from_to made files.after)).memory console same,
+    )
 
 -- and then nothing was written
 pub unwritten : (files : Around (Option Files)) (input : Option (List ℕ)) (command : Option Command) (console : Around (Option (List ℕ))) →
@@ -206,3 +232,4 @@ unwritten files input (Some (run r)) console h = (words_stage r h.0 h.1 files).u
 unwritten files input (Some (mkfs m)) console h = h.2
 unwritten files input (Some (ls l)) console h = h.2
 unwritten files input (Some (cat c)) console h = h.2
+unwritten files input (Some (gen g)) console h = (gen_stage g h.0 h.1 (from_to (told_with_work files.before g) files.after)).unwritten console h.5

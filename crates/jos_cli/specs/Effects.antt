@@ -9,7 +9,7 @@ use Rattle.jos_cli.specs.declared.outcome.Outcome.{Outcome}
 use Rattle.jos_cli.specs.declared.outcome.Outcome.TheVariants.{Usage}
 use Rattle.jos_cli.specs.Answer.{Expected}
 use Rattle.jos_cli.specs.Kinds.{kind_of, Answers}
-use Rattle.jos_cli.specs.Outcomes.{AnswersCommand, IsUsageCase, HasOutcomeCause, HasCommandCause, LeavesInput, LeavesInputBy}
+use Rattle.jos_cli.specs.Outcomes.{AnswersCommand, IsUsageCase, HasOutcomeCause, HasCommandCause, LeavesInput, LeavesInputBy, IsMemoryCase}
 use Rattle.jos_cli.specs.FilesAsked.{AsksFor, AsksAll, AsksScheduleAndDisk, AsksFiles, write_calls, AsksSomeNotes, AsksNote}
 use Rattle.jos_cli.specs.FilesLeft.{told_with, LeavesBy, LeavesFiles, LeavesGoodDisk}
 use Rattle.jos_cli.specs.Outside.{Outside, IsKept}
@@ -89,6 +89,17 @@ pub record WritesFile (e : Expected) (file bytes : List ℕ) (outcome : Outcome)
   pub notes : IsKept seen.notes
   pub asked : AsksFor (write_calls file) seen.asked
   pub cause : HasOutcomeCause seen.faults outcome
+
+-- These bytes are written to the file, up to what is refused, and nothing else is done.
+pub record MakesFile (file bytes : List ℕ) (refusal : Option Outcome) (seen : Outside) : Type 0 where
+  pub unwritten : IfSome refusal IsMemoryCase
+  pub files : MatchOption refusal (seen.files.after ≡ told_with seen.files.before file bytes)
+      (λ outcome. LeavesBy file (told_with seen.files.before file bytes) outcome seen.files)
+  pub input : IsKept seen.input
+  pub console : IsKept seen.console
+  pub notes : IsKept seen.notes
+  pub asked : MatchOption refusal (AsksAll (write_calls file) seen.asked) (λ _. AsksFor (write_calls file) seen.asked)
+  pub cause : MatchOption refusal (IsKept seen.faults) (HasOutcomeCause seen.faults)
 
 -- ---- the notes
 

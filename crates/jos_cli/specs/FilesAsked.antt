@@ -5,8 +5,10 @@ use Rattle.jos_host.specs.Asked.{Asked, and_asked}
 use Rattle.jos_host.specs.Frames.{Around, from_to}
 use Rattle.fs_image.specs.DiskHeld.{IsReadInPieces}
 use Rattle.jos_words.specs.Arguments.{Word}
-use Rattle.jos_words.specs.Commands.{Command, Mkfs, exo, run, demo, mkfs, ls, cat}
+use Rattle.jos_words.specs.Commands.{Command, Mkfs, Gen, exo, run, demo, mkfs, ls, cat, gen}
 use Rattle.jos_run.specs.DiskTouches.{AreDiskCalls}
+use Rattle.jos_cli.specs.declared.outcome.Which.{Which}
+use Rattle.jos_cli.specs.Limits.{limit_of_seed}
 use Rattle.jos_cli.specs.Found.{Sources, sources_of_exo}
 
 -- a file is asked for its size, and read whole by one call
@@ -58,7 +60,23 @@ abbrev pub AsksProgramAndBlocks : Option Word → List ℕ → Around (Option (L
 AsksProgramAndBlocks schedule disk log =
     (between : Option (List Asked)) × AsksScheduleAndDisk schedule disk (from_to log.before between) × MovesBlocks disk (from_to between log.after)
 
--- the calls on files of a command; `run`, `ls` and `cat` read the disk in pieces, and the run itself moves blocks of it
+-- A disk is made; where all calls of that are made, a run of it asks behind them, without a schedule.
+abbrev pub AsksMadeAndRun : List ℕ → Around (Option (List Asked)) → Type 0
+AsksMadeAndRun disk log =
+    AsksFor (write_calls disk) log
+    ⊎ ((between : Option (List Asked)) × AsksAll (write_calls disk) (from_to log.before between)
+    × AsksProgramAndBlocks None disk (from_to between log.after))
+
+-- where the seed passes a limit, nothing is asked for
+abbrev pub AsksWorkBy : Option Which → List ℕ → Around (Option (List Asked)) → Type 0
+AsksWorkBy (Some which) disk log = AsksFor [] log
+AsksWorkBy None disk log = AsksMadeAndRun disk log
+
+abbrev pub AsksWork : Gen → Around (Option (List Asked)) → Type 0
+AsksWork g log = AsksWorkBy (limit_of_seed g.seed) g.disk.text log
+
+-- The calls on files of a command. `run`, `ls` and `cat` read the disk in pieces, and the run itself moves blocks of it; `gen` makes
+-- the disk first.
 abbrev pub AsksFiles : Option Command → Around (Option (List Asked)) → Type 0
 AsksFiles None log = AsksFor [] log
 AsksFiles (Some (exo e)) log = AsksFor (source_calls (sources_of_exo e)) log
@@ -67,6 +85,7 @@ AsksFiles (Some (demo d)) log = AsksFor (write_calls d.file.text) log
 AsksFiles (Some (mkfs m)) log = AsksFor (mkfs_calls m) log
 AsksFiles (Some (ls l)) log = IsReadInPieces l.disk.text log
 AsksFiles (Some (cat c)) log = IsReadInPieces c.disk.text log
+AsksFiles (Some (gen g)) log = AsksWork g log
 
 -- ---- the notes
 

@@ -7,8 +7,9 @@ use Rattle.jos_words.specs.declared.values.NumberAt.{NumberAt}
 use Rattle.jos_words.specs.Commands.{Exo, Run}
 use Rattle.lib_spawn.specs.StackPage.{fits_stack}
 use Rattle.jos_cli.specs.declared.outcome.Which.{Which}
-use Rattle.jos_cli.specs.declared.outcome.Which.TheVariants.{Frames, Steps, Trace, Images, Blocks, Args}
+use Rattle.jos_cli.specs.declared.outcome.Which.TheVariants.{Frames, Steps, Trace, Images, Blocks, Args, Seed}
 use Rattle.jos_cli.specs.declared.limits.Numbers.{Numbers}
+use Rattle.jos_cli.specs.declared.limits.TheConstants.{SEED_MAX}
 use Rattle.jos_cli.specs.Commands.{texts_of}
 
 -- ---- the numbers of a run
@@ -84,3 +85,8 @@ limit_of_run r = or_args (numbers_out (numbers_of_run r)) (fits_stack (texts_of 
 abbrev pub limit_of_blocks : NumberAt → Option Which
 limit_of_blocks blocks =
     if nat_lt blocks.value MINBLOCKS || nat_lt MAXBLOCKS blocks.value then Some Blocks else None
+
+-- the limit that the seed of `gen` passes
+abbrev pub limit_of_seed : NumberAt → Option Which
+limit_of_seed seed =
+    if nat_lt seed.value 1 || nat_lt SEED_MAX seed.value then Some Seed else None

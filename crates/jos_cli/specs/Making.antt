@@ -1,5 +1,5 @@
--- What `mkfs` makes of the files that its words name. (This system's own.)
-use Rattle.std.specs.Prelude.{ℕ, List, [], ◌∷◌, map, Option, Some, None, Ok, Err, if◌then◌else◌}
+-- What `mkfs` makes of the files that its words name, and the disk that `gen` makes. (This system's own.)
+use Rattle.std.specs.Prelude.{ℕ, List, [], ◌∷◌, map, codes, Option, Some, None, Ok, Err, if◌then◌else◌}
 use Rattle.jos_host.specs.Files as host
 use Rattle.jos_host.specs.MemHost.{Named}
 use Rattle.jos_base.specs.declared.numbers.TheConstants.{FILE_MAX}
@@ -8,9 +8,12 @@ use Rattle.jos_words.specs.Arguments.{Word}
 use Rattle.jos_words.specs.Commands.{Mkfs}
 use Rattle.fs_layout.specs.FileActs.{is_slash}
 use Rattle.fs_make.specs.declared.fault.MakeFault.{MakeFault}
+use Rattle.fs_make.specs.declared.fault.MakeFault.TheVariants.{NoMemory}
 use Rattle.fs_make.specs.MakeFaults.{make_fault}
 use Rattle.fs_make.specs.MadeImage.{made_image}
+use Rattle.jos_demo.specs.Workloads.{workload_of, work_file}
 use Rattle.jos_cli.specs.declared.outcome.Which.TheVariants.{File}
+use Rattle.jos_cli.specs.declared.generating.TheConstants.{WORK_BLOCKS}
 use Rattle.jos_cli.specs.Limits.{limit_of_blocks}
 use Rattle.jos_cli.specs.Found.{FileAt}
 use Rattle.jos_cli.specs.Answer.{Judged, all_judged, within, bytes_within, bad_make, Expected, expected_if, expected_of_writing}
@@ -66,3 +69,17 @@ named_in files word = named_with word (host.bytes_of files word.text)
 -- the disk that is made of the files that the words name
 abbrev pub disk_in : host.Files → Mkfs → List ℕ
 disk_in files m = made_image m.blocks.value (map (named_in files) m.files)
+
+-- ---- the disk of `gen`
+
+-- its one file: the program for the seed
+abbrev pub work_files : ℕ → List Named
+work_files seed = record { name = codes "work"; bytes = work_file (workload_of seed) } ∷ []
+
+unfoldable pub work_disk : ℕ → List ℕ
+work_disk seed = made_image WORK_BLOCKS (work_files seed)
+
+-- want of memory, and no fault of files
+abbrev pub IsMemoryFault : MakeFault → Type 0
+IsMemoryFault NoMemory = Unit {0}
+IsMemoryFault fault = ⊥

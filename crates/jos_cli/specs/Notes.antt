@@ -46,6 +46,7 @@ limit_text which.Boot = codes "limit: boot\n"
 limit_text which.Blocks = codes "limit: blocks\n"
 limit_text which.File = codes "limit: file\n"
 limit_text which.Args = codes "limit: args\n"
+limit_text which.Seed = codes "limit: seed\n"
 
 abbrev pub schedule_fault_text : ScheduleFault → List ℕ
 schedule_fault_text (schedule.NotANumber place) = codes "not a number " ++ decimal place

@@ -3,9 +3,9 @@ use Rattle.std.specs.Prelude.{◌≡◌, ◌≢◌, ◌≤◌, ℕ, ◌+◌, Lis
 use Rattle.std.specs.Prelude.{Ok}
 use Rattle.jos_host.specs.Files.{Files}
 use Rattle.jos_host.specs.Told.{Rose}
-use Rattle.jos_host.specs.Frames.{Around}
+use Rattle.jos_host.specs.Frames.{Around, from_to}
 use Rattle.jos_base.specs.declared.numbers.TheConstants.{INPUT_MAX}
-use Rattle.jos_words.specs.Commands.{Command, Exo, Run, Mkfs, Ls, Cat, exo, run, demo, mkfs, ls, cat}
+use Rattle.jos_words.specs.Commands.{Command, Exo, Run, Mkfs, Ls, Cat, Gen, exo, run, demo, mkfs, ls, cat, gen}
 use Rattle.jos_kernel.specs.declared.report.End.{End}
 use Rattle.jos_kernel.specs.declared.report.End.TheVariants.{Done, Stuck, Budget, TurnsFull}
 use Rattle.fs_image.specs.DiskHeld.{held_of, fault_in}
@@ -17,8 +17,8 @@ use Rattle.jos_cli.specs.declared.outcome.Which.TheVariants.{Input, Boot}
 use Rattle.jos_cli.specs.declared.outcome.Outcome.{Outcome}
 use Rattle.jos_cli.specs.declared.outcome.Outcome.TheVariants.{Ran, Usage, Absent, Limit, BadSchedule, BadImage}
 use Rattle.jos_cli.specs.declared.outcome.Outcome.TheVariants.{HostFault, NoMemory, Made, BadDisk, NotThere, BadMake}
-use Rattle.jos_cli.specs.Commands.{path_word, texts_of}
-use Rattle.jos_cli.specs.Limits.{numbers_of_exo, numbers_of_run, limit_of_words, limit_of_run, frames_of, limit_of_blocks}
+use Rattle.jos_cli.specs.Commands.{path_word, texts_of, run_of_gen}
+use Rattle.jos_cli.specs.Limits.{numbers_of_exo, numbers_of_run, limit_of_words, limit_of_run, frames_of, limit_of_blocks, limit_of_seed}
 use Rattle.jos_cli.specs.Found.{FileAt, file_at, IsFileAt, AreFound, sources_of_exo, Found, IsFound, RunFound, IsRunFound, IsInput}
 use Rattle.jos_cli.specs.InputTaken.{HasLost}
 use Rattle.jos_cli.specs.Answer.{Answer, usage, limit, ran, refused}
@@ -26,7 +26,8 @@ use Rattle.jos_cli.specs.Answer.{schedule_of, images_of, expected_of_exo, expect
 use Rattle.jos_cli.specs.Making.{named_files, named_in, expected_of_mkfs}
 use Rattle.jos_cli.specs.Disks.{tree_of, path_of, expected_of_ls, expected_of_cat}
 use Rattle.jos_cli.specs.Kinds.{Kind, answered, cut_off, no_memory, kind_of, Answers}
-use Rattle.jos_cli.specs.RunAnswers.{program_on, BeginsWithDisk, AnswersRun}
+use Rattle.jos_cli.specs.FilesLeft.{told_with_work}
+use Rattle.jos_cli.specs.RunAnswers.{program_on, BeginsWithDisk, AnswersRun, AnswersGen}
 
 -- ---- the answer
 
@@ -47,6 +48,10 @@ AnswersCommand files told_input (Some (ls l)) outcome console =
     (file : FileAt) × IsFileAt files.before l.disk file × Answers (expected_of_ls l file) outcome console
 AnswersCommand files told_input (Some (cat c)) outcome console =
     (file : FileAt) × IsFileAt files.before c.disk file × Answers (expected_of_cat c file) outcome console
+AnswersCommand files told_input (Some (gen g)) outcome console =
+    (found : RunFound) × (input : List ℕ) × IsRunFound (told_with_work files.before g) (run_of_gen g) found × IsInput told_input input
+    × BeginsWithDisk (run_of_gen g) found input (told_with_work files.before g)
+    × AnswersGen g found input (from_to (told_with_work files.before g) files.after) (kind_of outcome) console
 
 -- the words alone decide this answer, whatever the host tells
 abbrev pub IsUsageCase : Option Command → Outcome → Type 0
@@ -74,7 +79,7 @@ HasRunCauseOf faults (answered answer) = faults.after ≡ faults.before
 HasRunCauseOf faults (cut_off stopped) = Rose faults.before faults.after
 HasRunCauseOf faults no_memory = faults.after ≡ faults.before
 
--- Only `run` hands out turns.
+-- Only `run` and `gen` hand out turns.
 abbrev pub HasCommandCause : Option Command → Around ℕ → Outcome → Type 0
 HasCommandCause None faults outcome = HasOutcomeCause faults outcome
 HasCommandCause (Some (exo e)) faults outcome = HasOutcomeCause faults outcome
@@ -83,6 +88,7 @@ HasCommandCause (Some (demo d)) faults outcome = HasOutcomeCause faults outcome
 HasCommandCause (Some (mkfs m)) faults outcome = HasOutcomeCause faults outcome
 HasCommandCause (Some (ls l)) faults outcome = HasOutcomeCause faults outcome
 HasCommandCause (Some (cat c)) faults outcome = HasOutcomeCause faults outcome
+HasCommandCause (Some (gen g)) faults outcome = HasRunCauseOf faults (kind_of outcome)
 
 -- the words, the files and the input of a run, with frames enough to boot it
 pub record CanRun (e : Exo) (found : Found) (input : List ℕ) : Type 0 where
@@ -101,6 +107,11 @@ pub record CanRunProgram (r : Run) (found : RunFound) (input : List ℕ) : Type 
   pub read : program_on (path_word r.words) found.disk ≡ Ok image
   pub short : length input ≤ INPUT_MAX
   pub frames : IsSome (booted_within image.image image.file (texts_of r) (frames_of (numbers_of_run r)) input)
+
+-- A seed and an input: the disk that is made is a disk without a fault, its program is an image, and the frames are enough to boot it.
+pub record CanGenerate (g : Gen) (input : List ℕ) : Type 0 where
+  pub seed : limit_of_seed g.seed ≡ None
+  pub short : length input ≤ INPUT_MAX
 
 -- the number, the files and the room of a disk that can be made
 pub record CanMake (m : Mkfs) (files : Files) : Type 0 where
@@ -128,13 +139,21 @@ IsRunCase (Ran report trace) = Unit {0}
 IsRunCase NoMemory = Unit {0}
 IsRunCase _ = ⊥
 
+-- of the refusals of a run this is none but that the input is too long
+abbrev pub IsGeneratedCase : Outcome → Type 0
+IsGeneratedCase (Ran report trace) = Unit {0}
+IsGeneratedCase (Limit Input) = Unit {0}
+IsGeneratedCase (HostFault stopped) = Unit {0}
+IsGeneratedCase NoMemory = Unit {0}
+IsGeneratedCase _ = ⊥
+
 -- it was written, or there was no memory to begin with
 abbrev pub IsMadeCase : Outcome → Type 0
 IsMadeCase (Made bytes) = Unit {0}
 IsMadeCase NoMemory = Unit {0}
 IsMadeCase _ = ⊥
 
--- there was no memory to begin with
+-- there was no memory to begin with, or a call of the host failed
 abbrev pub IsMemoryCase : Outcome → Type 0
 IsMemoryCase NoMemory = Unit {0}
 IsMemoryCase (HostFault stopped) = Unit {0}
@@ -154,7 +173,7 @@ LeavesInputBy (answered answer) input = input.after ≡ option_map (left_by answ
 LeavesInputBy (cut_off stopped) input = HasLost input.before input.after
 LeavesInputBy no_memory input = HasLost input.before input.after
 
--- Only `exo` and `run` read input.
+-- Only `exo`, `run` and `gen` read input.
 abbrev pub LeavesInput : Option Command → Outcome → Around (Option (List ℕ)) → Type 0
 LeavesInput None outcome input = input.after ≡ input.before
 LeavesInput (Some (demo d)) outcome input = input.after ≡ input.before
@@ -163,6 +182,7 @@ LeavesInput (Some (ls l)) outcome input = input.after ≡ input.before
 LeavesInput (Some (cat c)) outcome input = input.after ≡ input.before
 LeavesInput (Some (exo e)) outcome input = LeavesInputBy (kind_of outcome) input
 LeavesInput (Some (run r)) outcome input = LeavesInputBy (kind_of outcome) input
+LeavesInput (Some (gen g)) outcome input = LeavesInputBy (kind_of outcome) input
 
 -- ---- the exit status
 

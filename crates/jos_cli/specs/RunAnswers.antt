@@ -11,7 +11,7 @@ use Rattle.fs_contents.specs.Contents.{read_at}
 use Rattle.jos_host.specs.Files.{Files, bytes_of}
 use Rattle.jos_host.specs.Frames.{Around, from_to}
 use Rattle.jos_words.specs.Arguments.{Word}
-use Rattle.jos_words.specs.Commands.{Run}
+use Rattle.jos_words.specs.Commands.{Run, Gen}
 use Rattle.jos_kernel.specs.Boot.{Loadable}
 use Rattle.jos_kernel.specs.declared.trace.TrapLine.{TrapLine}
 use Rattle.jos_kernel.specs.Reports.{Reported, CutOff}
@@ -20,8 +20,8 @@ use Rattle.lib_os.specs.Rows.{AreBytes}
 use Rattle.jos_run.specs.RunEnds.{Job, BeginsWith, begun, start_of, HasRun, IsCut}
 use Rattle.jos_run.specs.Worlds.{told_disk}
 use Rattle.jos_cli.specs.declared.outcome.Which.TheVariants.{Boot}
-use Rattle.jos_cli.specs.Commands.{path_word, texts_of}
-use Rattle.jos_cli.specs.Limits.{numbers_of_run, limit_of_run, frames_of, budget_of, trace_of}
+use Rattle.jos_cli.specs.Commands.{path_word, texts_of, run_of_gen}
+use Rattle.jos_cli.specs.Limits.{numbers_of_run, limit_of_run, limit_of_seed, frames_of, budget_of, trace_of}
 use Rattle.jos_cli.specs.Found.{FileAt, RunFound}
 use Rattle.jos_cli.specs.Answer.{Judged, within, schedule_of, loadable_of, input_within, Answer, ran, limit}
 use Rattle.jos_cli.specs.Disks.{disk_of, tree_of, blocks_on, files_on, if_there}
@@ -134,3 +134,9 @@ Then (Err refusal) next kind console = IsRefusal refusal kind console
 abbrev pub AnswersRun : Run → RunFound → List ℕ → Around (Option Files) → Kind → Around (Option (List ℕ)) → Type 0
 AnswersRun r found input files kind console =
     Then (gathered_program r found input) (λ read. RunsAs (job_of r read) (disks_of r read files)) kind console
+
+-- Of `gen`: that of its run, which begins with the disk that is made; the files before are those with that disk. Where the seed passes a
+-- limit, there is no run.
+abbrev pub AnswersGen : Gen → RunFound → List ℕ → Around (Option Files) → Kind → Around (Option (List ℕ)) → Type 0
+AnswersGen g found input files kind console =
+    Then (within (limit_of_seed g.seed)) (λ _. AnswersRun (run_of_gen g) found input files) kind console

@@ -3,7 +3,7 @@ use Rattle.std.specs.Prelude.{◌≡◌, ℕ, Bool, true, false, List, [], ◌�
 use Rattle.jos_host.specs.Files.{Files}
 use Rattle.jos_words.specs.declared.words.WordAt.{WordAt}
 use Rattle.jos_words.specs.Arguments.{Word, word_in_bytes}
-use Rattle.jos_words.specs.Commands.{Command, Run, exo, run, demo, mkfs, ls, cat}
+use Rattle.jos_words.specs.Commands.{Command, Run, exo, run, demo, mkfs, ls, cat, gen}
 use Rattle.jos_sched.specs.declared.fault.ScheduleFault.{ScheduleFault}
 use Rattle.jos_sched.specs.declared.fault.ScheduleFault.TheVariants as schedule
 use Rattle.jos_kernel.specs.Boot.{loadables}
@@ -166,3 +166,4 @@ cut_behind (Some (demo d)) own = nothing_done
 cut_behind (Some (mkfs m)) own = nothing_done
 cut_behind (Some (ls l)) own = nothing_done
 cut_behind (Some (cat c)) own = nothing_done
+cut_behind (Some (gen g)) own = cut_of (kind_of own)

@@ -1,11 +1,11 @@
 //! The top call.
 
-ghost use Rattle.std.specs.Prelude.{◌≡◌, ℕ, List, All, map, Some, IsSome, OnErr};
+ghost use Rattle.std.specs.Prelude.{◌≡◌, ℕ, List, All, map, Some, None, IsSome, OnErr};
 ghost use Rattle.jos_host.specs.Files.{Files};
 ghost use Rattle.jos_host.specs.Told.{Rose};
 ghost use Rattle.jos_host.specs.Frames.{Unchanged, around};
 ghost use Rattle.jos_words.specs.Arguments.{texts};
-ghost use Rattle.jos_words.specs.Commands.{Exo, Run, Demo, Mkfs, Ls, Cat, exo, run, demo, mkfs, ls, cat};
+ghost use Rattle.jos_words.specs.Commands.{Exo, Run, Demo, Mkfs, Ls, Cat, Gen, exo, run, demo, mkfs, ls, cat, gen};
 ghost use Rattle.jos_words.specs.Commands.{exo_in_bytes, demo_in_bytes};
 ghost use Rattle.jos_demo.specs.Programs.{file_of};
 ghost use Rattle.jos_kernel.specs.Boot.{loadables};
@@ -13,16 +13,16 @@ ghost use Rattle.jos_kernel.specs.Loading.{IsRead};
 ghost use Rattle.jos_kernel.specs.ExoRun.{run_from};
 ghost use Rattle.jos_kernel.specs.Kernel.{progress_of, nothing, Counts, Holds};
 ghost use Rattle.jos_cli.specs.Commands.{known, command_of, program_file};
-ghost use Rattle.jos_cli.specs.Limits.{AreWithin};
+ghost use Rattle.jos_cli.specs.Limits.{AreWithin, limit_of_seed};
 ghost use Rattle.jos_cli.specs.Found.{found_in, run_found_in};
 ghost use Rattle.jos_cli.specs.Answer.{expected_of_run, expected_of_images, expected_of_demo};
 ghost use Rattle.jos_cli.specs.Kinds.{Answers};
 ghost use Rattle.jos_cli.specs.Outcomes.{AnswersCommand, HasOutcomeCause, HasCommandCause, IsUsageCase};
-ghost use Rattle.jos_cli.specs.Outcomes.{CanRun, CanRunProgram, CanMake, CanList, CanPrint};
-ghost use Rattle.jos_cli.specs.Outcomes.{IsRunCase, IsMadeCase, IsMemoryCase, LeavesInput};
+ghost use Rattle.jos_cli.specs.Outcomes.{CanRun, CanRunProgram, CanGenerate, CanMake, CanList, CanPrint};
+ghost use Rattle.jos_cli.specs.Outcomes.{IsRunCase, IsGeneratedCase, IsMadeCase, IsMemoryCase, LeavesInput};
 ghost use Rattle.jos_cli.specs.Stages.{gathered_of, outcome_of_end, outcome_of_run, cut_if, cut_behind};
 ghost use Rattle.jos_cli.specs.FilesAsked.{AsksNote, AsksOnly};
-ghost use Rattle.jos_cli.specs.FilesLeft.{LeavesFiles, LeavesGoodDisk};
+ghost use Rattle.jos_cli.specs.FilesLeft.{LeavesFiles, LeavesAtNoMemory, LeavesGoodDisk};
 ghost use Rattle.jos_cli.specs.Notes.{IsNoted};
 ghost use Rattle.jos_cli.specs.FaultNotes.{IfHostFault, FaultIsNoted};
 ghost use Rattle.jos_cli.specs.Outside.{outside};
@@ -30,6 +30,7 @@ ghost use Rattle.jos_cli.specs.Effects.{DoesCommand, WritesFile};
 
 use crate::disks::{answer_cat, answer_ls};
 use crate::files::{host_fault, write_made};
+use crate::generating::answer_gen;
 use crate::limits::{Numbers, Settings, limit_of_words, numbers_of_exo, settings_of};
 use crate::loading::{ReadForRun, gather};
 use crate::making::answer_mkfs;
@@ -46,15 +47,17 @@ use std::alloc::Global;
 /// Does what the words ask: `exo [--frames N] [--steps N] [--schedule FILE] [--trace N] IMAGE..` runs the images,
 /// `run [--frames N] [--steps N] [--schedule FILE] [--trace N] DISK PATH [WORD..]` runs a program of a disk under the
 /// library, and `demo NAME FILE` writes an example program. `mkfs DISK BLOCKS [FILE..]` makes a disk of the files,
-/// `ls DISK [PATH]` prints the records of a directory of a disk, and `cat DISK PATH` the bytes of a file of it. The words
-/// are those behind the program's name. Each answer has its note, one line, and before it stand the last traps of a run,
-/// as many as the words ask for; where a call of the host fails, the note `host fault` is tried once.
+/// `ls DISK [PATH]` prints the records of a directory of a disk, and `cat DISK PATH` the bytes of a file of it.
+/// `gen SEED DISK` makes a disk of one program, which is made from a number, and runs that as `run` does. The words are
+/// those behind the program's name. Each answer has its note, one line, and before it stand the last traps of a run, as
+/// many as the words ask for; where a call of the host fails, the note `host fault` is tried once.
 ///
 /// (The lines and limits are in `docs/commands.md`.)
 pub fn top<'a, H: Host>(alloc: Global, words: &'a [&'a str], host: &mut H) -> Outcome
     // The answer and the console are what the words decide with the files that they name and, of a run, the input: those
     // that the host tells, and else some; where a call of the host failed, the console has a part of that. What `run`
-    // answers and prints is told by the turns of its report, by the abstract system that begins with the files of its disk.
+    // answers and prints is told by the turns of its report, by the abstract system that begins with the files of its disk. What `gen`
+    // answers is what `run` does of the files with the disk that is made.
     ensures answer { AnswersCommand (around H.files host.old host.new) (H.input host.old) (command_of (map (λ w. w.now) words.now)) result
         (around H.console host.old host.new) }
     // The notes are the lines of the traps that are told, and the line of the answer.
@@ -67,8 +70,9 @@ pub fn top<'a, H: Host>(alloc: Global, words: &'a [&'a str], host: &mut H) -> Ou
     // Each answer has its cause.
     ensures usage { IsUsageCase (command_of (map (λ w. w.now) words.now)) result }
     ensures cause { HasCommandCause (command_of (map (λ w. w.now) words.now)) (around H.faults host.old host.new) result }
-    // Want of memory comes before anything is written to the console or to a file.
-    ensures memory { result ≡ Outcome.NoMemory → (H.console host.new ≡ H.console host.old) × (H.files host.new ≡ H.files host.old) }
+    // Want of memory comes before anything is written to the console or to a file, but that `gen` may have made its disk.
+    ensures memory { result ≡ Outcome.NoMemory → (H.console host.new ≡ H.console host.old)
+        × LeavesAtNoMemory (command_of (map (λ w. w.now) words.now)) (around H.files host.old host.new) }
     // Images are run where the words, the files, the input and the frames allow it, unless a call of the host fails.
     ensures complete { (files : Files) (input : List ℕ) (e : Exo) →
         H.files host.old ≡ Some files → H.input host.old ≡ Some input → command_of (map (λ w. w.now) words.now) ≡ Some (exo e) →
@@ -77,6 +81,14 @@ pub fn top<'a, H: Host>(alloc: Global, words: &'a [&'a str], host: &mut H) -> Ou
     ensures ran { (files : Files) (input : List ℕ) (r : Run) →
         H.files host.old ≡ Some files → H.input host.old ≡ Some input → command_of (map (λ w. w.now) words.now) ≡ Some (run r) →
         CanRunProgram r (run_found_in files r) input → (Rose (H.faults host.old) (H.faults host.new) → ⊥) → IsRunCase result }
+    // The program that is made from a number is run, whatever stood under the disk's name.
+    ensures generated { (files : Files) (input : List ℕ) (g : Gen) →
+        H.files host.old ≡ Some files → H.input host.old ≡ Some input → command_of (map (λ w. w.now) words.now) ≡ Some (gen g) →
+        CanGenerate g input → (Rose (H.faults host.old) (H.faults host.new) → ⊥) → IsRunCase result }
+    // With a number within its limits no refusal comes but that the input is too long: the disk that is made has no fault, and
+    // the program is there, is an image and has frames enough.
+    ensures accepted { (files : Files) (g : Gen) → H.files host.old ≡ Some files →
+        command_of (map (λ w. w.now) words.now) ≡ Some (gen g) → limit_of_seed g.seed ≡ None → IsGeneratedCase result }
     // An example program is written, unless a call of the host fails.
     ensures made { (d : Demo) → command_of (map (λ w. w.now) words.now) ≡ Some (demo d) →
         (Rose (H.faults host.old) (H.faults host.new) → ⊥) → IsMadeCase result }
@@ -94,14 +106,14 @@ pub fn top<'a, H: Host>(alloc: Global, words: &'a [&'a str], host: &mut H) -> Ou
         (Rose (H.faults host.old) (H.faults host.new) → ⊥) → IsMadeCase result }
 
     // Every name keeps its bytes but the one that `demo` or `mkfs` writes, which has those of the program or the disk, and the
-    // disk of `run`, which keeps its length.
+    // disk of `run`, which keeps its length. The disk of `gen` has those that are made, and is then that of a run.
     ensures files { LeavesFiles (command_of (map (λ w. w.now) words.now)) result (around H.files host.old host.new) }
     // What `mkfs` writes is a disk without a fault, and it has the files that the words name.
     ensures disk { LeavesGoodDisk (command_of (map (λ w. w.now) words.now)) result (around H.files host.old host.new) }
-    // Only `exo` and `run` read input, once they have read all files: all of it, up to one byte past the limit.
+    // Only `exo`, `run` and `gen` read input, once they have read all files: all of it, up to one byte past the limit.
     ensures input { LeavesInput (command_of (map (λ w. w.now) words.now)) result (around H.input host.old host.new) }
     // Only files that the words name are asked for, in their order, each call once, but that a disk is read in pieces, and that a run
-    // reads and writes blocks of its disk; and behind them notes are written, whatever is answered.
+    // reads and writes blocks of its disk, which `gen` writes whole before; and behind them notes are written, whatever is answered.
     ensures asked { AsksOnly (command_of (map (λ w. w.now) words.now)) (around H.asked host.old host.new) }
 {
     let (outcome, is_run) = answer_words(alloc, words, host);
@@ -111,7 +123,7 @@ pub fn top<'a, H: Host>(alloc: Global, words: &'a [&'a str], host: &mut H) -> Ou
     }
 }
 
-/// The answer where the note of another could not be written. For `run` it tells the turns that were taken.
+/// The answer where the note of another could not be written. For a run under the library it tells the turns that were taken.
 fn note_fault(alloc: Global, own: Outcome, is_run: bool) -> Outcome
     ensures { result ≡ Outcome.HostFault (cut_if is_run own) }
 {
@@ -262,6 +274,7 @@ fn answer_words<'a, H: Host>(alloc: Global, words: &'a [&'a str], host: &mut H) 
         Ok(CommandWords::Mkfs(words)) => (answer_mkfs(alloc, &words, host), false),
         Ok(CommandWords::Ls(words)) => (answer_ls(alloc, words, host), false),
         Ok(CommandWords::Cat(words)) => (answer_cat(alloc, words, host), false),
+        Ok(CommandWords::Gen(words)) => (answer_gen(alloc, words, host), true),
         Err(WordsFault::Usage) => (Outcome::Usage, false),
         Err(WordsFault::NoMemory) => (Outcome::NoMemory, false),
     }

@@ -102,6 +102,7 @@ pub(crate) fn write_file<H: Host>(name: &str, bytes: &[u8], host: &mut H) -> Res
     ensures cause { HasCause (H.faults host.old) (H.faults host.new) result }
     ensures input { H.input host.new ≡ H.input host.old }
     ensures asked { AsksFor (write_calls name.now) (around H.asked host.old host.new) }
+    ensures whole { OnOk result (AsksAll (write_calls name.now) (around H.asked host.old host.new)) }
     ensures console { H.console host.new ≡ H.console host.old }
     ensures notes { H.notes host.new ≡ H.notes host.old }
 {

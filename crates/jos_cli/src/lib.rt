@@ -22,6 +22,7 @@ ghost use Rattle.jos_cli.specs.Notes.{IsNoted};
 mod answer;
 mod disks;
 mod files;
+mod generating;
 mod input;
 mod limits;
 mod loading;

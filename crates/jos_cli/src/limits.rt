@@ -1,13 +1,13 @@
 //! The numbers that the words of commands give, and the limits of these words.
 
-ghost use Rattle.std.specs.Prelude.{◌≡◌, ◌≤◌, None, IfSome};
+ghost use Rattle.std.specs.Prelude.{◌≡◌, ◌<◌, ◌≤◌, ◌^◌, None, IfSome};
 ghost use Rattle.jos_base.specs.declared.numbers.TheConstants.{FRAMES_MIN, FRAMES_MAX};
 ghost use Rattle.fs_layout.specs.declared.numbers.TheConstants.{MAXBLOCKS};
 ghost use Rattle.jos_words.specs.Arguments.{texts};
 ghost use Rattle.jos_words.specs.Commands.{exo_in_bytes, run_in_bytes};
 ghost use Rattle.jos_cli.specs.Commands.{texts_of};
 ghost use Rattle.jos_cli.specs.Limits.{place_out, out_of, earlier, numbers_of_exo, numbers_of_run, numbers_out, AreWithin};
-ghost use Rattle.jos_cli.specs.Limits.{limit_of_words, limit_of_run, limit_of_blocks};
+ghost use Rattle.jos_cli.specs.Limits.{limit_of_words, limit_of_run, limit_of_blocks, limit_of_seed};
 ghost use Rattle.jos_cli.specs.Stages.{settings_of, IsOfWords, MayRun};
 
 use crate::outcome::Which;
@@ -15,6 +15,9 @@ use fs_layout::{MAXBLOCKS, MINBLOCKS};
 use jos_base::{FRAMES, FRAMES_MAX, FRAMES_MIN, IMAGES_MAX, STEPS, STEPS_MAX, TRACE_MAX};
 use jos_words::{ExoWords, NumberAt, RunWords};
 use lib_spawn::fits_stack;
+
+/// The greatest seed of `gen`; the least is 1.
+pub(crate) const SEED_MAX: u32 = 4_294_967_295;
 
 /// The numbers that words give of a run.
 #[derive(Clone, Copy)]
@@ -146,6 +149,19 @@ pub(crate) fn limit_of_blocks(blocks: NumberAt) -> Option<Which>
 {
     if blocks.value < MINBLOCKS as u128 || blocks.value > MAXBLOCKS as u128 {
         Some(Which::Blocks)
+    } else {
+        None
+    }
+}
+
+/// The limit that the seed of `gen` passes.
+pub(crate) fn limit_of_seed(seed: NumberAt) -> Option<Which>
+    ensures limit { result ≡ limit_of_seed seed }
+    ensures kind { IfSome result (λ which. which ≡ Which.Seed) }
+    ensures most { result ≡ None → seed.value < 2 ^ 32 }
+{
+    if seed.value < 1 || seed.value > SEED_MAX as u128 {
+        Some(Which::Seed)
     } else {
         None
     }

@@ -77,6 +77,7 @@ fn limit_text(which: Which) -> &'static [u8]
         Which::Blocks => b"limit: blocks\n",
         Which::File => b"limit: file\n",
         Which::Args => b"limit: args\n",
+        Which::Seed => b"limit: seed\n",
     }
 }
 

@@ -34,6 +34,8 @@ pub enum Which {
     File,
     /// The words of a program, which are over 16 or do not fit on a page of its stack.
     Args,
+    /// The number from which the words have a program made (1 to `SEED_MAX`).
+    Seed,
 }
 
 /// What the program answers.

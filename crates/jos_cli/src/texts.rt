@@ -1,18 +1,19 @@
 //! The words as std hands them out.
 
-ghost use Rattle.std.specs.Prelude.{◌≡◌, ℕ, List, Some, IfOk, map, drop, string_bytes};
+ghost use Rattle.std.specs.Prelude.{◌≡◌, ℕ, List, Some, None, IfOk, map, drop, string_bytes};
 ghost use Rattle.jos_host.specs.Files.{Files};
 ghost use Rattle.jos_host.specs.Told.{Rose};
 ghost use Rattle.jos_host.specs.Frames.{around};
-ghost use Rattle.jos_words.specs.Commands.{Exo, Run, Demo, Mkfs, Ls, Cat, exo, run, demo, mkfs, ls, cat};
+ghost use Rattle.jos_words.specs.Commands.{Exo, Run, Demo, Mkfs, Ls, Cat, Gen, exo, run, demo, mkfs, ls, cat, gen};
 ghost use Rattle.jos_cli.specs.Commands.{command_of};
+ghost use Rattle.jos_cli.specs.Limits.{limit_of_seed};
 ghost use Rattle.jos_cli.specs.Found.{found_in, run_found_in};
 ghost use Rattle.jos_cli.specs.Given.{words_left, given_words};
 ghost use Rattle.jos_cli.specs.Outcomes.{AnswersCommand, HasCommandCause, IsUsageCase};
-ghost use Rattle.jos_cli.specs.Outcomes.{CanRun, CanRunProgram, CanMake, CanList, CanPrint};
-ghost use Rattle.jos_cli.specs.Outcomes.{IsRunCase, IsMadeCase, LeavesInput};
+ghost use Rattle.jos_cli.specs.Outcomes.{CanRun, CanRunProgram, CanGenerate, CanMake, CanList, CanPrint};
+ghost use Rattle.jos_cli.specs.Outcomes.{IsRunCase, IsGeneratedCase, IsMadeCase, LeavesInput};
 ghost use Rattle.jos_cli.specs.FilesAsked.{AsksOnly};
-ghost use Rattle.jos_cli.specs.FilesLeft.{LeavesFiles, LeavesGoodDisk};
+ghost use Rattle.jos_cli.specs.FilesLeft.{LeavesFiles, LeavesAtNoMemory, LeavesGoodDisk};
 ghost use Rattle.jos_cli.specs.Notes.{IsNoted};
 ghost use Rattle.jos_cli.specs.FaultNotes.{IfHostFault, FaultIsNoted};
 
@@ -58,13 +59,19 @@ pub fn answer_texts<H: Host>(alloc: Global, read: io::Result<Args>, host: &mut H
         (around H.faults host.old host.new) (around H.console host.old host.new) (around H.notes host.old host.new)) }
     ensures usage { IsUsageCase (command_of (given_words read)) result }
     ensures cause { HasCommandCause (command_of (given_words read)) (around H.faults host.old host.new) result }
-    ensures memory { result ≡ Outcome.NoMemory → (H.console host.new ≡ H.console host.old) × (H.files host.new ≡ H.files host.old) }
+    ensures memory { result ≡ Outcome.NoMemory → (H.console host.new ≡ H.console host.old)
+        × LeavesAtNoMemory (command_of (given_words read)) (around H.files host.old host.new) }
     ensures complete { (files : Files) (input : List ℕ) (e : Exo) →
         H.files host.old ≡ Some files → H.input host.old ≡ Some input → command_of (given_words read) ≡ Some (exo e) →
         CanRun e (found_in files e) input → (Rose (H.faults host.old) (H.faults host.new) → ⊥) → IsRunCase result }
     ensures ran { (files : Files) (input : List ℕ) (r : Run) →
         H.files host.old ≡ Some files → H.input host.old ≡ Some input → command_of (given_words read) ≡ Some (run r) →
         CanRunProgram r (run_found_in files r) input → (Rose (H.faults host.old) (H.faults host.new) → ⊥) → IsRunCase result }
+    ensures generated { (files : Files) (input : List ℕ) (g : Gen) →
+        H.files host.old ≡ Some files → H.input host.old ≡ Some input → command_of (given_words read) ≡ Some (gen g) →
+        CanGenerate g input → (Rose (H.faults host.old) (H.faults host.new) → ⊥) → IsRunCase result }
+    ensures accepted { (files : Files) (g : Gen) → H.files host.old ≡ Some files → command_of (given_words read) ≡ Some (gen g) →
+        limit_of_seed g.seed ≡ None → IsGeneratedCase result }
     ensures made { (d : Demo) → command_of (given_words read) ≡ Some (demo d) →
         (Rose (H.faults host.old) (H.faults host.new) → ⊥) → IsMadeCase result }
     ensures disk_made { (files : Files) (m : Mkfs) → H.files host.old ≡ Some files → command_of (given_words read) ≡ Some (mkfs m) →

@@ -6,10 +6,10 @@ use Rattle.jos_isa.specs.declared.instruction.Row.TheVariants.{JccRel8, JmpRel8}
 use Rattle.jos_asm.specs.declared.item.Item.{Item}
 use Rattle.jos_asm.specs.declared.item.Item.TheVariants.{Label, Insn, Jump}
 use Rattle.jos_asm.specs.Program.{Program}
-use Rattle.jos_demo.specs.declared.code.TheConstants.{TEXT, EAX, ECX, EDX, EBX, ESP, ESI, EDI, AL, PAGE, PRIVATE, NEWLINE}
+use Rattle.jos_demo.specs.declared.code.TheConstants.{TEXT, EAX, ECX, EDX, EBX, ESP, ESI, EDI, AL, PAGE, PRIVATE, NEWLINE, SPACE}
 use Rattle.jos_demo.specs.declared.code.TheConstants.{NOT_ZERO, NEGATIVE, NOT_POSITIVE}
 use Rattle.jos_demo.specs.declared.code.TheConstants.{SERVICE_EXIT, SERVICE_PAGE_NEW, SERVICE_READ, SERVICE_WRITE}
-use Rattle.jos_demo.specs.declared.streams.TheConstants.{INPUT, OUTPUT, SPACE}
+use Rattle.jos_demo.specs.declared.streams.TheConstants.{INPUT, OUTPUT}
 use Rattle.jos_demo.specs.Code.{mov_byte, lodsb, stosb, test_al, test_eax, pop, dec, mov_register, add_register, sub_register}
 use Rattle.jos_demo.specs.Code.{service}
 

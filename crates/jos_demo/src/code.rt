@@ -4,6 +4,7 @@ ghost use Rattle.std.specs.Prelude.{◌≡◌, ◌<◌, ◌≤◌, IsTrue, IfOk,
 ghost use Rattle.jos_isa.specs.Lawful.{is_lawful};
 ghost use Rattle.jos_demo.specs.Code.{int, store_byte, load_al, mov_byte, lodsb, stosb, test_al, test_eax, push_eax, pop, dec};
 ghost use Rattle.jos_demo.specs.Code.{mov_register, add_register, sub_register, service, with_items, image};
+ghost use Rattle.jos_demo.specs.Code.{inc, inc_word, add_byte, div, lodsd, stosd, rep_stosb, store_at_edi};
 
 use jos_asm::{Builder, CODE_MAX};
 use jos_base::{NoMemory, T_SERVICE, UTEXT};
@@ -29,6 +30,9 @@ pub(crate) const EBX: u8 = 3;
 /// The number of ESP.
 pub(crate) const ESP: u8 = 4;
 
+/// The number of EBP.
+pub(crate) const EBP: u8 = 5;
+
 /// The number of ESI.
 pub(crate) const ESI: u8 = 6;
 
@@ -38,6 +42,12 @@ pub(crate) const EDI: u8 = 7;
 /// The number of AL.
 pub(crate) const AL: u8 = 0;
 
+/// The number of DL.
+pub(crate) const DL: u8 = 2;
+
+/// The number of BL.
+pub(crate) const BL: u8 = 3;
+
 /// The number of AH.
 pub(crate) const AH: u8 = 4;
 
@@ -46,6 +56,9 @@ const ADD: u8 = 0;
 
 /// The number of the operation SUB. (`jos_isa`, `Row`)
 const SUB: u8 = 5;
+
+/// The condition of a jump where what was tested is zero.
+pub(crate) const ZERO: u8 = 4;
 
 /// The condition of a jump where what was tested is not zero.
 pub(crate) const NOT_ZERO: u8 = 5;
@@ -63,6 +76,8 @@ pub(crate) const PAGE: u32 = 0x0090_0000;
 pub(crate) const PRIVATE: u32 = 1;
 
 pub(crate) const NEWLINE: u8 = b'\n';
+
+pub(crate) const SPACE: u8 = b' ';
 
 /// The number of the service that ends a program. (`lib_os`, specs/Services.antt)
 pub(crate) const SERVICE_EXIT: u32 = 0;
@@ -85,11 +100,17 @@ pub(crate) const SERVICE_SEND: u32 = 8;
 /// The number of the service that receives a message. (`lib_os`, specs/Services.antt)
 pub(crate) const SERVICE_RECEIVE: u32 = 9;
 
+/// The number of the service that closes a descriptor. (`lib_os`, specs/Services.antt)
+pub(crate) const SERVICE_CLOSE: u32 = 11;
+
 /// The number of the service that reads. (`lib_os`, specs/Services.antt)
 pub(crate) const SERVICE_READ: u32 = 12;
 
 /// The number of the service that writes. (`lib_os`, specs/Services.antt)
 pub(crate) const SERVICE_WRITE: u32 = 13;
+
+/// The number of the service that makes a pipe. (`lib_os`, specs/Services.antt)
+pub(crate) const SERVICE_PIPE: u32 = 20;
 
 /// A software interrupt.
 pub(crate) fn int(vector: u8) -> Insn
@@ -297,6 +318,132 @@ pub(crate) fn sub_register(to: u8, from: u8) -> Insn
         repeat: Repeat::Once,
         operand: Operand::Reg(to),
         reg: from,
+        imm: 0,
+    }
+}
+
+/// One more in a register, 0 to 7.
+pub(crate) fn inc(reg: u8) -> Insn
+    requires { reg < 8 }
+    ensures value { result ≡ inc reg }
+    ensures lawful { IsTrue (is_lawful result) }
+{
+    Insn {
+        row: Row::IncR32,
+        repeat: Repeat::Once,
+        operand: Operand::Absent,
+        reg,
+        imm: 0,
+    }
+}
+
+/// One more in the word of the number EAX, from an address on.
+pub(crate) fn inc_word(va: u32) -> Insn
+    ensures value { result ≡ inc_word va }
+    ensures lawful { IsTrue (is_lawful result) }
+{
+    Insn {
+        row: Row::IncRm32,
+        repeat: Repeat::Once,
+        operand: Operand::Mem(MemArg {
+            base: None,
+            index: Some(EAX),
+            scale: 2,
+            disp: Disp::Word(va),
+        }),
+        reg: 0,
+        imm: 0,
+    }
+}
+
+/// A byte is added to a register of a byte, 0 to 7.
+pub(crate) fn add_byte(reg: u8, byte: u8) -> Insn
+    requires { reg < 8 }
+    ensures value { result ≡ add_byte reg byte }
+    ensures lawful { IsTrue (is_lawful result) }
+{
+    Insn {
+        row: Row::AluRm8Imm8(ADD),
+        repeat: Repeat::Once,
+        operand: Operand::Reg(reg),
+        reg: 0,
+        imm: byte as u32,
+    }
+}
+
+/// EDX and EAX are divided by a register, 0 to 7: the quotient goes into EAX, and the rest into EDX.
+pub(crate) fn div(reg: u8) -> Insn
+    requires { reg < 8 }
+    ensures value { result ≡ div reg }
+    ensures lawful { IsTrue (is_lawful result) }
+{
+    Insn {
+        row: Row::DivRm32,
+        repeat: Repeat::Once,
+        operand: Operand::Reg(reg),
+        reg: 0,
+        imm: 0,
+    }
+}
+
+/// The word to which ESI points into EAX; ESI points behind it then.
+pub(crate) fn lodsd() -> Insn
+    ensures value { result ≡ lodsd }
+    ensures lawful { IsTrue (is_lawful result) }
+{
+    Insn {
+        row: Row::Lodsd,
+        repeat: Repeat::Once,
+        operand: Operand::Absent,
+        reg: 0,
+        imm: 0,
+    }
+}
+
+/// EAX to where EDI points; EDI points behind it then.
+pub(crate) fn stosd() -> Insn
+    ensures value { result ≡ stosd }
+    ensures lawful { IsTrue (is_lawful result) }
+{
+    Insn {
+        row: Row::Stosd,
+        repeat: Repeat::Once,
+        operand: Operand::Absent,
+        reg: 0,
+        imm: 0,
+    }
+}
+
+/// AL to each of the ECX bytes from EDI on.
+pub(crate) fn rep_stosb() -> Insn
+    ensures value { result ≡ rep_stosb }
+    ensures lawful { IsTrue (is_lawful result) }
+{
+    Insn {
+        row: Row::Stosb,
+        repeat: Repeat::WhileEqual,
+        operand: Operand::Absent,
+        reg: 0,
+        imm: 0,
+    }
+}
+
+/// A register of a byte, 0 to 7, to where EDI points.
+pub(crate) fn store_at_edi(reg: u8) -> Insn
+    requires { reg < 8 }
+    ensures value { result ≡ store_at_edi reg }
+    ensures lawful { IsTrue (is_lawful result) }
+{
+    Insn {
+        row: Row::MovRm8R8,
+        repeat: Repeat::Once,
+        operand: Operand::Mem(MemArg {
+            base: Some(EDI),
+            index: None,
+            scale: 0,
+            disp: Disp::Zero,
+        }),
+        reg,
         imm: 0,
     }
 }

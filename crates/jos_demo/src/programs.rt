@@ -123,7 +123,7 @@ fn only_memory(fault: AsmFault) -> NoMemory
 }
 
 /// The code of a program without faults.
-fn assemble(program: Builder) -> Result<Vec<u8>, NoMemory>
+pub(crate) fn assemble(program: Builder) -> Result<Vec<u8>, NoMemory>
     requires { IsOk (finished program) }
     ensures exact { IfOk result (λ code. finished program ≡ Ok code.items) }
     ensures small { IfOk result (λ code. length code.items ≤ CODE_MAX) }

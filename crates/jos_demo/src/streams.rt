@@ -7,8 +7,9 @@ ghost use Rattle.jos_demo.specs.Streams.{roomy, line, taken, put, ended, echo, c
 
 use crate::code::{
     AL, EAX, EBX, ECX, EDI, EDX, ESI, ESP, NEGATIVE, NEWLINE, NOT_POSITIVE, NOT_ZERO, PAGE,
-    PRIVATE, SERVICE_EXIT, SERVICE_PAGE_NEW, SERVICE_READ, SERVICE_WRITE, TEXT, add_register, dec,
-    lodsb, mov_byte, mov_register, pop, service, stosb, sub_register, test_al, test_eax,
+    PRIVATE, SERVICE_EXIT, SERVICE_PAGE_NEW, SERVICE_READ, SERVICE_WRITE, SPACE, TEXT,
+    add_register, dec, lodsb, mov_byte, mov_register, pop, service, stosb, sub_register, test_al,
+    test_eax,
 };
 use jos_asm::Builder;
 use jos_base::{NoMemory, PGSIZE};
@@ -20,8 +21,6 @@ const INPUT: u32 = 0;
 
 /// The descriptor that is written.
 const OUTPUT: u32 = 1;
-
-const SPACE: u8 = b' ';
 
 /// The beginning of a program: makes a page for bytes, and ends where it gets none.
 #[tactic(auto, unfolding(crate::specs::Code::with_items))]

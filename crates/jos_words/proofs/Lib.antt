@@ -10,4 +10,5 @@ pub mod DemoForm
 pub mod MkfsForm
 pub mod LsForm
 pub mod CatForm
+pub mod GenForm
 pub mod Refused

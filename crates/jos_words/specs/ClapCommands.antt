@@ -47,6 +47,9 @@ ls_app = app_with (codes "ls") (required_rule (codes "disk") ∷ optional_rule (
 abbrev pub cat_app : App
 cat_app = app_with (codes "cat") (required_rule (codes "disk") ∷ required_rule (codes "path") ∷ [])
 
+abbrev pub gen_app : App
+gen_app = app_with (codes "gen") (required_rule (codes "seed") ∷ required_rule (codes "disk") ∷ [])
+
 -- clap takes these words, the first of which is the command's name
 unfoldable pub clap_takes : App → List (List ℕ) → Bool
 clap_takes app words = takes app words

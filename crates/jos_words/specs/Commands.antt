@@ -11,6 +11,7 @@ use Rattle.jos_words.specs.declared.commands.DemoWords.{DemoWords}
 use Rattle.jos_words.specs.declared.commands.MkfsWords.{MkfsWords}
 use Rattle.jos_words.specs.declared.commands.LsWords.{LsWords}
 use Rattle.jos_words.specs.declared.commands.CatWords.{CatWords}
+use Rattle.jos_words.specs.declared.commands.GenWords.{GenWords}
 use Rattle.jos_words.specs.declared.commands.CommandWords.{CommandWords}
 use Rattle.jos_words.specs.declared.commands.CommandWords.TheVariants as read
 
@@ -166,6 +167,24 @@ cat_words words = do
   arguments ← arguments_of [] words
   cat_of arguments
 
+-- ---- `gen SEED DISK`
+
+pub record Gen : Type 0 where
+  pub seed : NumberAt
+  pub disk : Word
+
+unfoldable pub gen_of : Arguments → Option Gen
+gen_of arguments = do
+  two ← two_of arguments.positionals
+  seed ← placed_number two.0
+  Some (record { seed = seed; disk = two.1 })
+
+-- the words behind `gen`, which has no options
+unfoldable pub gen_words : List (List ℕ) → Option Gen
+gen_words words = do
+  arguments ← arguments_of [] words
+  gen_of arguments
+
 -- ---- all commands
 
 pub data Command : Type 0 where
@@ -175,6 +194,7 @@ pub data Command : Type 0 where
   mkfs : Mkfs → Command
   ls : Ls → Command
   cat : Cat → Command
+  gen : Gen → Command
 
 -- the first word is the command's name
 unfoldable pub command_of : List (List ℕ) → Option Command
@@ -186,6 +206,7 @@ command_of (name ∷ words) =
     else if bytes_eq name (codes "mkfs") then option_map mkfs (mkfs_words words)
     else if bytes_eq name (codes "ls") then option_map ls (ls_words words)
     else if bytes_eq name (codes "cat") then option_map cat (cat_words words)
+    else if bytes_eq name (codes "gen") then option_map gen (gen_words words)
     else None
 
 -- ---- a command that was read, with its words in bytes
@@ -225,6 +246,9 @@ ls_in_bytes words = record { disk = word_in_bytes words.disk; path = option_map 
 abbrev pub cat_in_bytes : CatWords → Cat
 cat_in_bytes words = record { disk = word_in_bytes words.disk; path = word_in_bytes words.path }
 
+abbrev pub gen_in_bytes : GenWords → Gen
+gen_in_bytes words = record { seed = words.seed; disk = word_in_bytes words.disk }
+
 abbrev pub in_bytes : CommandWords → Command
 in_bytes (read.Exo words) = exo (exo_in_bytes words)
 in_bytes (read.Run words) = run (run_in_bytes words)
@@ -232,3 +256,4 @@ in_bytes (read.Demo words) = demo (demo_in_bytes words)
 in_bytes (read.Mkfs words) = mkfs (mkfs_in_bytes words)
 in_bytes (read.Ls words) = ls (ls_in_bytes words)
 in_bytes (read.Cat words) = cat (cat_in_bytes words)
+in_bytes (read.Gen words) = gen (gen_in_bytes words)

@@ -5,7 +5,7 @@ ghost use Rattle.clap.specs.Words.{app_of, rule_of};
 ghost use Rattle.jos_words.specs.declared.words.WordsFault.TheVariants.{Usage};
 ghost use Rattle.jos_words.specs.Arguments.{arguments_in_bytes, arguments_of, texts};
 ghost use Rattle.jos_words.specs.ClapCommands.{option_rule, required_rule, optional_rule, repeated_rule, optional_repeated_rule};
-ghost use Rattle.jos_words.specs.ClapCommands.{app_with, running_app, demo_app, mkfs_app, ls_app, cat_app, clap_takes, AreRefused};
+ghost use Rattle.jos_words.specs.ClapCommands.{app_with, running_app, demo_app, mkfs_app, ls_app, cat_app, gen_app, clap_takes, AreRefused};
 
 use crate::arguments::{ReadArguments, read_arguments};
 use crate::commands::RUNNING_OPTIONS;
@@ -115,6 +115,15 @@ pub(crate) fn cat_command<'a>(alloc: Global) -> Result<Command<'a>, AllocError>
     command_with(alloc, "cat", &[])?
         .arg(required(alloc, "disk"))?
         .arg(required(alloc, "path"))
+}
+
+/// `gen`, whose words are a seed and a disk.
+pub(crate) fn gen_command<'a>(alloc: Global) -> Result<Command<'a>, AllocError>
+    ensures { IfOk result (λ command. app_of command ≡ gen_app) }
+{
+    command_with(alloc, "gen", &[])?
+        .arg(required(alloc, "seed"))?
+        .arg(required(alloc, "disk"))
 }
 
 /// Has clap take the words, the first of which is the command's name.

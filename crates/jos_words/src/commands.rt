@@ -4,12 +4,14 @@ ghost use Rattle.std.specs.Prelude.{◌≡◌, ◌<◌, IfOk, IfErr, Some, None,
 ghost use Rattle.jos_words.specs.declared.words.WordsFault.TheVariants.{Usage};
 ghost use Rattle.jos_words.specs.Arguments.{word_in_bytes, arguments_in_bytes, texts};
 ghost use Rattle.jos_words.specs.Commands.{number_in, placed_number, exo_of, exo_words, run_of, run_words, demo_of, demo_words};
-ghost use Rattle.jos_words.specs.Commands.{mkfs_of, mkfs_words, ls_of, ls_words, cat_of, cat_words, command_of};
-ghost use Rattle.jos_words.specs.Commands.{exo_in_bytes, run_in_bytes, demo_in_bytes, mkfs_in_bytes, ls_in_bytes, cat_in_bytes, in_bytes};
+ghost use Rattle.jos_words.specs.Commands.{mkfs_of, mkfs_words, ls_of, ls_words, cat_of, cat_words, gen_of, gen_words, command_of};
+ghost use Rattle.jos_words.specs.Commands.{exo_in_bytes, run_in_bytes, demo_in_bytes, mkfs_in_bytes, ls_in_bytes, cat_in_bytes};
+ghost use Rattle.jos_words.specs.Commands.{gen_in_bytes, in_bytes};
 
 use crate::arguments::{ReadArguments, value_of};
 use crate::clap_commands::{
-    cat_command, demo_command, ls_command, mkfs_command, running_command, take_arguments,
+    cat_command, demo_command, gen_command, ls_command, mkfs_command, running_command,
+    take_arguments,
 };
 use crate::values::{NumberAt, number_of};
 use crate::words::{WordAt, WordsFault};
@@ -31,6 +33,8 @@ pub enum CommandWords<'a> {
     Ls(LsWords<'a>),
     /// `cat DISK PATH`: writes a file of a disk.
     Cat(CatWords<'a>),
+    /// `gen SEED DISK`: makes a disk with the program of a seed, and runs it.
+    Gen(GenWords<'a>),
 }
 
 /// The words of `exo`.
@@ -84,6 +88,13 @@ pub struct LsWords<'a> {
 pub struct CatWords<'a> {
     pub disk: WordAt<'a>,
     pub path: WordAt<'a>,
+}
+
+/// The words of `gen`.
+#[derive(Clone, Copy)]
+pub struct GenWords<'a> {
+    pub seed: NumberAt,
+    pub disk: WordAt<'a>,
 }
 
 /// The names of the options of `exo` and `run`.
@@ -225,6 +236,20 @@ fn cat_of<'a>(arguments: ReadArguments<'a>) -> Option<CatWords<'a>>
     }
 }
 
+/// The words of `gen`, if these are.
+#[tactic(auto, unfolding(crate::specs::Commands::gen_of))]
+fn gen_of<'a>(arguments: ReadArguments<'a>) -> Option<GenWords<'a>>
+    ensures { option_map gen_in_bytes result ≡ gen_of (arguments_in_bytes arguments.entry) }
+{
+    match arguments.positionals.as_slice() {
+        [seed, disk] => match placed_number(*seed) {
+            None => None,
+            Some(seed) => Some(GenWords { seed, disk: *disk }),
+        },
+        _ => None,
+    }
+}
+
 /// Reads the words of `exo`, the first of which is its name.
 fn read_exo<'a>(alloc: Global, words: &'a [&'a str]) -> Result<ExoWords<'a>, WordsFault>
     requires { 0 < length words.now }
@@ -291,6 +316,17 @@ fn read_cat<'a>(alloc: Global, words: &'a [&'a str]) -> Result<CatWords<'a>, Wor
     cat_of(arguments).ok_or(WordsFault::Usage)
 }
 
+/// Reads the words of `gen`, the first of which is its name.
+fn read_gen<'a>(alloc: Global, words: &'a [&'a str]) -> Result<GenWords<'a>, WordsFault>
+    requires { 0 < length words.now }
+    ensures ok { IfOk result (λ read. gen_words (drop 1 (texts words.now)) ≡ Some (gen_in_bytes read)) }
+    ensures usage { IfErr result (λ fault. fault ≡ Usage → gen_words (drop 1 (texts words.now)) ≡ None) }
+{
+    let command = gen_command(alloc)?;
+    let arguments = take_arguments(alloc, command, &[], words)?;
+    gen_of(arguments).ok_or(WordsFault::Usage)
+}
+
 /// The command that the words are: `Usage` exactly where they are none, unless there is no memory to read them.
 ///
 /// A number may be out of its range, there may be any number of images or of a program's words, and `demo` may have
@@ -315,6 +351,8 @@ pub fn read_words<'a>(alloc: Global, words: &'a [&'a str]) -> Result<CommandWord
                 read_ls(alloc, words).map(CommandWords::Ls)
             } else if *name == "cat" {
                 read_cat(alloc, words).map(CommandWords::Cat)
+            } else if *name == "gen" {
+                read_gen(alloc, words).map(CommandWords::Gen)
             } else {
                 Err(WordsFault::Usage)
             }

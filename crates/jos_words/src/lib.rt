@@ -13,7 +13,7 @@ mod values;
 mod words;
 
 pub use commands::{
-    CatWords, CommandWords, DemoWords, ExoWords, LsWords, MkfsWords, RunWords, read_words,
+    CatWords, CommandWords, DemoWords, ExoWords, GenWords, LsWords, MkfsWords, RunWords, read_words,
 };
 pub use values::{DIGITS_MAX, NumberAt};
 pub use words::{WordAt, WordsFault};

@@ -2,6 +2,7 @@
 
 use crate::environments::tell_environments;
 use crate::frames::tell_frames;
+use crate::lines::tell_lines;
 use crate::messages::tell_messages;
 use crate::schedules::tell_schedules;
 use anyhow::{Context, bail};
@@ -21,6 +22,8 @@ pub(crate) enum PartBench {
     Messages(Rendezvous),
     /// `jos_envs`, and whom `jos_sched` gives the next turn.
     Environments(Table),
+    /// `jos_shell`.
+    Lines,
 }
 
 impl Bench for PartBench {
@@ -33,6 +36,7 @@ impl Bench for PartBench {
                 let table = Table::new(alloc).ok().context("no memory")?;
                 Ok(PartBench::Environments(table))
             }
+            "lines" => Ok(PartBench::Lines),
             _ => bail!("{line} is not tried"),
         }
     }
@@ -43,6 +47,7 @@ impl Bench for PartBench {
             PartBench::Frames => tell_frames(alloc, what, words),
             PartBench::Messages(rendezvous) => tell_messages(rendezvous, alloc, what, words),
             PartBench::Environments(table) => tell_environments(table, alloc, what, words),
+            PartBench::Lines => tell_lines(alloc, what, words),
         }
     }
 }

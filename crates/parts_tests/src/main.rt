@@ -1,4 +1,5 @@
-//! What is tested of the kernel's parts: schedules, trap frames, messages and the table of environments. Each line of
+//! What is tested of the kernel's parts: schedules, trap frames, messages and the table of environments; and of lines of
+//! the shell. Each line of
 //! `stdin` is a case (`test_cases`), and `stdout` has what is wanted, worked out by hand.
 //!
 //! | Case of `schedules` | What is told |
@@ -27,13 +28,20 @@
 //! | `renew SLOT TIMES` | the last id, where the slot is freed and given so often |
 //! | `record SLOT`, `full_record` | the record of a slot, and of an environment with no part empty |
 //! | `first_next`, `next_behind SLOT` | who gets the first turn, and the turn behind that of a slot |
+//!
+//! | Case of `lines` | What is told |
+//! |---|---|
+//! | `read "TEXT"` | what is read of a line: of each command its words, its files, and `|` where it is piped, else `;` |
+//! | `repeat TIMES "TEXT"` | the same of a line that has the text so often |
 #![tactic(auto)]
 
 mod bench;
 mod environments;
 mod frames;
+mod lines;
 mod messages;
 mod schedules;
+mod texts;
 
 use crate::bench::PartBench;
 

@@ -1,31 +1,10 @@
 //! Turns and schedules.
 
+use crate::texts::text_of;
 use anyhow::{Context, ensure};
 use jos_sched::{Schedule, ScheduleFault, parse_schedule};
 use std::alloc::Global;
 use test_cases::{Shown, numbers};
-
-/// The bytes of a text between quotes, in which `\t`, `\r` and `\n` are what they are in Rust.
-fn text_of(alloc: Global, quoted: &str) -> anyhow::Result<Vec<u8>> {
-    let mut text = Vec::new(alloc);
-    let mut escaped = false;
-    for byte in quoted.as_bytes() {
-        match *byte {
-            b'\\' => escaped = true,
-            b'"' => {}
-            byte => {
-                text.push(match (escaped, byte) {
-                    (true, b't') => b'\t',
-                    (true, b'r') => b'\r',
-                    (true, b'n') => b'\n',
-                    _ => byte,
-                })?;
-                escaped = false;
-            }
-        }
-    }
-    Ok(text)
-}
 
 /// The numbers of a schedule, or what is wrong with its text.
 fn read(alloc: Global, quoted: &str) -> anyhow::Result<Shown> {

@@ -4,6 +4,7 @@ use Rattle.jos_host.specs.Frames.{around}
 use Rattle.jos_cli.specs.Commands.{command_of}
 use Rattle.jos_cli.proofs.Asking.{asks_no_more}
 use Rattle.jos_cli.proofs.Leaving.{left_no_memory}
+use Rattle.jos_cli.proofs.Generated.{memory_accepted}
 use Rattle.jos_cli.proofs.Tops.{command_cause}
 use Rattle.jos_cli.proofs.texts.answer_texts.Goals as goal
 
@@ -52,6 +53,12 @@ returns-clause-ran g c files input r f i is can calm =
     (ap command_of (ap (map (λ w. w.now)) c.deref-2.ensures.value ∙ c.in-Ok-words_of.ensures ∙ ap (λ l. drop 1 (map (λ t. string_bytes t) l)) c.deref.ensures.value ∙ c.in-Ok.ensures) ∙ is)
     can calm
 
+pub returns-clause-generated : goal.returns-clause-generated
+returns-clause-generated g c files input one f i is can calm =
+    c.top.ensures.generated files input one f i
+    (ap command_of (ap (map (λ w. w.now)) c.deref-2.ensures.value ∙ c.in-Ok-words_of.ensures ∙ ap (λ l. drop 1 (map (λ t. string_bytes t) l)) c.deref.ensures.value ∙ c.in-Ok.ensures) ∙ is)
+    can calm
+
 pub returns-in_default-clause-cause : goal.returns-in_default-clause-cause
 returns-in_default-clause-cause g c =
     command_cause (command_of _) (around g.H.Host.faults c.args.host.now c.refuse_words.new.host) c.refuse_words.result c.refuse_words.ensures.cause
@@ -60,3 +67,16 @@ pub returns-in_default-words_of-clause-cause : goal.returns-in_default-words_of-
 returns-in_default-words_of-clause-cause g c =
     command_cause (command_of _) (around g.H.Host.faults c.args.host.now c.refuse_words-in_default-words_of.new.host) c.refuse_words-in_default-words_of.result
     c.refuse_words-in_default-words_of.ensures.cause
+
+pub returns-in_default-clause-accepted : goal.returns-in_default-clause-accepted
+returns-in_default-clause-accepted g c files one f is none = memory_accepted c.refuse_words.result c.refuse_words.ensures.memory
+
+pub returns-in_default-words_of-clause-accepted : goal.returns-in_default-words_of-clause-accepted
+returns-in_default-words_of-clause-accepted g c files one f is none =
+    memory_accepted c.refuse_words-in_default-words_of.result c.refuse_words-in_default-words_of.ensures.memory
+
+pub returns-clause-accepted : goal.returns-clause-accepted
+returns-clause-accepted g c files one f is none =
+    c.top.ensures.accepted files one f
+    (ap command_of (ap (map (λ w. w.now)) c.deref-2.ensures.value ∙ c.in-Ok-words_of.ensures ∙ ap (λ l. drop 1 (map (λ t. string_bytes t) l)) c.deref.ensures.value ∙ c.in-Ok.ensures) ∙ is)
+    none

@@ -1,0 +1,5 @@
+mod Bytes
+mod Places
+mod Reading
+mod Taking
+mod Whole
