@@ -2,12 +2,14 @@
 
     python3 bench/compare.py [COUNT [SEED]]
     python3 bench/compare.py run [COUNT [SEED]]
+    python3 bench/compare.py instructions [COUNT [SEED]]
 
 Each of COUNT runs (1,000 without a word) has 1 to 4 images of random calls, reads and writes, which tell at their end
 what their answers were and what the windows show, under a random schedule; with `run` it has one program under the
-library, of random services, reads and writes, and more often than not with children, on a random disk. Console and notes have to be the
-same, and the disk behind the run, byte by byte. What differs is told with its seed, and left in a folder; the status is then 1. A run that comes to code which the
-model does not have, since it jumped to what it had written itself, is left out. It wants out/jos, which ./jos builds.
+library, of random services, reads and writes, and more often than not with children, on a random disk; with `instructions` one of
+random instructions of every kind, which tells its registers and flags behind each few of them, and its pages at its end. Console and notes have
+to be the same, and under the library the disk behind the run, byte by byte. What differs is told with its seed, and left in a folder; the status
+is then 1. It wants out/jos, which ./jos builds.
 """
 import collections
 import pathlib
@@ -18,9 +20,10 @@ import tempfile
 
 from disks import BLOCK, Disk, Fault, random_tree
 from images import BASE, CODE, image, word
+from instruction_programs import InstructionProgram
 from library_model import Run
 from library_programs import FileProgram, ForkProgram, LibraryProgram, PipeProgram, random_words
-from model import EXCEPTION_STACK, Kernel, UENVS, UPAGES, Unmodelled, UTOP, UVPT
+from model import EXCEPTION_STACK, Kernel, UENVS, UPAGES, UTOP, UVPT
 
 PROGRAM = pathlib.Path(__file__).resolve().parent.parent / "out" / "jos"
 LOG = 0x801000  # where a program keeps its answers
@@ -156,7 +159,7 @@ def compared(seed, folder, model, notes, words, console_input):
 
 
 def compare(seed, folder):
-    """What the run ends with, "left out", or None where the simulator tells another run than the model."""
+    """What the run ends with, or None where the simulator tells another run than the model."""
     chance = random.Random(seed)
     count = chance.choice([1, 1, 2, 2, 3, 4])
     styles = [chance.choice([ANY, PARENT, HUNGRY]) for _ in range(count)]
@@ -172,10 +175,7 @@ def compare(seed, folder):
         name.write_bytes(content)
     (folder / "schedule").write_text(" ".join(map(str, schedule)))
     model = Kernel(images, frames, console_input, schedule, steps, traps)
-    try:
-        notes = model.run()
-    except Unmodelled:
-        return "left out"
+    notes = model.notes(model.run())
     options = ["--frames", frames, "--steps", steps, "--trace", traps, "--schedule", folder / "schedule"]
     return compared(seed, folder, model, notes, ["exo", *options, *names], console_input)
 
@@ -218,16 +218,17 @@ def compare_library(seed, folder):
         frames, steps = frames + chance.choice([0, 500, 500, 500]), chance.choice([20000, 200000, 1000000])
     if forks and program.fills_table:
         frames, steps, schedule = frames + 5000, 5000000, schedule + [1000]
+    return compared_on_disk(seed, folder, with_image(disk, records, content), content, given, frames, console_input, schedule, steps, traps)
+
+
+def compared_on_disk(seed, folder, data, content, given, frames, console_input, schedule, steps, traps):
+    """The same of an image that stands on a disk, and is given these words; the disk behind the run is compared, too."""
     words = ["image", *given]
-    data = with_image(disk, records, content)
     (folder / "disk").write_bytes(data)
     (folder / "schedule").write_text(" ".join(map(str, schedule)))
     model = Run(data, content, [str(each).encode() for each in words], frames, console_input, schedule, steps, traps)
-    try:
-        end = model.run()
-        left = model.finish()
-    except Unmodelled:
-        return "left out"
+    end = model.run()
+    left = model.finish()
     words.insert(0, folder / "disk")
     options = ["--frames", frames, "--steps", steps, "--trace", traps, "--schedule", folder / "schedule"]
     told = compared(seed, folder, model, model.notes(end), ["run", *options, "--", *words], console_input)
@@ -238,12 +239,21 @@ def compare_library(seed, folder):
     return told
 
 
+def compare_instructions(seed, folder):
+    """The same of a program of random instructions."""
+    chance = random.Random(seed)
+    content = InstructionProgram(chance).build()
+    frames = Run.wanted_frames(content) + chance.choice([20, 100])
+    steps, traps = chance.choice([5000, 50000, 100000, 200000, 200000]), chance.choice([1, 1024])
+    schedule = random_schedule(chance)
+    return compared_on_disk(seed, folder, with_image(Disk(64), b"", content), content, [], frames, b"", schedule, steps, traps)
+
+
 def main():
     numbers = sys.argv[1:]
     compare_one = compare
-    if numbers[:1] == ["run"]:
-        compare_one = compare_library
-        del numbers[0]
+    if numbers[:1] in (["run"], ["instructions"]):
+        compare_one = compare_library if numbers.pop(0) == "run" else compare_instructions
     count = int(numbers[0]) if numbers else 1000
     first = int(numbers[1]) if len(numbers) > 1 else 0
     ends = collections.Counter()

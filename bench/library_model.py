@@ -8,18 +8,19 @@ DISK stays as it is; as the run leaves it, it goes to the file that --left names
 It is written after docs/library.md, and shares nothing with the code: the fence, the services 0 to 20, each with its
 refusals and its steps, the handler of page faults, which copies a page that waits for that or ends the program, turns, and the end of a
 run, behind which the disk has what the file server has done.
-The processor is that of processor.py, the frames are those of model.py, and the file server is that of server_model.py. It takes the words
-of the command, and the console's input on its own, and answers with its console, notes and status; what it does not have is `Unmodelled`.
+The processor is that of processor.py, with every instruction, the frames are those of model.py, and the file server is that of server_model.py.
+It takes the words of the command, and the console's input on its own, and answers with its console, notes and status.
 """
 import argparse
 import pathlib
 import struct
 import sys
 
-from model import ACCESSED, AVAILABLE, BAD_ENVIRONMENT, DIRTY, EAX, EBX, ECX, EDX, ESP, EXCEPTION_STACK, INVALID, MASK
-from model import NO_ENVIRONMENT, NO_MEMORY, NOT_RECEIVING, P, PAGE_SIZE, SLOTS, STACK_TOP, U, W
 from disks import Reader
-from model import Frames, PageFault, Trap, Unmodelled
+from images import pages_of, segments_of
+from machine import EAX, EBX, ECX, EDX, ESP, MASK, PageFault, Trap
+from model import ACCESSED, AVAILABLE, BAD_ENVIRONMENT, DIRTY, EXCEPTION_STACK, INVALID, NO_ENVIRONMENT, NO_MEMORY, NOT_RECEIVING
+from model import P, PAGE_SIZE, QUANTUM, SLOTS, STACK_TOP, TURN_MAX, U, W, Frames, notes_of
 from processor import Processor
 from server_model import BAD_PATH, DEVICE, FILE, LONGEST_PATH, MAX_OPEN, MODE, NUMBER, OPEN, READ, REMOVE, REQUEST_BYTES, REQUEST_COUNT
 from server_model import REQUEST_MODE, REQUEST_NUMBER, SEEK, SET_SIZE, STAT, SYNC, WRITE, FileServer
@@ -44,7 +45,8 @@ SERVER, PROGRAM = 0x1000, 0x1001
 OPEN_RECORDS = 0x0FFFE  # where the server has its page for the records of open files
 FENCE = [(0x00200000, 0x00400000), (0x00800000, 0xD0000000), (0xD0400000, 0xEEBFE000)]
 RESIDENT = range(0xEEBFE800, 0xEEC00000)
-CPUTS_MAX, TURN_MAX, QUANTUM = 4096, 1048576, 1000
+CPUTS_MAX = 4096
+SERVICE = 0x40  # the vector of INT
 FRAMES_BESIDE = 256  # what a run wants beside the pages of the image and their tables
 STATUSES = {"done": 0, "stuck": 9, "budget": 10, "turns full": 11}
 
@@ -55,7 +57,10 @@ def told_by_stat(name, size):
 
 
 def in_fence(va, length):
-    return any(start <= va and va + length <= end for start, end in FENCE)
+    for start, end in FENCE:
+        if start <= va and va + length <= end:
+            return True
+    return False
 
 
 def is_page(va):
@@ -71,20 +76,9 @@ def moved_at_once(va, wanted):
     return 4 if va % 4 == 0 and wanted >= 4 else 1
 
 
-def segments_of(image):
-    """The entry, and of each segment with memory its file's place and size, its address and size, and whether it is written."""
-    entry, headers = struct.unpack_from("<II", image, 24)
-    (number,) = struct.unpack_from("<H", image, 44)
-    segments = []
-    for k in range(number):
-        kind, offset, va, _, in_file, in_memory, flags, _ = struct.unpack_from("<8I", image, headers + 32 * k)
-        if kind == 1 and in_memory > 0:
-            segments.append((offset, in_file, va, in_memory, flags & 2 != 0))
-    return entry, segments
-
-
 class Memory:
-    """The pages of an environment, as its program reaches them: byte after byte, the fence first."""
+    """The pages of an environment, as its program reaches them: byte after byte, the fence first. All bytes of a page are reached alike, so
+    what lies in one page is reached at once."""
 
     def __init__(self, frames, directory):
         self.frames, self.directory = frames, directory
@@ -106,17 +100,24 @@ class Memory:
         return entry[0]
 
     def read(self, va, length, changes=False):
-        places = [(va + k) & MASK for k in range(length)]
-        return bytes([self.frames.bytes[self.reach(place, changes, self.ip)][place % PAGE_SIZE] for place in places])
+        if length == 0:
+            return b""
+        at, here = va % PAGE_SIZE, PAGE_SIZE - va % PAGE_SIZE
+        if length <= here:
+            return bytes(self.frames.bytes[self.reach(va, changes, self.ip)][at:at + length])
+        return self.read(va, here, changes) + self.read(va + here & MASK, length - here, changes)
 
-    # the bytes of an instruction are reached for one by one too
+    # the bytes of an instruction are reached as others are
     fetch = read
 
     def write(self, va, content):
-        places = [(va + k) & MASK for k in range(len(content))]
-        frames = [self.reach(place, True, self.ip) for place in places]
-        for place, frame, byte in zip(places, frames, content):
-            self.frames.bytes[frame][place % PAGE_SIZE] = byte
+        """Nothing is written where a byte is refused."""
+        at, here = va % PAGE_SIZE, PAGE_SIZE - va % PAGE_SIZE
+        frame = self.frames.bytes[self.reach(va, True, self.ip)]
+        if len(content) > here:
+            self.write(va + here & MASK, content[here:])
+            content = content[:here]
+        frame[at:at + len(content)] = content
 
 
 class Environment:
@@ -125,7 +126,7 @@ class Environment:
     def __init__(self, identity, parent, frames, directory):
         self.id, self.parent, self.status = identity, parent, "not runnable"
         self.directory, self.memory = directory, Memory(frames, directory)
-        self.processor = Processor(0, 0)
+        self.processor = Processor(0, 0, {SERVICE})
         self.service = None  # its number, with the stage and what it has found out
         self.stage, self.found = "entered", ()
         self.fault = None  # that the handler has: the error code, the address, and that of the instruction
@@ -155,7 +156,7 @@ class Run:
         self.schedule, self.steps_left, self.traps_kept = schedule, steps, traps
         self.steps = self.turns = self.refused = self.upcalls = 0
         self.output, self.traps = bytearray(), []
-        self.slots, self.last_ids, self.free_slots = [None] * SLOTS, [0] * SLOTS, list(range(SLOTS))
+        self.slots, self.last_ids, self.free_slots, self.taken_slots = [None] * SLOTS, [0] * SLOTS, list(range(SLOTS)), set()
         self.last, self.now = -1, None
         server = self.make(0)
         assert self.frames.allocate(server.directory, OPEN_RECORDS, P | U | W)
@@ -170,17 +171,13 @@ class Run:
 
     @staticmethod
     def wanted_frames(image):
-        pages = {page for _, _, va, size, _ in segments_of(image)[1] for page in range(va >> 12, (va + size - 1 >> 12) + 1)}
+        pages = pages_of(segments_of(image)[1])
         return FRAMES_BESIDE + len(pages) + len({page >> 10 for page in pages})
 
     def load(self, image):
         self.entry, segments = segments_of(image)
-        rights = {}
-        for _, _, va, size, writable in segments:
-            for page in range(va >> 12, (va + size - 1 >> 12) + 1):
-                rights[page] = rights.get(page, False) or writable
-        for page in sorted(rights):
-            assert self.frames.allocate(self.now.directory, page, P | U | (W if rights[page] else 0))
+        for page, writable in sorted(pages_of(segments).items()):
+            assert self.frames.allocate(self.now.directory, page, P | U | (W if writable else 0))
         for offset, in_file, va, _, _ in segments:
             for k in range(in_file):
                 self.page_bytes(va + k)[(va + k) % PAGE_SIZE] = image[offset + k]
@@ -207,7 +204,7 @@ class Run:
         self.page_bytes(FIRST_DESCRIPTOR << 12)[: len(CONSOLE)] = CONSOLE
         frame = self.frames.entries[self.now.directory][FIRST_DESCRIPTOR][0]
         assert self.frames.insert(self.now.directory, FIRST_DESCRIPTOR + 1, frame, P | U | W | SHARED)
-        self.now.processor = Processor(self.entry, esp)
+        self.now.processor = Processor(self.entry, esp, {SERVICE})
 
     # ---- environments
 
@@ -219,6 +216,7 @@ class Run:
         if directory is None:
             return NO_MEMORY
         slot = self.free_slots.pop(0)
+        self.taken_slots.add(slot)
         self.last_ids[slot] = ((self.last_ids[slot] + PAGE_SIZE) & ~(SLOTS - 1)) + slot
         made = self.slots[slot] = Environment(self.last_ids[slot], parent, self.frames, directory)
         return made
@@ -226,6 +224,7 @@ class Run:
     def destroy(self, gone):
         self.frames.destroy(gone.directory)
         self.slots[gone.id % SLOTS] = None
+        self.taken_slots.remove(gone.id % SLOTS)
         self.free_slots.insert(0, gone.id % SLOTS)
 
     def named(self, identity):
@@ -1229,11 +1228,8 @@ class Run:
 
     def next_slot(self):
         """The first behind the last turn's that may run, or None."""
-        for k in range(1, SLOTS + 1):
-            found = self.slots[(self.last + k) % SLOTS]
-            if found is not None and found.status == "runnable":
-                return (self.last + k) % SLOTS
-        return None
+        places = [(slot - self.last - 1) % SLOTS for slot in self.taken_slots if self.slots[slot].status == "runnable"]
+        return (self.last + 1 + min(places)) % SLOTS if places else None
 
     def run(self):
         """The end."""
@@ -1256,10 +1252,7 @@ class Run:
         return bytes(self.server.disk)
 
     def notes(self, end):
-        kept = self.traps[-self.traps_kept:] if self.traps_kept else []
-        lines = ["[%08x] trap %d err %x va %08x ip %08x\n" % trap for trap in kept]
-        told = "%s steps %d turns %d refused %d upcalls %d\n" % (end, self.steps, self.turns, self.refused, self.upcalls)
-        return "".join(lines) + told
+        return notes_of(self, end)
 
 
 def main():

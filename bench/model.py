@@ -1,8 +1,14 @@
-"""A model of the exokernel and of the few instructions that the programs of compare.py have.
+"""A model of `jos exo`: the exokernel, and the environments that it boots.
 
-It is written after docs/, with dictionaries in place of tables and frames, and shares nothing with the code.
+It is written after docs/, with dictionaries in place of tables and frames, and shares nothing with the code. The processor is that of
+processor.py.
 """
+import itertools
 import struct
+
+from images import pages_of, segments_of
+from machine import EAX, EBP, EBX, ECX, EDI, EDX, ESI, ESP, MASK, PageFault, Trap
+from processor import Processor
 
 PAGE_SIZE = 4096
 RECORD_WORDS = 16
@@ -22,28 +28,8 @@ STACK_TOP = 0xEEBFE000
 BAD_ENVIRONMENT, INVALID, NO_MEMORY, NO_ENVIRONMENT, NOT_RECEIVING = 2, 3, 4, 5, 7
 
 FREE, RUNNABLE, RUNNING, NOT_RUNNABLE = 0, 2, 3, 4
-EAX, ECX, EDX, EBX, ESP, EBP, ESI, EDI = range(8)
-MASK = 0xFFFFFFFF
-
-
-class PageFault(Exception):
-    """An access at an address that is refused, with its error code."""
-
-    def __init__(self, address, error):
-        super().__init__(hex(address))
-        self.address, self.error = address, error
-
-
-class Trap(Exception):
-    """Any other trap, with its number, its error code and the address that it is told for."""
-
-    def __init__(self, number, error, address):
-        super().__init__(str(number))
-        self.number, self.error, self.address = number, error, address
-
-
-class Unmodelled(Exception):
-    """An instruction that the model does not have."""
+SYSTEM_CALL = 0x30  # the vector of INT
+TURN_MAX, QUANTUM = 1048576, 1000
 
 
 class Frames:
@@ -148,7 +134,7 @@ class Frames:
 class Environment:
     def __init__(self, identity):
         self.id, self.parent, self.status, self.runs = identity, 0, FREE, 0
-        self.registers, self.eip, self.flags = [0] * 8, 0, 0
+        self.processor = Processor(0, 0, {SYSTEM_CALL})
         self.directory, self.handler = 0, 0
         self.receives, self.wanted, self.place = 0, 0, 0
         self.value, self.sender, self.bits = 0, 0, 0
@@ -164,11 +150,11 @@ class Kernel:
     def __init__(self, images, frames, console_input, schedule, steps, traps):
         self.frames = Frames(frames)
         self.slots = [Environment(0) for _ in range(SLOTS)]
-        self.free_slots = list(range(SLOTS))
+        self.free_slots, self.used = list(range(SLOTS)), 0  # how many of the first slots were ever used
         self.input, self.output = list(console_input), bytearray()
         self.schedule, self.steps_left, self.traps_kept = schedule, steps, traps
         self.steps = self.turns = self.refused = self.upcalls = 0
-        self.traps, self.current, self.last = [], None, -1
+        self.traps, self.now, self.last = [], None, -1
         for image in images:
             self.boot(image)
 
@@ -182,42 +168,43 @@ class Kernel:
         if directory is None:
             return NO_MEMORY
         slot = self.free_slots.pop(0)
+        self.used = max(self.used, slot + 1)
         made = Environment(((self.slots[slot].id + PAGE_SIZE) & ~(SLOTS - 1)) + slot)
         made.parent, made.status, made.directory = parent, NOT_RUNNABLE, directory
         self.slots[slot] = made
         return made
 
     def boot(self, image):
-        """An image with one segment, of which each page may be written."""
-        entry, headers = struct.unpack_from("<II", image, 24)
-        _, offset, start, _, in_file, in_memory, _, _ = struct.unpack_from("<8I", image, headers)
+        """The pages of the segments in rising order, of which each may be written where one of the segments in it may, and the stack."""
+        entry, segments = segments_of(image)
         made = self.make(0)
-        for page in range(start >> 12, ((start + in_memory - 1) >> 12) + 1):
-            assert self.frames.allocate(made.directory, page, P | W | U)
-        for place in range(in_file):
-            frame = self.frames.entries[made.directory][(start + place) >> 12][0]
-            self.frames.bytes[frame][(start + place) % PAGE_SIZE] = image[offset + place]
+        for page, writable in sorted(pages_of(segments).items()):
+            assert self.frames.allocate(made.directory, page, P | U | (W if writable else 0))
+        for offset, in_file, start, _, _ in segments:
+            for place in range(in_file):
+                frame = self.frames.entries[made.directory][(start + place) >> 12][0]
+                self.frames.bytes[frame][(start + place) % PAGE_SIZE] = image[offset + place]
         assert self.frames.allocate(made.directory, (STACK_TOP >> 12) - 1, P | W | U)
-        made.registers[ESP], made.eip, made.flags, made.status = STACK_TOP, entry, 0x202, RUNNABLE
+        made.processor.eip, made.processor.registers[ESP], made.status = entry, STACK_TOP, RUNNABLE
 
-    def end(self, gone):
+    def destroy(self, gone):
         self.frames.destroy(gone.directory)
         slot = self.slots.index(gone)
         self.slots[slot] = Environment(gone.id)
         self.free_slots.insert(0, slot)
 
     def kill(self, text):
-        self.output += b"[%08x] %s\n" % (self.current.id, text.encode())
-        self.end(self.current)
+        self.output += b"[%08x] %s\n" % (self.now.id, text.encode())
+        self.destroy(self.now)
 
     def named(self, identity, control):
         """The environment of an id; `control` asks for the caller or a child of its own."""
         if identity == 0:
-            return self.current
+            return self.now
         found = self.slots[identity % SLOTS]
         if found.status == FREE or found.id != identity:
             return None
-        if control and found is not self.current and found.parent != self.current.id:
+        if control and found is not self.now and found.parent != self.now.id:
             return None
         return found
 
@@ -225,7 +212,7 @@ class Kernel:
 
     def reach(self, address, write, mark=True):
         """The frame of the page at an address, where the access is let through."""
-        directory, page = self.current.directory, address >> 12
+        directory, page = self.now.directory, address >> 12
         entry = self.frames.entry(directory, page)
         code = U | (W if write else 0)
         if entry is None:
@@ -245,7 +232,7 @@ class Kernel:
             return self.slots[index // RECORD_WORDS].record()[index % RECORD_WORDS]
         if region == UPAGES >> 22:
             return self.frames.count(index // 2) if index % 2 else 0
-        entry = self.frames.entry(self.current.directory, index)
+        entry = self.frames.entry(self.now.directory, index)
         return 0 if entry is None else entry[0] * PAGE_SIZE + entry[1]
 
     def byte(self, address):
@@ -254,18 +241,28 @@ class Kernel:
             return self.frames.bytes[frame][address % PAGE_SIZE]
         return self.window_word(address & ~3) >> 8 * (address & 3) & 255
 
-    def read(self, address, length):
+    def read(self, address, length, changes=False):
+        """The bytes, which are written afterwards if they are read to be changed. Those of one page are reached at once."""
+        at = address % PAGE_SIZE
+        if address < UTOP and 0 < length <= PAGE_SIZE - at:
+            return bytes(self.frames.bytes[self.reach(address, changes)][at:at + length])
+        if changes:
+            for k in range(length):
+                self.reach((address + k) & MASK, True)
         return bytes(self.byte((address + k) & MASK) for k in range(length))
 
-    def read_word(self, address):
-        return int.from_bytes(self.read(address, 4), "little")
+    # the bytes of an instruction are reached for one by one too
+    fetch = read
 
-    def write_words(self, address, words):
-        places = [(address + k) & MASK for k in range(4 * len(words))]
-        for place in places:
-            self.reach(place, True)
-        for place, byte in zip(places, struct.pack("<%dI" % len(words), *words)):
-            self.frames.bytes[self.reach(place, True)][place % PAGE_SIZE] = byte
+    def write(self, address, content):
+        at = address % PAGE_SIZE
+        if 0 < len(content) <= PAGE_SIZE - at:
+            self.frames.bytes[self.reach(address, True)][at:at + len(content)] = content
+            return
+        places = [(address + k) & MASK for k in range(len(content))]
+        frames = [self.reach(place, True) for place in places]
+        for place, frame, byte in zip(places, frames, content):
+            self.frames.bytes[frame][place % PAGE_SIZE] = byte
 
     def read_user(self, address, length):
         """What a call reads: nothing is marked where a byte of it can't be read."""
@@ -277,8 +274,8 @@ class Kernel:
 
     def call(self):
         """Makes the call that EAX names. What a call gives is its answer, None where EAX stays as it is."""
-        caller = self.current
-        number, ecx, edx, ebx, _, _, esi, edi = caller.registers
+        caller = self.now
+        number, ecx, edx, ebx, _, _, esi, edi = caller.processor.registers
         calls = {
             0: lambda: self.cputs(edx, ecx),
             1: lambda: self.input.pop(0) if self.input else 4,
@@ -297,7 +294,7 @@ class Kernel:
         }
         answer = calls.get(number, lambda: -INVALID)()
         if answer is not None:
-            caller.registers[EAX] = answer & MASK
+            caller.processor.registers[EAX] = answer & MASK
 
     def out_of_memory(self, error):
         self.refused += 1
@@ -316,8 +313,8 @@ class Kernel:
         target = self.named(identity, True)
         if target is None:
             return -BAD_ENVIRONMENT
-        self.end(target)
-        return None if target is self.current else 0
+        self.destroy(target)
+        return None if target is self.now else 0
 
     def page_alloc(self, identity, address, bits):
         target = self.named(identity, True)
@@ -359,11 +356,11 @@ class Kernel:
         return 0
 
     def exofork(self):
-        child = self.make(self.current.id)
+        child = self.make(self.now.id)
         if not isinstance(child, Environment):
             return self.out_of_memory(child)
-        child.registers = [0] + self.current.registers[1:]
-        child.eip, child.flags = self.current.eip, self.current.flags
+        child.processor.registers = [0] + self.now.processor.registers[1:]
+        child.processor.eip, child.processor.flags = self.now.processor.eip, self.now.processor.flags
         return child.id
 
     def env_set_status(self, identity, status):
@@ -383,8 +380,9 @@ class Kernel:
             words = struct.unpack("<17I", self.read_user(address, 68))
         except PageFault as fault:
             return self.kill("user_mem_check assertion failure for va %08x" % fault.address)
-        target.registers = [words[k] for k in (7, 6, 5, 4, 15, 2, 1, 0)]
-        target.eip, target.flags = words[12], 0x202 | words[14] & 0xCD5
+        processor = target.processor
+        processor.registers = [words[k] for k in (7, 6, 5, 4, 15, 2, 1, 0)]
+        processor.eip, processor.flags = words[12], 0x202 | words[14] & 0xCD5
         return 0
 
     def env_set_pgfault_upcall(self, identity, handler):
@@ -395,34 +393,34 @@ class Kernel:
         return 0
 
     def give_way(self):
-        self.current.status = RUNNABLE
+        self.now.status = RUNNABLE
         return 0
 
     def ipc_try_send(self, identity, value, address, bits):
         target = self.named(identity, False)
         if target is None:
             return -BAD_ENVIRONMENT
-        if not target.receives or target.wanted not in (0, self.current.id):
+        if not target.receives or target.wanted not in (0, self.now.id):
             return -NOT_RECEIVING
         passed = 0
         if address < UTOP:
             if not is_page(address):
                 return -INVALID
-            frame = self.shared(self.current, address, bits)
+            frame = self.shared(self.now, address, bits)
             if frame is None:
                 return -INVALID
             if target.place < UTOP:
                 if not self.frames.insert(target.directory, target.place >> 12, frame, bits):
                     return self.out_of_memory(NO_MEMORY)
                 passed = bits
-        target.receives, target.sender, target.value, target.bits = 0, self.current.id, value, passed
-        target.status, target.registers[EAX] = RUNNABLE, 0
+        target.receives, target.sender, target.value, target.bits = 0, self.now.id, value, passed
+        target.status, target.processor.registers[EAX] = RUNNABLE, 0
         return 0
 
     def ipc_recv(self, place, wanted):
         if place < UTOP and not is_page(place):
             return -INVALID
-        waiting = self.current
+        waiting = self.now
         waiting.receives, waiting.place, waiting.wanted, waiting.status = 1, place, wanted, NOT_RUNNABLE
         return None
 
@@ -430,82 +428,63 @@ class Kernel:
 
     def fault(self, fault):
         """Hands a page fault to the handler, or ends the environment."""
-        failed = self.current
-        self.traps.append((failed.id, 14, fault.error, fault.address, failed.eip))
-        esp = failed.registers[ESP]
+        failed, processor = self.now, self.now.processor
+        self.traps.append((failed.id, 14, fault.error, fault.address, processor.eip))
+        esp = processor.registers[ESP]
         frame = UXSTACKTOP - 52 if not EXCEPTION_STACK <= esp < UXSTACKTOP else esp - 56
         if failed.handler and frame >= EXCEPTION_STACK:
-            registers = [failed.registers[k] for k in (EDI, ESI, EBP, ESP, EBX, EDX, ECX, EAX)]
+            registers = [processor.registers[k] for k in (EDI, ESI, EBP, ESP, EBX, EDX, ECX, EAX)]
+            words = [fault.address, fault.error, *registers, processor.eip, processor.flags, esp]
             try:
-                self.write_words(frame, [fault.address, fault.error, *registers, failed.eip, failed.flags, esp])
+                self.write(frame, struct.pack("<13I", *words))
             except PageFault:
                 pass
             else:
-                failed.registers[ESP], failed.eip = frame, failed.handler
+                processor.registers[ESP], processor.eip = frame, failed.handler
                 self.upcalls += 1
                 return
-        self.kill("user fault va %08x ip %08x" % (fault.address, failed.eip))
+        self.kill("user fault va %08x ip %08x" % (fault.address, processor.eip))
 
     def step(self):
         try:
-            self.execute()
+            vector = self.now.processor.step(self)
         except PageFault as fault:
             self.fault(fault)
         except Trap as trap:
-            self.traps.append((self.current.id, trap.number, trap.error, 0, trap.address))
+            self.traps.append((self.now.id, trap.number, trap.error, 0, trap.address))
             self.kill("trap %d err %x ip %08x" % (trap.number, trap.error, trap.address))
-
-    def execute(self):
-        """One instruction: MOV of an immediate and of EAX from and to an address, a short JMP, INT, INT3 or HLT."""
-        now, at = self.current, self.current.eip
-        opcode = self.byte(at)
-        if 0xB8 <= opcode < 0xC0:
-            now.registers[opcode - 0xB8] = self.read_word(at + 1)
-            now.eip = at + 5
-        elif opcode == 0xA1:
-            now.registers[EAX] = self.read_word(self.read_word(at + 1))
-            now.eip = at + 5
-        elif opcode == 0xA3:
-            self.write_words(self.read_word(at + 1), [now.registers[EAX]])
-            now.eip = at + 5
-        elif opcode == 0xEB:
-            now.eip = at + 2 + struct.unpack("b", self.read(at + 1, 1))[0]
-        elif opcode == 0xCC:
-            raise Trap(3, 0, at + 1)
-        elif opcode == 0xF4:
-            raise Trap(13, 0, at)
-        elif opcode == 0xCD and self.byte(at + 1) == 0x30:
-            now.eip = at + 2
-            self.call()
         else:
-            raise Unmodelled(hex(opcode))
+            if vector is not None:
+                self.call()
 
     # ---- turns
 
     def run(self):
-        """The notes of the run."""
+        """The end."""
         end = None
         while end is None:
-            order = [(self.last + k) % SLOTS for k in range(1, SLOTS + 1)]
+            order = itertools.chain(range(self.last + 1, self.used), range(self.last + 1))
             chosen = next((slot for slot in order if self.slots[slot].status == RUNNABLE), None)
-            if all(slot.status == FREE for slot in self.slots):
+            if len(self.free_slots) == SLOTS:
                 end = "done"
             elif chosen is None:
                 end = "stuck"
             elif self.steps_left == 0:
                 end = "budget"
+            elif self.turns >= TURN_MAX:
+                end = "turns full"
             else:
                 end = self.turn(chosen)
-        told = "%s steps %d turns %d refused %d upcalls %d\n"
-        kept = self.traps[-self.traps_kept:] if self.traps_kept else []
-        lines = ["[%08x] trap %d err %x va %08x ip %08x\n" % trap for trap in kept]
-        return "".join(lines) + told % (end, self.steps, self.turns, self.refused, self.upcalls)
+        return end
+
+    def notes(self, end):
+        return notes_of(self, end)
 
     def turn(self, slot):
         """A turn of a slot, and `budget` where that cuts it; then the environment stays as it is."""
-        self.last, self.current = slot, self.slots[slot]
+        self.last, self.now = slot, self.slots[slot]
         left = self.schedule[min(self.turns, len(self.schedule) - 1)]
-        self.current.status, self.current.runs = RUNNING, self.current.runs + 1
+        self.now.status, self.now.runs = RUNNING, self.now.runs + 1
         self.turns += 1
         while left and self.steps_left and self.runs_on(slot):
             self.step()
@@ -516,11 +495,19 @@ class Kernel:
             return None
         if left:
             return "budget"
-        self.current.status = RUNNABLE
+        self.now.status = RUNNABLE
         return None
 
     def runs_on(self, slot):
-        return self.slots[slot] is self.current and self.current.status == RUNNING
+        return self.slots[slot] is self.now and self.now.status == RUNNING
+
+
+def notes_of(run, end):
+    """The notes of a run with this end: its last traps, and the line that counts."""
+    kept = run.traps[-run.traps_kept:] if run.traps_kept else []
+    lines = ["[%08x] trap %d err %x va %08x ip %08x\n" % trap for trap in kept]
+    told = "%s steps %d turns %d refused %d upcalls %d\n" % (end, run.steps, run.turns, run.refused, run.upcalls)
+    return "".join(lines) + told
 
 
 def is_page(address):
