@@ -49,6 +49,12 @@ void sys_cputs(const char *s, size_t len)
         hold(count == snprintf(theirs, n, __VA_ARGS__) && !memcmp(ours, theirs, ROOM), #__VA_ARGS__);  \
     } while (0)
 
+static void compare_long(long long v)
+{
+    SAME_TEXT(ROOM, "%lld|%llu|%llx|%llo", v, v, v, v);
+    SAME_TEXT(ROOM, "%30lld|%-30lld|%030lld|%#llx|%.25lld|%#30llo", v, v, v, v, v, v);
+}
+
 static void compare_texts(void)
 {
     static const int values[] = { 0, 1, -1, 9, 10, -10, 127, 255, 123456, -123456, 2147483647, -2147483647 - 1 };
@@ -59,13 +65,28 @@ static void compare_texts(void)
         SAME_TEXT(5, "%d", v);
         SAME_TEXT(1, "%d", v);
         SAME_TEXT(0, "%d", v);
+        SAME_TEXT(ROOM, "%o|%12o|%012o|%i|%ld|%lx", v, v, v, v, (long)v, (unsigned long)(unsigned)v);
+        SAME_TEXT(ROOM, "%-d|%-12d|%-012d|%-8x|%-3u", v, v, v, v, v);
+        SAME_TEXT(ROOM, "%.0d|%.1d|%.5d|%.12d|%8.5d|%-8.5d|%08.5d", v, v, v, v, v, v, v);
+        SAME_TEXT(ROOM, "%#x|%#o|%#12x|%#012x|%#-12x|%#.3o|%#.12x|%#.0o", v, v, v, v, v, v, v, v);
+        SAME_TEXT(ROOM, "%*d|%-*d|%0*d|%.*d|%*.*d", 7, v, 7, v, 7, v, 7, v, -9, -1, v);
+        compare_long(v);
+        compare_long((long long)v << 32 ^ v);
+        compare_long((long long)v * 1000000007);
     }
+    compare_long(0x7FFFFFFFFFFFFFFF);
+    compare_long(-0x7FFFFFFFFFFFFFFF - 1);
     SAME_TEXT(ROOM, "%s|%10s|%c|%%", "abc", "abc", 'x');
     SAME_TEXT(4, "%s", "abcdef");
+    SAME_TEXT(ROOM, "%-10s|%.2s|%.0s|%10.2s|%-10.2s", "abc", "abc", "abc", "abc", "abc");
+    SAME_TEXT(ROOM, "%.9s|%*s|%.*s", "abc", 5, "abc", 1, "abc");
+    SAME_TEXT(ROOM, "%5c|%-5c|%c", 'x', 'y', 0);
 
     char text[ROOM];
     our_snprintf(text, ROOM, "%e, %e, %e, %q, %p, %s, %", -4, 7, -99, 0x1234, NULL);
     hold(!strcmp(text, "out of memory, env is not recving, error 99, %q, 0x00001234, (null), %"), text);
+    our_snprintf(text, ROOM, "%#s, %-08.3q, %15e, %-15e, %l", "a\tb\200", -3, -4);
+    hold(!strcmp(text, "a?b?, %-08.3q, invalid parameter, out of memory  , %l"), text);
 }
 
 /* a text of up to 256 bytes is one call */

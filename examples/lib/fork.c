@@ -30,9 +30,9 @@ static void map(envid_t envid, pn_t pn, int perm)
         panic("sys_page_map: %e", r);
 }
 
-/* Gives the child a page of the parent's. One that may be written is marked in both spaces, in the child's first. If the
-   parent's entry were changed first, a write of the parent's that comes in between, as to its stack, would make the page
-   writable again, and the child, which has no copy, would see what is written later. */
+/* Gives the child a page of the parent's. One that may be written is marked in both spaces, in the child's first. */
+/* Answer: if the parent's entry were changed first, a write of the parent's that comes in between, as to its stack, would
+   make the page writable again, and the child, which has no copy, would see what is written later. */
 static void duppage(envid_t envid, pn_t pn, bool shared)
 {
     volatile uint32_t *va = PGADDR(pn);

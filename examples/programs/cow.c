@@ -1,6 +1,6 @@
 /* Copy on write. After a fork both have one page: its entry is marked, and its frame is named twice. The first write of
-   each is a page fault, by which the writer has a copy of its own; of the two the last gets a copy too, though it might
-   keep the page. So each finds only what it wrote itself. Run it with --trace to see the faults. */
+   each is a page fault, by which the writer has a copy of its own. Run it with --trace to see the faults. */
+/* Answer: of the two the last gets a copy too, though it might keep the page: nobody tells it that it is the last. */
 #include "lib.h"
 
 /* a page of its own, so that no other write makes the copy */

@@ -1,6 +1,6 @@
 /* A fork that copies each page at once, from outside: the parent gives the child a page, has it at UTEMP too, and copies.
-   It needs no handler of page faults, and a frame for each page. Then both count, each in its own memory. Parent and
-   child yield behind each line, so their lines alternate while both are there. (MIT 6.828, lab 4) */
+   Then both count, and yield behind each line, so that their lines alternate. (MIT 6.828, lab 4) */
+/* Answer: it needs no handler of page faults, and a frame for each page. */
 #include "lib.h"
 
 static void copy_page(envid_t child, void *va)

@@ -1,7 +1,7 @@
 /* Two environments raise one word that both of them have, ten times each, without a lock. `count++` is three steps: read,
    add, write. Where a turn ends between the read and the write, and the other raises the word meanwhile, its updates are
-   lost. Under the schedule race-kept all 20 are there. Under race-lost, whose first turn is two steps shorter, ten are lost,
-   and under race-least all but two. */
+   lost: none under the schedule race-kept, and ten under race-lost, whose first turn is two steps shorter. */
+/* Answer: under race-least all but two are lost. */
 #include "lib.h"
 
 #define ROUNDS 10

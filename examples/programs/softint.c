@@ -1,5 +1,5 @@
-/* Raises interrupt 14, the number of the page fault, by INT. A user may raise the breakpoint and the system call and no
-   other, so what comes is trap 13, with error code 8 * 14 + 2. (MIT 6.828, lab 3) */
+/* Raises interrupt 14, the number of the page fault, by INT. (MIT 6.828, lab 3) */
+/* Answer: a user may raise the breakpoint and the system call alone, so it is trap 13, with error code 8 * 14 + 2. */
 #include "lib.h"
 
 void umain(int argc, char **argv)

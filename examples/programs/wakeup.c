@@ -1,7 +1,7 @@
 /* The lost wake-up. The child looks whether there is work, and if not, makes itself NOT_RUNNABLE until its parent wakes
    it. The parent leaves the work and then wakes the child. If the child's turn ends between its look and its sleep, and
-   the parent does both meanwhile, nobody wakes the child any more: the run ends `stuck`. The schedule wakeup-lost does
-   that; under most others the work is done. (A message loses nothing: who does not wait yet is not sent one.) */
+   the parent does both meanwhile, nobody wakes the child: the run ends `stuck`, as under the schedule wakeup-lost. */
+/* Answer: a message loses nothing, for who does not wait yet is not sent one. */
 #include "lib.h"
 
 /* in a page that fork leaves shared */

@@ -11,6 +11,8 @@ typedef signed char int8_t;
 typedef unsigned char uint8_t;
 typedef int int32_t;
 typedef unsigned int uint32_t;
+typedef long long int64_t;
+typedef unsigned long long uint64_t;
 typedef uint32_t uintptr_t;
 
 /* the number of a page: its address divided by PGSIZE */

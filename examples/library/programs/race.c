@@ -1,7 +1,7 @@
 /* Parent and child raise a word of a page that they share, ten times each. That is three steps: read, add, write. Where a
-   turn ends between the read and the write, and the other raises the word meanwhile, its updates are lost: of 20 there are 20
-   under the schedule library-kept, 19 under library-lost-one, and ten under library-lost. With a word it takes a lock first,
-   by XCHG, which is one step: then there are 20 under every schedule. */
+   turn ends between the read and the write, and the other raises the word meanwhile, its updates are lost, as under the schedule
+   library-lost. With a word it takes a lock first, by XCHG, which is one step: then there are 20 under every schedule. */
+/* Answer: of 20 there are 20 under the schedule library-kept, 19 under library-lost-one, and ten under library-lost. */
 #include "print.h"
 #include "service.h"
 

@@ -1,7 +1,7 @@
-/* The services of the library, which a program asks for by INT 0x40. docs/library.md says what each does and refuses.
+/* The services of the library, which a program asks for by INT 0x40. docs/services.md says what each does and refuses.
 
    The number goes in EAX, what the service is given in EDX, ECX and EBX, and the answer comes in EAX: 0 or more, or an
-   error as its number, negated. All other registers stay as they are, but at receive. */
+   error as its number, negated. All other registers stay as they are, but at receive and pipe. */
 #ifndef INC_SERVICE_H
 #define INC_SERVICE_H
 
