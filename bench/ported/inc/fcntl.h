@@ -1,0 +1,1 @@
+/* No file is opened; zlib includes this all the same. */
