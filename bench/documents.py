@@ -36,7 +36,7 @@ class Command:
 
 def waits(command):
     """Whether a command makes a run that is given no input."""
-    makes_run = re.search(r"(\./jos +(exo|run)|examples/turns)\s+\S", command)
+    makes_run = re.search(r"(\./jos +(exo|run)|examples/(calls|search|steps|turns))\s+\S", command)
     return makes_run is not None and not re.search("[<|]", command)
 
 
