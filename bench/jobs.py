@@ -73,6 +73,7 @@ def put_act(script, act, data, is_open, answer, handed):
         script.job(f"read {home:x} {act[2]:x} {act[3]:x}", answer)
     else:
         script.job(f"stat {home:x}", answer)
+        script.job(f"length {home:x}", int.from_bytes(handed[128:132], "little") if handed else answer)
     if handed:
         script.say(f"reply {len(handed):x}", handed.hex())
 

@@ -6,9 +6,10 @@
 The server and its clients are those of the program crates/server_tests as it is built from its sources, which reads what the clients do
 from its input (`cd crates/server_tests && rt run </dev/null` builds it). Two or three clients open, read, write and remove files, share
 descriptors, close them, end and begin anew; some wait for their replies late. In every second case the server has a few pages for its
-blocks and no more. Each answer, the bytes that are handed back, the offsets and how many steps are seen are those of the model: the tree of
-files of blocks.py with the table of open files here. Behind a sync the host's file is, byte by byte, the disk that the acts on blocks leave
-(block_acts.py), and the program, out/jos, lists and prints what stands on it. The last line is 'N passed, N failed'.
+blocks and no more. Each answer, the bytes that are handed back, the offsets, the sizes at the open and how many steps are seen are those
+of the model: the tree of files of blocks.py with the table of open files here. Behind a sync the host's file is, byte by byte, the disk
+that the acts on blocks leave (block_acts.py), and the program, out/jos, lists and prints what stands on it. The last line is
+'N passed, N failed'.
 """
 import os
 import random
@@ -28,13 +29,19 @@ MOST_OFFSET = 2**31 - 1
 
 
 class Object:
-    """What descriptors name: the file at a way, with an offset and a mode, at a place of the table of open files."""
+    """What descriptors name: the file at a way, with an offset, a mode and the size that it had when it was opened, at a place of the table
+    of open files."""
 
-    def __init__(self, way, mode, place):
+    def __init__(self, way, mode, place, size):
         self.way = way
         self.mode = mode
         self.place = place
+        self.size = size
         self.offset = 0
+
+    def told(self):
+        """The words of its page."""
+        return f"66 {self.offset:x} {self.mode:x} {self.place:x} {self.size:x}"
 
 
 class Model:
@@ -67,13 +74,19 @@ class Model:
             return MAX_OPEN, PLACES - 1
         answer, _ = self.act(("open_path", path, mode))
         if answer == 0:
-            self.clients[client][fd] = Object(self.tree.look(path)[2], mode % 4, place)
+            way = self.tree.look(path)[2]
+            self.clients[client][fd] = Object(way, mode % 4, place, self.tree.at(way).length())
         return answer, place + 1
 
     def read(self, item, count):
         answer, handed = self.act(("read_file", item.way, item.offset, count))
         item.offset += answer
         return answer, handed
+
+    def read_at(self, item, count, place):
+        if place >= 2**31:
+            return BAD, b""
+        return self.act(("read_file", item.way, place, count))
 
     def write(self, item, data):
         answer, _ = self.act(("write_file", item.way, item.offset, data))
@@ -107,7 +120,8 @@ def put_request(script, chance, line, wanted, seen):
 
 def put_file_act(script, chance, model, client, fd):
     """A request about a descriptor, which may not be open."""
-    kind = chance.choice(["read", "read", "read", "write", "write", "write", "write", "seek", "seek", "size", "stat", "share", "share", "close"])
+    kinds = ["read", "read", "read", "read_at", "write", "write", "write", "write", "seek", "seek", "size", "stat", "share", "share", "close"]
+    kind = chance.choice(kinds)
     item = model.clients[client].get(fd)
     if item is None:
         script.say(f"stat {client:x} {fd:x}", "no descriptor")
@@ -118,6 +132,11 @@ def put_file_act(script, chance, model, client, fd):
         count = chance.choice([0, 1, 5, 300, 4096, 5000, 2**32 - 1])
         answer, handed = model.read(item, count)
         put_request(script, chance, f"read {of} {count:x}", f"{answer:x} {handed.hex()}".strip(), 2)
+    elif kind == "read_at":
+        count = chance.choice([0, 1, 5, 300, 4096, 5000, 2**32 - 1])
+        place = chance.choice([0, length, length // 2, max(length - 3, 0), chance.randrange(50000), LONGEST, MOST_OFFSET, MOST_OFFSET + 1, 2**32 - 1])
+        answer, handed = model.read_at(item, count, place)
+        put_request(script, chance, f"read_at {of} {count:x} {place:x}", f"{answer:x} {handed.hex()}".strip(), 2)
     elif kind == "write":
         data = chance.randbytes(chance.choice([0, 1, 5, 200, 1000, 4088]))
         put_request(script, chance, f"write {of} {data.hex()}", f"{model.write(item, data):x}", 2)
@@ -139,7 +158,7 @@ def put_file_act(script, chance, model, client, fd):
         del model.clients[client][fd]
         script.say(f"close {of}", "0")
     if client in model.clients and fd in model.clients[client]:
-        script.say(f"object {of}", f"66 {item.offset:x} {item.mode:x} {item.place:x}")
+        script.say(f"object {of}", item.told())
 
 
 def put_open(script, chance, model, client, fd, path=None):
@@ -148,7 +167,7 @@ def put_open(script, chance, model, client, fd, path=None):
     answer, looks = model.open_path(client, fd, mode, path)
     put_request(script, chance, f"open {client:x} {fd:x} {mode:x} {path.decode()}", f"{answer:x}", looks + 2)
     item = model.clients[client].get(fd)
-    script.say(f"object {client:x} {fd:x}", "no descriptor" if item is None else f"66 {item.offset:x} {item.mode:x} {item.place:x}")
+    script.say(f"object {client:x} {fd:x}", "no descriptor" if item is None else item.told())
 
 
 def put_removal(script, chance, model, client):
@@ -191,7 +210,7 @@ def put_random(script, chance, model, tight):
     elif number < 0.32:
         put_request(script, chance, f"sync {client:x}", "0", 2)
     elif number < 0.33:
-        put_request(script, chance, f"ask {client:x} {chance.choice([0, 6, 10, 2**32 - 1]):x}", f"{BAD:x}", 2)
+        put_request(script, chance, f"ask {client:x} {chance.choice([0, 6, 11, 2**32 - 1]):x}", f"{BAD:x}", 2)
     elif number < 0.36 and not tight:
         put_end(script, model, client, chance)
     else:

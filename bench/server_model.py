@@ -6,13 +6,13 @@ is seen is not told here, but for the act: behind the turns of a run the server 
 """
 from model import ACCESSED, DIRTY, INVALID, NO_MEMORY, NOT_RECEIVING, P, PAGE_SIZE, U, W
 
-OPEN, SET_SIZE, READ, WRITE, STAT, REMOVE, SYNC, SEEK = 1, 2, 3, 4, 5, 7, 8, 9  # the words of requests
+OPEN, SET_SIZE, READ, WRITE, STAT, REMOVE, SYNC, SEEK, READ_AT = 1, 2, 3, 4, 5, 7, 8, 9, 10  # the words of requests
 REQUEST_PAGE, FIRST_BLOCK_PAGE, CACHED = 0x0FFFF, 0x10000, 65536
-REQUEST_NUMBER, REQUEST_COUNT, REQUEST_BYTES, REQUEST_MODE = 0, 4, 8, 1024  # where the words of a request stand in its page
+REQUEST_NUMBER, REQUEST_COUNT, REQUEST_BYTES, REQUEST_PLACE, REQUEST_MODE = 0, 4, 8, 8, 1024  # where the words of a request stand in its page
 REGION_PAGES = 1024
 PLACES, FIRST_PLACE, OPEN_RECORDS = 1024, 0xD0000, 0x0FFFE  # the table of open files: its places' pages, and that of their records
 SHARED = 0x400  # the bit of an entry whose page is shared
-DEVICE, OFFSET, MODE, NUMBER = 0, 4, 8, 12  # where the words of a place's page stand
+DEVICE, OFFSET, MODE, NUMBER, FILE_SIZE = 0, 4, 8, 12, 16  # where the words of a place's page stand
 FILE = ord("f")  # what its first word is
 NO_DISK, MAX_OPEN, NOT_FOUND, BAD_PATH, EXISTS = 9, 10, 11, 12, 13
 CREATE, TRUNCATE, EXCLUSIVE = 0x100, 0x200, 0x400  # bits of a mode
@@ -532,7 +532,8 @@ class FileServer:
         if kind == REMOVE:
             return (yield from self.removed())
         place = (yield lambda: self.own_word(REQUEST_PAGE, REQUEST_NUMBER)) % PLACES
-        offset = yield lambda: self.own_word(FIRST_PLACE + place, OFFSET)
+        offset_at = (REQUEST_PAGE, REQUEST_PLACE) if kind == READ_AT else (FIRST_PLACE + place, OFFSET)
+        offset = yield lambda: self.own_word(*offset_at)
         count = yield lambda: self.own_word(REQUEST_PAGE, REQUEST_COUNT)
         if kind == SEEK:
             yield lambda: self.put_own_word(FIRST_PLACE + place, OFFSET, count)
@@ -542,6 +543,8 @@ class FileServer:
             return (yield from self.set_size(record, count))
         if kind == STAT:
             return (yield from self.stat(record))
+        if kind == READ_AT:
+            return (yield from self.read(record, offset, count))
         assert kind in (READ, WRITE)
         moved = yield from (self.read if kind == READ else self.write)(record, offset, count)
         if moved < 0:
@@ -576,6 +579,10 @@ class FileServer:
         mode = yield lambda: self.own_word(REQUEST_PAGE, REQUEST_MODE)
         yield lambda: self.put_own_word(FIRST_PLACE + place, MODE, mode % 4)
         yield lambda: self.put_own_word(FIRST_PLACE + place, NUMBER, place)
+        record = yield lambda: self.record_of_place(place)
+        if (size := (yield from self.of_file(record))) < 0:
+            return size
+        yield lambda: self.put_own_word(FIRST_PLACE + place, FILE_SIZE, size)
         yield lambda: self.put_own_word(FIRST_PLACE + place, OFFSET, 0)
         self.place = place
         return self.has_acted(0)

@@ -140,6 +140,7 @@ sized_to state changed end =
 -- the size is known, before anything is decided
 abbrev pub sized : TreeState → Job → Changed → TreeNext
 sized state (job.Stat home) changed = go_on state changed (file.StatByte 0 false)
+sized state (job.Size home) changed = Answer changed.size
 sized state (job.Read home at count) changed =
     if bytes_read state.job changed.size == 0 then Answer 0 else go_on state changed (file.Number (at / BLKSIZE) (wanted.Reading 0))
 sized state (job.Write home at count) changed =

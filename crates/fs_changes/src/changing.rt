@@ -276,6 +276,7 @@ fn sized(state: TreeState, changed: Changed) -> TreeNext
     let size = changed.size;
     match state.job {
         Job::Stat { .. } => go_on(state, changed, FilePlace::StatByte { k: 0, ended: false }),
+        Job::Size { .. } => TreeNext::Answer(size),
         Job::Read { at, .. } => {
             if bytes_read(state.job, size) == 0 {
                 TreeNext::Answer(0)

@@ -36,6 +36,7 @@ is_bounded_job (job.Write home at count) = is_place home && nat_lt at (2 ^ 31)
 is_bounded_job (job.Create directory slot from) = is_place directory && is_count slot && is_place from
 is_bounded_job (job.SetSize home size) = is_place home
 is_bounded_job (job.Stat home) = is_place home
+is_bounded_job (job.Size home) = is_place home
 
 abbrev pub is_bounded_seek : Seek → Bool
 is_bounded_seek seek = is_place seek.from && is_place seek.directory && is_count seek.slots && is_count seek.slot

@@ -28,7 +28,10 @@ fn is_bounded_job(job: Job) -> bool
 {
     match job {
         Job::Open { .. } | Job::Find => true,
-        Job::Remove { home } | Job::SetSize { home, .. } | Job::Stat { home } => { is_place(home) }
+        Job::Remove { home }
+        | Job::SetSize { home, .. }
+        | Job::Stat { home }
+        | Job::Size { home } => is_place(home),
         Job::Read { home, at, .. } | Job::Write { home, at, .. } => {
             is_place(home) && at < 0x8000_0000
         }

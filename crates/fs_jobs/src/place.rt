@@ -41,6 +41,10 @@ pub enum Job {
     Stat {
         home: u32,
     },
+    /// How many bytes a file has: that is told.
+    Size {
+        home: u32,
+    },
 }
 
 /// A name is looked up in a directory: the name's place in the path, the directory's record, how many records it has, which one is at

@@ -88,6 +88,15 @@ named_at s way = named_from way (root_record s)
 abbrev pub node_at : FileSystem → List ℕ → Option Node
 node_at s way = option_map (λ (found : NamedNode). found.node) (named_at s way)
 
+-- how many bytes a file has; what is none has 0
+abbrev pub size_of : Option Node → ℕ
+size_of None = 0
+size_of (Some (a_file bytes indirect)) = length bytes
+size_of (Some (a_directory records indirect)) = 0
+
+abbrev pub file_size : FileSystem → List ℕ → ℕ
+file_size s way = size_of (node_at s way)
+
 -- a record with its node changed; an empty one stays empty
 abbrev pub node_changed : (Node → Node) → Option NamedNode → Option NamedNode
 node_changed change entry = option_map (λ (named : NamedNode). record named { node = change named.node }) entry

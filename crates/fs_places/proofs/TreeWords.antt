@@ -32,6 +32,7 @@ job_back (job.Write home at count) = refl
 job_back (job.Create directory slot from) = refl
 job_back (job.SetSize home size) = refl
 job_back (job.Stat home) = refl
+job_back (job.Size home) = refl
 
 job_small : (j : Job) → word (job_words j) 0 < 8
 unfolding job_words
@@ -43,6 +44,7 @@ job_small (job.Write home at count) = omega arith
 job_small (job.Create directory slot from) = omega arith
 job_small (job.SetSize home size) = omega arith
 job_small (job.Stat home) = omega arith
+job_small (job.Size home) = omega arith
 
 -- ---- places
 

@@ -47,6 +47,7 @@ job_words (job.Write home at count) = four_words 4 home at count
 job_words (job.Create directory slot from) = four_words 5 directory slot from
 job_words (job.SetSize home size) = four_words 6 home size 0
 job_words (job.Stat home) = four_words 7 home 0 0
+job_words (job.Size home) = four_words 7 home 1 0
 
 unfoldable pub job_in : List ℕ → Job
 job_in w =
@@ -57,6 +58,7 @@ job_in w =
     else if word w 0 == 4 then job.Write (word w 1) (word w 2) (word w 3)
     else if word w 0 == 5 then job.Create (word w 1) (word w 2) (word w 3)
     else if word w 0 == 6 then job.SetSize (word w 1) (word w 2)
+    else if word w 2 == 1 then job.Size (word w 1)
     else job.Stat (word w 1)
 
 -- ---- places on the way to a record

@@ -25,6 +25,7 @@ fn job_words(job: Job) -> [u32; 4]
         } => [5, directory, slot, from],
         Job::SetSize { home, size } => [6, home, size, 0],
         Job::Stat { home } => [7, home, 0, 0],
+        Job::Size { home } => [7, home, 1, 0],
     }
 }
 
@@ -57,6 +58,7 @@ fn job_in(words: [u32; 4]) -> Job
             home: first,
             size: second,
         },
+        _ if second == 1 => Job::Size { home: first },
         _ => Job::Stat { home: first },
     }
 }

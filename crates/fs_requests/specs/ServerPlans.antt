@@ -6,8 +6,8 @@ use Rattle.jos_base.specs.declared.numbers.TheConstants.{E_INVAL, E_IPC_NOT_RECV
 use Rattle.jos_base.specs.declared.numbers.TheConstants.{PGSIZE, PTE_P, PTE_U, PTE_W, SYS_GETENVID, SYS_IPC_RECV, SYS_IPC_TRY_SEND}
 use Rattle.jos_base.specs.declared.numbers.TheConstants.{SYS_PAGE_ALLOC, SYS_PAGE_UNMAP, SYS_YIELD, UENVS, UPAGES, UTOP, UVPT}
 use Rattle.jos_base.specs.Words.{negated}
-use Rattle.lib_os.specs.declared.numbers.TheConstants.{DEVICE_FILE, FD_DEVICE, FD_FILE, FD_MODE, FD_OFFSET, MAXOPEN, OPEN_RECORDS}
-use Rattle.lib_os.specs.declared.numbers.TheConstants.{PTE_SHARE, REQUEST, REQUEST_COUNT, REQUEST_FILE, REQUEST_MODE}
+use Rattle.lib_os.specs.declared.numbers.TheConstants.{DEVICE_FILE, FD_DEVICE, FD_FILE, FD_MODE, FD_OFFSET, FD_SIZE, MAXOPEN, OPEN_RECORDS}
+use Rattle.lib_os.specs.declared.numbers.TheConstants.{PTE_SHARE, REQUEST, REQUEST_COUNT, REQUEST_FILE, REQUEST_MODE, REQUEST_PLACE}
 use Rattle.lib_os.specs.declared.progress.Progress.TheVariants as progress
 use Rattle.lib_os.specs.declared.request.RequestKind.{RequestKind}
 use Rattle.lib_os.specs.declared.request.RequestKind.TheVariants as kind
@@ -36,6 +36,11 @@ open_record number = OPEN_RECORDS + 4 * (number % MAXOPEN)
 abbrev pub open_perm : ℕ
 open_perm = PTE_P + PTE_U + PTE_W + PTE_SHARE
 
+-- where the place of the next byte stands: in the file's page, or in the request
+abbrev pub place_va : Option RequestKind → ℕ → ℕ
+place_va (Some kind.ReadAt) number = REQUEST + REQUEST_PLACE
+place_va _ number = open_page number + FD_OFFSET
+
 -- the page is mapped by another, beside the server
 abbrev pub is_held : ℕ → Bool
 is_held holders = nat_le 2 holders
@@ -62,7 +67,7 @@ call_for state step.Receiving = system SYS_IPC_RECV REQUEST 0 0 0
 call_for state step.ReadingKind = call.Load (UENVS + 4 * ENV_IPC_VALUE)
 call_for state step.ReadingClient = call.Load (UENVS + 4 * ENV_IPC_FROM)
 call_for state step.ReadingFile = call.Load (REQUEST + REQUEST_FILE)
-call_for state step.ReadingOffset = call.Load (open_page state.number + FD_OFFSET)
+call_for state step.ReadingOffset = call.Load (place_va state.kind state.number)
 call_for state step.ReadingCount = call.Load (REQUEST + REQUEST_COUNT)
 call_for state step.ReadingRecord = call.Load (open_record state.number)
 call_for state step.LookingRecord = call.Load (open_record state.number)
@@ -75,6 +80,8 @@ call_for state step.StoringDevice = call.Store (open_page state.number + FD_DEVI
 call_for state step.ReadingModeAgain = call.Load (REQUEST + REQUEST_MODE)
 call_for state step.StoringMode = call.Store (open_page state.number + FD_MODE) (state.count % 4)
 call_for state step.StoringFile = call.Store (open_page state.number + FD_FILE) state.number
+call_for state step.ReadingRecordAgain = call.Load (open_record state.number)
+call_for state step.StoringSize = call.Store (open_page state.number + FD_SIZE) state.count
 call_for state step.Advancing = call.Load (open_page state.number + FD_OFFSET)
 call_for state step.StoringOffset = call.Store (open_page state.number + FD_OFFSET) state.at
 call_for state step.CheckingRecord = call.Load (open_record state.number)
@@ -91,6 +98,7 @@ call_at state = call_for state state.step
 abbrev pub ask_for : ServerState → ServerStep → ServerAsk
 ask_for state step.Working = ask.Work
 ask_for state step.Finding = ask.Work
+ask_for state step.Sizing = ask.Work
 ask_for state step.Flushing = ask.Flush
 ask_for state at = ask.Call (call_for state at)
 
@@ -159,6 +167,7 @@ next_count state word = count_by state.kind state word
 -- the job on a file that is open
 abbrev pub job_by : Option RequestKind → ServerState → ℕ → Job
 job_by (Some kind.Read) state home = job.Read home state.at state.count
+job_by (Some kind.ReadAt) state home = job.Read home state.at state.count
 job_by (Some kind.Write) state home = job.Write home state.at state.count
 job_by (Some kind.SetSize) state home = job.SetSize home state.count
 job_by _ state home = job.Stat home
@@ -190,6 +199,10 @@ found_by _ state answer = acting state answer
 
 abbrev pub next_found : ServerState → ℕ → ServerNext
 next_found state answer = found_by state.kind state answer
+
+-- the size of what was opened is told
+abbrev pub next_sized : ServerState → ℕ → ServerNext
+next_sized state size = if is_count size then hidden (record state { count = size }) step.StoringSize else acting state size
 
 -- the place behind the one at hand
 abbrev pub is_last : ServerState → Bool
@@ -236,7 +249,10 @@ next_for state step.StoringRecord word = hidden state step.StoringDevice
 next_for state step.StoringDevice word = hidden state step.ReadingModeAgain
 next_for state step.ReadingModeAgain word = hidden (record state { count = word }) step.StoringMode
 next_for state step.StoringMode word = hidden state step.StoringFile
-next_for state step.StoringFile word = hidden (record state { at = 0; count = 0 }) step.StoringOffset
+next_for state step.StoringFile word = hidden state step.ReadingRecordAgain
+next_for state step.ReadingRecordAgain word = begun state step.Sizing (job.Size word)
+next_for state step.Sizing word = next_sized state word
+next_for state step.StoringSize word = hidden (record state { at = 0; count = 0 }) step.StoringOffset
 next_for state step.Advancing word = hidden (record state { at = (word + state.count) % 2 ^ 32 }) step.StoringOffset
 next_for state step.StoringOffset word = shown state step.Replying
 next_for state step.CheckingRecord word = if word == state.home then hidden state step.CheckingEntry else next_check state

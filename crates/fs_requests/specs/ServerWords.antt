@@ -33,15 +33,18 @@ step_word step.StoringDevice = 16
 step_word step.ReadingModeAgain = 17
 step_word step.StoringMode = 18
 step_word step.StoringFile = 19
-step_word step.Advancing = 20
-step_word step.StoringOffset = 21
-step_word step.CheckingRecord = 22
-step_word step.CheckingEntry = 23
-step_word step.CheckingHolders = 24
-step_word step.Flushing = 25
-step_word step.Acting = 26
-step_word step.Replying = 27
-step_word step.Pausing = 28
+step_word step.ReadingRecordAgain = 20
+step_word step.Sizing = 21
+step_word step.StoringSize = 22
+step_word step.Advancing = 23
+step_word step.StoringOffset = 24
+step_word step.CheckingRecord = 25
+step_word step.CheckingEntry = 26
+step_word step.CheckingHolders = 27
+step_word step.Flushing = 28
+step_word step.Acting = 29
+step_word step.Replying = 30
+step_word step.Pausing = 31
 
 unfoldable pub step_in : ℕ → ServerStep
 step_in n =
@@ -65,14 +68,17 @@ step_in n =
     else if n == 17 then step.ReadingModeAgain
     else if n == 18 then step.StoringMode
     else if n == 19 then step.StoringFile
-    else if n == 20 then step.Advancing
-    else if n == 21 then step.StoringOffset
-    else if n == 22 then step.CheckingRecord
-    else if n == 23 then step.CheckingEntry
-    else if n == 24 then step.CheckingHolders
-    else if n == 25 then step.Flushing
-    else if n == 26 then step.Acting
-    else if n == 27 then step.Replying
+    else if n == 20 then step.ReadingRecordAgain
+    else if n == 21 then step.Sizing
+    else if n == 22 then step.StoringSize
+    else if n == 23 then step.Advancing
+    else if n == 24 then step.StoringOffset
+    else if n == 25 then step.CheckingRecord
+    else if n == 26 then step.CheckingEntry
+    else if n == 27 then step.CheckingHolders
+    else if n == 28 then step.Flushing
+    else if n == 29 then step.Acting
+    else if n == 30 then step.Replying
     else step.Pausing
 
 -- the word of what was asked for

@@ -12,8 +12,9 @@ use jos_base::{
     SYS_PAGE_UNMAP, SYS_YIELD, UENVS, UPAGES, UTOP, UVPT,
 };
 use lib_os::{
-    DEVICE_FILE, FD_DEVICE, FD_FILE, FD_MODE, FD_OFFSET, MAXOPEN, OPEN_RECORDS, PTE_SHARE,
-    Progress, REQUEST, REQUEST_COUNT, REQUEST_FILE, REQUEST_MODE, RequestKind, request_kind,
+    DEVICE_FILE, FD_DEVICE, FD_FILE, FD_MODE, FD_OFFSET, FD_SIZE, MAXOPEN, OPEN_RECORDS, PTE_SHARE,
+    Progress, REQUEST, REQUEST_COUNT, REQUEST_FILE, REQUEST_MODE, REQUEST_PLACE, RequestKind,
+    request_kind,
 };
 
 /// A call of the kernel.
@@ -66,6 +67,17 @@ fn open_record(number: u32) -> u32
     OPEN_RECORDS + 4 * (number % MAXOPEN)
 }
 
+/// Where the place of the next byte stands: in the page of the file, or in that of a request which tells it.
+fn place_va(kind: Option<RequestKind>, number: u32) -> u32
+    ensures is { result ≡ plans.place_va kind number }
+    ensures aligned { result % 4 ≡ 0 }
+{
+    match kind {
+        Some(RequestKind::ReadAt) => REQUEST + REQUEST_PLACE,
+        _ => open_page(number) + FD_OFFSET,
+    }
+}
+
 /// The bits with which a page goes with a reply, and its address: what was opened goes with its page, and no other reply has one.
 fn page_with(state: ServerState) -> (u32, u32)
     ensures { result ≡ plans.page_with state }
@@ -106,14 +118,18 @@ fn call_at(state: ServerState) -> ServerCall
         ServerStep::ReadingMode | ServerStep::ReadingModeAgain => ServerCall::Load {
             va: REQUEST + REQUEST_MODE,
         },
-        ServerStep::ReadingOffset | ServerStep::Advancing => ServerCall::Load {
+        ServerStep::ReadingOffset => ServerCall::Load {
+            va: place_va(state.kind, state.number),
+        },
+        ServerStep::Advancing => ServerCall::Load {
             va: page + FD_OFFSET,
         },
-        ServerStep::ReadingRecord | ServerStep::LookingRecord | ServerStep::CheckingRecord => {
-            ServerCall::Load {
-                va: open_record(state.number),
-            }
-        }
+        ServerStep::ReadingRecord
+        | ServerStep::LookingRecord
+        | ServerStep::CheckingRecord
+        | ServerStep::ReadingRecordAgain => ServerCall::Load {
+            va: open_record(state.number),
+        },
         ServerStep::LookingEntry | ServerStep::CheckingEntry => ServerCall::Load {
             va: UVPT + 4 * (page / PGSIZE),
         },
@@ -141,16 +157,22 @@ fn call_at(state: ServerState) -> ServerCall
             va: page + FD_FILE,
             word: state.number,
         },
+        ServerStep::StoringSize => ServerCall::Store {
+            va: page + FD_SIZE,
+            word: state.count,
+        },
         ServerStep::StoringOffset => ServerCall::Store {
             va: page + FD_OFFSET,
             word: state.at,
         },
-        ServerStep::Acting | ServerStep::Working | ServerStep::Finding | ServerStep::Flushing => {
-            ServerCall::System {
-                number: SYS_GETENVID,
-                args: [0; 5],
-            }
-        }
+        ServerStep::Acting
+        | ServerStep::Working
+        | ServerStep::Finding
+        | ServerStep::Sizing
+        | ServerStep::Flushing => ServerCall::System {
+            number: SYS_GETENVID,
+            args: [0; 5],
+        },
         ServerStep::Replying => {
             let (va, perm) = page_with(state);
             ServerCall::System {
@@ -171,7 +193,7 @@ pub fn ask_at(state: ServerState) -> ServerAsk
     ensures own { plans.IsOwnAsk result }
 {
     match state.step {
-        ServerStep::Working | ServerStep::Finding => ServerAsk::Work,
+        ServerStep::Working | ServerStep::Finding | ServerStep::Sizing => ServerAsk::Work,
         ServerStep::Flushing => ServerAsk::Flush,
         _ => ServerAsk::Call(call_at(state)),
     }
@@ -247,6 +269,7 @@ fn next_request(state: ServerState) -> ServerNext
         Some(RequestKind::Sync) => hidden(first, ServerStep::Flushing),
         Some(
             RequestKind::Read
+            | RequestKind::ReadAt
             | RequestKind::Write
             | RequestKind::SetSize
             | RequestKind::Stat
@@ -284,7 +307,7 @@ fn next_record(state: ServerState, home: u32) -> ServerNext
     ensures { result ≡ plans.next_record state home }
 {
     let job = match state.kind {
-        Some(RequestKind::Read) => Job::Read {
+        Some(RequestKind::Read | RequestKind::ReadAt) => Job::Read {
             home,
             at: state.at,
             count: state.count,
@@ -341,6 +364,23 @@ fn next_found(state: ServerState, answer: u32) -> ServerNext
             hidden(found, ServerStep::CheckingRecord)
         }
         _ => acting(state, answer),
+    }
+}
+
+/// The size of what was opened is told.
+fn next_sized(state: ServerState, size: u32) -> ServerNext
+    ensures { result ≡ plans.next_sized state size }
+{
+    if is_count(size) {
+        hidden(
+            ServerState {
+                count: size,
+                ..state
+            },
+            ServerStep::StoringSize,
+        )
+    } else {
+        acting(state, size)
     }
 }
 
@@ -476,7 +516,12 @@ pub fn next_at(state: ServerState, word: u32) -> ServerNext
             ServerStep::StoringMode,
         ),
         ServerStep::StoringMode => hidden(state, ServerStep::StoringFile),
-        ServerStep::StoringFile => hidden(
+        ServerStep::StoringFile => hidden(state, ServerStep::ReadingRecordAgain),
+        ServerStep::ReadingRecordAgain => {
+            begun(state, ServerStep::Sizing, Job::Size { home: word })
+        }
+        ServerStep::Sizing => next_sized(state, word),
+        ServerStep::StoringSize => hidden(
             ServerState {
                 at: 0,
                 count: 0,

@@ -153,7 +153,7 @@ walked-calls most m known {count} (later {weighs} n state next now bounded insid
 
 -- ---- a job that has a record
 
-six : (found : Option ℕ) (it : TreeAsk) → calls_for found it ≤ 6
+pub six : (found : Option ℕ) (it : TreeAsk) → calls_for found it ≤ 6
 six found it = within (calls_for found it) (ask_calls it) (calls-within found it) (most it)
   where
     most : (it : TreeAsk) → ask_calls it ≤ 6

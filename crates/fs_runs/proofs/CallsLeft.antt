@@ -80,6 +80,7 @@ settled-falls (job.Write home at many) count q c n le = goes (omega (arith, le))
 settled-falls (job.Create directory slot from) count q c n le = goes (omega (arith, le))
 settled-falls (job.SetSize home size) count q c n le = stops
 settled-falls (job.Stat home) count q c n le = stops
+settled-falls (job.Size home) count q c n le = stops
 
 sized-falls : (j : Job) (count : ℕ) (q : TreePlace) (c : Changed) → Falls 6 (sized (being j count q) j c) (change_calls count j c file.Size)
 sized-falls (job.Open mode) count q c = stops
@@ -97,6 +98,7 @@ sized-falls (job.Write home at many) count q c =
 sized-falls (job.Create directory slot from) count q c = stops
 sized-falls (job.SetSize home size) count q c = either (λ far. stops) (λ near. goes (omega arith))
 sized-falls (job.Stat home) count q c = goes (omega arith)
+sized-falls (job.Size home) count q c = stops
 
 -- ---- the next change
 

@@ -142,6 +142,7 @@ begun-warms found state (job.Write home at count) is = off
 begun-warms found state (job.Create directory slot from) is = off
 begun-warms found state (job.SetSize home size) is = off
 begun-warms found state (job.Stat home) is = off
+begun-warms found state (job.Size home) is = off
 
 opened-warms : (found : Option ℕ) (state : TreeState) (j : Job) (home : ℕ) → Warms found (opened state j home)
 opened-warms found state (job.Open mode) home = either (λ cut. off) (λ stays. stops)
@@ -152,6 +153,7 @@ opened-warms found state (job.Write _ at count) home = stops
 opened-warms found state (job.Create directory slot from) home = stops
 opened-warms found state (job.SetSize _ size) home = stops
 opened-warms found state (job.Stat _) home = stops
+opened-warms found state (job.Size _) home = stops
 
 record-near : (found : Option ℕ) (block slot : ℕ) → found ≡ Some block → IsNear found (4096 * block + 256 * (slot % 16))
 record-near found block slot is = (is ∙ ap Some (same block slot), omega arith)

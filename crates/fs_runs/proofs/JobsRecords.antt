@@ -26,7 +26,7 @@ use Rattle.fs_runs.specs.TreeRuns.{IsJobOf, IsOnItsWay, IsSound, Memory, begun_w
 use Rattle.fs_jobs.specs.TreeTests.{refused}
 use Rattle.fs_runs.proofs.CallsCounted.{ends-of}
 use Rattle.fs_runs.proofs.StepsCounted.{ends-few}
-use Rattle.fs_runs.proofs.Leads.{EndsIn, Leads, at_once, here, leads_on, leads_to_end, on}
+use Rattle.fs_runs.proofs.Leads.{EndsIn, Leads, at_once, end_steps, here, leads_on, leads_to_end, on, steps_of}
 use Rattle.fs_runs.proofs.Pieces.{EndsAfter, EndsWith, at_file, with_disk}
 use Rattle.fs_runs.proofs.JobsFacts.{Facts, Found, Pieces, bounded-changed, bounded-now, changed, count-small, facts, home-small}
 use Rattle.fs_runs.proofs.JobsFacts.{indirect-is, read_now, size-small}
@@ -174,6 +174,15 @@ size-ends pieces count j way home m answer found job regular goes =
     (inside-word count home (home + 128) known.lies 32 (omega arith) (omega arith))
     (ap (λ (b : Bool). if b then refused DAMAGED else sized (at_size j count home) j (changed home (size_of m.disk home) 0 0))
     (short-size (size_of m.disk home) known.short) ∙ goes) refl)
+
+-- a step from the kind, and a last one
+pub size-steps : (pieces : Pieces) (count : ℕ) (j : Job) (way : List ℕ) (home : ℕ) (m : Memory) (answer : ℕ) (found : Found count way home m)
+    (job : is_bounded_job j ≡ true) (regular : is_directory_at m.disk home ≡ false)
+    (goes : sized (at_size j count home) j (changed home (size_of m.disk home) 0 0) ≡ Answer answer) →
+    (size-ends pieces count j way home m answer found job regular goes).0 ≡ 2
+unfolding size-ends kind-passed steps_of
+size-steps pieces count j way home m answer found job regular goes =
+    end_steps (at_kind j count home) m (kind-passed pieces count j way home m found job regular) 1 _
 
 pub size-goes : Pieces → (count : ℕ) (j : Job) (way : List ℕ) (home : ℕ) (m : Memory) (next : TreeState) → Found count way home m →
     is_bounded_job j ≡ true → is_directory_at m.disk home ≡ false →

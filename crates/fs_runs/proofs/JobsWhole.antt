@@ -1,5 +1,5 @@
 -- All pieces together, and so each job does what its act does.
-use Rattle.fs_runs.specs.TreeRuns.{FindsAreLooks, JobsAreActs}
+use Rattle.fs_runs.specs.TreeRuns.{FindsAreLooks, JobsAreActs, SizesAreTold}
 use Rattle.fs_runs.proofs.DatasEmptied.{records_are_emptied}
 use Rattle.fs_runs.proofs.DatasMaking.{records_are_made}
 use Rattle.fs_runs.proofs.DatasRead.{bytes_are_read}
@@ -9,6 +9,7 @@ use Rattle.fs_runs.proofs.FreesCounted.{free_is_counted}
 use Rattle.fs_runs.proofs.FreesLowest.{lowest_is_found}
 use Rattle.fs_runs.proofs.Jobs.{finds_are_looks, jobs_are_acts}
 use Rattle.fs_runs.proofs.JobsFacts.{Pieces}
+use Rattle.fs_runs.proofs.JobsTold.{sizes_are_told}
 use Rattle.fs_runs.proofs.Numbers.{numbers_are_found, numbers_are_read}
 use Rattle.fs_runs.proofs.Paths.{paths_are_read}
 use Rattle.fs_runs.proofs.PathsLead.{walks_find, walks_miss, walks_stray}
@@ -50,3 +51,6 @@ all_jobs_are_acts = jobs_are_acts pieces
 
 pub all_finds_are_looks : FindsAreLooks
 all_finds_are_looks = finds_are_looks pieces
+
+pub all_sizes_are_told : SizesAreTold
+all_sizes_are_told = sizes_are_told pieces

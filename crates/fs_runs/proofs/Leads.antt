@@ -1,5 +1,5 @@
 -- Runs of a job from one state to another, put behind each other, and what the changes of a record's blocks weigh that begin on the way.
-use Rattle.std.proofs.Common.{◌≡◌, ◌+◌, ℕ, suc, true, arith, subst}
+use Rattle.std.proofs.Common.{◌≡◌, ◌∙◌, ◌+◌, ℕ, suc, true, arith, subst, ap}
 use Rattle.fs_jobs.specs.declared.place.TreeState.{TreeState}
 use Rattle.fs_jobs.specs.declared.asks.TreeNext.TheVariants.{Answer, GoOn}
 use Rattle.fs_jobs.specs.TreeBounds.{is_bounded}
@@ -53,3 +53,20 @@ leads_to_end {count} {answer} {to} {mid} {after} {one} {two} state m (on {weighs
       subst (λ (i : ℕ). EndsIn count answer after i (suc rest.0) s n) (added (weight s) weighs two)
           (later rest.0 s next n bounded inside goes rest.1),
     )
+
+-- how many steps a run is
+unfoldable pub steps_of : {count : ℕ} {to : TreeState} {after : Memory} {weighs : ℕ} {state : TreeState} {m : Memory} →
+    LeadsIn count to after weighs state m → ℕ
+steps_of here = 0
+steps_of (on state next m bounded inside goes run) = suc (steps_of run)
+
+-- so many more than behind it
+pub end_steps : {count answer : ℕ} {to : TreeState} {mid after : Memory} {one two : ℕ} (state : TreeState) (m : Memory)
+    (run : LeadsIn count to mid one state m) (k : ℕ) (ends : EndsIn count answer after two k to mid) → (leads_to_end state m run k ends).0 ≡ steps_of run + k
+unfolding leads_to_end steps_of
+end_steps state m here k ends = none k
+end_steps state m (on s next n bounded inside goes run) k ends =
+    ap suc (end_steps next (memory_after (ask_at s) n) run k ends) ∙ one_more (steps_of run) k
+  where
+    one_more : (a b : ℕ) → suc (a + b) ≡ suc a + b
+    one_more a b = omega arith

@@ -37,6 +37,7 @@ pub mod JobsDirectories
 pub mod JobsRecords
 pub mod JobsFiles
 pub mod JobsOpens
+pub mod JobsTold
 pub mod Jobs
 pub mod JobsWhole
 pub mod Ways

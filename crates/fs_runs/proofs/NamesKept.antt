@@ -188,6 +188,7 @@ begun-keeps m state (job.Write home at count) it = off
 begun-keeps m state (job.Create directory slot from) it = off
 begun-keeps m state (job.SetSize home size) it = off
 begun-keeps m state (job.Stat home) it = off
+begun-keeps m state (job.Size home) it = off
 
 opened-keeps : (m : Memory) (state : TreeState) (j : Job) (home : ℕ) → Keeps m (opened state j home)
 opened-keeps m state (job.Open mode) home = either (λ cut. off) (λ stays. stops)
@@ -198,6 +199,7 @@ opened-keeps m state (job.Write _ at count) home = stops
 opened-keeps m state (job.Create directory slot from) home = stops
 opened-keeps m state (job.SetSize _ size) home = stops
 opened-keeps m state (job.Stat _) home = stops
+opened-keeps m state (job.Size _) home = stops
 
 walk-keeps : (m : Memory) (state : TreeState) (p : WalkPlace) → IsKept m p → Keeps m (walk_next state p (reply_of (walk_ask p) m))
 walk-keeps m state (walk.Path at run) kept =

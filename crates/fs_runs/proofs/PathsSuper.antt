@@ -15,7 +15,8 @@ use Rattle.fs_jobs.specs.declared.tests.TheConstants.{DAMAGED}
 use Rattle.fs_jobs.specs.TreeBounds.{is_bounded_job}
 use Rattle.fs_jobs.specs.TreeTests.{refused}
 use Rattle.fs_walks.specs.WalkPlans.{begun}
-use Rattle.fs_runs.proofs.Leads.{here, on}
+use Rattle.fs_runs.proofs.Leads.{here, on, steps_of}
+use Rattle.fs_runs.specs.TreeRuns.{IsSound, Memory}
 use Rattle.fs_runs.proofs.Pieces.{SupersAreRead, at_walk}
 
 -- what a test decides
@@ -60,3 +61,9 @@ supers_are_read count j m sound bounded next begins =
     (on third next m (both-true (nat_lt count (2 ^ 16) && is_bounded_job j) true (both-true (nat_lt count (2 ^ 16)) (is_bounded_job j) place bounded) refl)
     (omega (arith, some), refl)
     (goes-where (is_directory_at m.disk root_place) (begun third j) (refused DAMAGED) met.root ∙ begins) here))
+
+-- in three steps
+pub super_steps : (count : ℕ) (j : Job) (m : Memory) (sound : IsSound count m) (bounded : is_bounded_job j ≡ true) (next : TreeState)
+    (begins : begun (at_walk j count walk.RootKind) j ≡ GoOn next) → steps_of (supers_are_read count j m sound bounded next begins) ≡ 3
+unfolding supers_are_read steps_of
+super_steps count j m sound bounded next begins = refl

@@ -226,6 +226,7 @@ begun-in most m state (job.Write home at count) good few is finds = absurd finds
 begun-in most m state (job.Create directory slot from) good few is finds = absurd finds.0
 begun-in most m state (job.SetSize home size) good few is finds = absurd finds.0
 begun-in most m state (job.Stat home) good few is finds = absurd finds.0
+begun-in most m state (job.Size home) good few is finds = absurd finds.0
 
 -- a file is cut off where it is opened, or a record is made
 opened-in : (most : ℕ) (m : Memory) (state : TreeState) (j : Job) (home : ℕ) → Finds most m j → CallsIn most m (opened state j home) most
@@ -237,6 +238,7 @@ opened-in most m state (job.Write _ at count) home finds = stops
 opened-in most m state (job.Create directory slot from) home finds = stops
 opened-in most m state (job.SetSize _ size) home finds = stops
 opened-in most m state (job.Stat _) home finds = stops
+opened-in most m state (job.Size _) home finds = stops
 
 creates-in : (most : ℕ) (m : Memory) (j : Job) → Finds most m j → not (creates j) ≡ false → record_calls (block_count m.disk) ≤ most
 creates-in most m (job.Open mode) finds makes = finds
@@ -247,6 +249,7 @@ creates-in most m (job.Write _ at count) finds makes = absurd finds
 creates-in most m (job.Create directory slot from) finds makes = absurd finds
 creates-in most m (job.SetSize _ size) finds makes = absurd finds
 creates-in most m (job.Stat _) finds makes = absurd finds
+creates-in most m (job.Size _) finds makes = absurd finds
 
 -- ---- each step
 

@@ -6,7 +6,7 @@ use Rattle.fs_jobs.specs.declared.asks.TreeAsk.{TreeAsk}
 use Rattle.fs_jobs.specs.declared.asks.TreeNext.{TreeNext}
 use Rattle.fs_jobs.specs.declared.asks.TreeNext.TheVariants.{Answer, GoOn}
 use Rattle.fs_jobs.specs.TreeBounds.{is_bounded}
-use Rattle.fs_runs.specs.JobCalls.{act_calls_max, calls_for, find_calls_max, found_behind, job_steps_max}
+use Rattle.fs_runs.specs.JobCalls.{act_calls_max, calls_for, found_behind, job_steps_max}
 use Rattle.fs_runs.specs.TreePlans.{ask_at, next_at}
 use Rattle.fs_runs.specs.TreeRuns.{Ends, FewerCalls, HasActed, IsInside, Memory, RunsGoOn, WaysGoOn}
 use Rattle.fs_runs.specs.TreeRuns.{at_once, calls_of, later, memory_after, reply_of}
@@ -72,7 +72,7 @@ by_end count state m left answer after (later n s next k bounded inside goes res
 -- ---- both kinds of job
 
 pub runs_go_on : RunsGoOn
-runs_go_on count answer after state m run =
+runs_go_on most count answer after state m run =
     let all = by_end count state m run.left answer after run.ends in (
       all.0,
       all.1,
@@ -82,7 +82,7 @@ runs_go_on count answer after state m run =
               left = f.some;
               soon = fewer f.some (job_steps_max count) (subst (λ (n : ℕ). n ≤ job_steps_max count) (sym f.one) run.soon);
               ends = f.rest;
-              few = less (calls_of None f.rest) (calls_of None run.ends) (find_calls_max count) f.few run.few;
+              few = less (calls_of None f.rest) (calls_of None run.ends) most f.few run.few;
             },
             f.one,
             f.calls,

@@ -63,6 +63,10 @@ ask_calls _ = BLOCK_CALLS_MAX + 1
 abbrev pub find_calls_max : ℕ → ℕ
 find_calls_max count = 2 ^ 12 * count + 6200
 
+-- a size is asked for by five loads of a block
+abbrev pub size_calls_max : ℕ
+size_calls_max = 30
+
 -- where an act's changes are made
 abbrev pub changes_calls_max : FileAct → ℕ → ℕ
 changes_calls_max (open_path path mode) count = count + 50000

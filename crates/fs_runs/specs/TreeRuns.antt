@@ -10,7 +10,7 @@ use Rattle.fs_layout.specs.declared.numbers.TheConstants.{BLKSIZE}
 use Rattle.fs_layout.specs.DiskImage.{block_count, is_directory_at}
 use Rattle.fs_layout.specs.DiskFiles.{IsDiskImage, file_system_of}
 use Rattle.fs_layout.specs.FileActs.{file_named}
-use Rattle.fs_layout.specs.FileTree.{FileAct, open_path, read_file, remove_path, set_file_size, stat_file, write_file}
+use Rattle.fs_layout.specs.FileTree.{FileAct, file_size, open_path, read_file, remove_path, set_file_size, stat_file, write_file}
 use Rattle.fs_acts.specs.BlockActs.{Led, a_record, astray, led_to, no_record, place_at, plan_of, put_byte, put_word, puts_of}
 use Rattle.fs_acts.specs.BlockActs.{stored, too_long, written}
 use Rattle.fs_jobs.specs.declared.place.Job.{Job}
@@ -22,7 +22,8 @@ use Rattle.fs_jobs.specs.declared.asks.TreeAsk.{TreeAsk}
 use Rattle.fs_jobs.specs.declared.asks.TreeAsk.TheVariants as ask
 use Rattle.fs_jobs.specs.declared.asks.TreeNext.TheVariants.{Answer, GoOn}
 use Rattle.fs_jobs.specs.TreeBounds.{is_bounded}
-use Rattle.fs_runs.specs.JobCalls.{act_calls_max, ask_calls, calls_for, calls_left, find_calls_max, found_behind, is_changing, job_steps_max, weight}
+use Rattle.fs_runs.specs.JobCalls.{act_calls_max, ask_calls, calls_for, calls_left, find_calls_max, found_behind, is_changing, job_steps_max}
+use Rattle.fs_runs.specs.JobCalls.{size_calls_max, weight}
 use Rattle.fs_runs.specs.TreePlans.{ask_at, next_at}
 use Rattle.fs_jobs.specs.TreeTests.{low_byte}
 
@@ -153,6 +154,13 @@ FindsAreLooks = (count : ℕ) (path : List ℕ) (m : Memory) → IsSound count m
     (n : ℕ) × (n ≤ job_steps_max count)
     × (ends : Ends count (found_place m.disk (led_to m.disk path)) m n (begun_with job.Find) m) × (calls_of None ends ≤ find_calls_max count)
 
+-- The size of a file, whose record stands at its way, is told, and nothing is changed; and it is so soon.
+abbrev pub SizesAreTold : Type 0
+SizesAreTold = (count : ℕ) (way : List ℕ) (home : ℕ) (m : Memory) → IsSound count m → place_at m.disk way ≡ Some home →
+    is_directory_at m.disk home ≡ false →
+    (n : ℕ) × (n ≤ job_steps_max count)
+    × (ends : Ends count (file_size (file_system_of m.disk) way) m n (begun_with (job.Size home)) m) × (calls_of None ends ≤ size_calls_max)
+
 -- Over a disk without a fault an open that answers 0 leaves a disk on which its path leads to a file, and the tree of this disk names the same.
 abbrev pub OpensAreFound : Type 0
 OpensAreFound = (count : ℕ) (is_open : List ℕ → Bool) (path : List ℕ) (mode : ℕ) (m : Memory) → IsSound count m → HasPath m.page path →
@@ -176,26 +184,27 @@ abbrev pub WaysGoOn : Type 0
 WaysGoOn = (count : ℕ) (is_open : List ℕ → Bool) (act : FileAct) (before : Memory) (state : TreeState) (m : Memory)
     (way : IsOnItsWay count is_open act before state m) → StaysOnItsWay count is_open act before state m way
 
--- From here a path is looked up: that ends with this answer, and leaves this, in so few steps, and in so few calls.
-pub record IsRunning (count answer : ℕ) (after : Memory) (state : TreeState) (m : Memory) : Type 0 where
+-- From here a path is looked up, or a size is told: that ends with this answer, and leaves this, in so few steps, and in at most so many calls.
+pub record IsRunning (most count answer : ℕ) (after : Memory) (state : TreeState) (m : Memory) : Type 0 where
   pub left : ℕ
   pub soon : left ≤ job_steps_max count
   pub ends : Ends count answer after left state m
-  pub few : calls_of None ends ≤ find_calls_max count
+  pub few : calls_of None ends ≤ most
 
 -- Such a job makes a lawful step too. Where it goes on it still runs towards this end, with one step fewer to come, and its calls fewer; where it
 -- answers, this is the answer, and what it was to leave is what stands there.
-abbrev pub StaysRunning : (count answer : ℕ) (after : Memory) (state : TreeState) (m : Memory) → IsRunning count answer after state m → Type 0
-StaysRunning count answer after state m run =
+abbrev pub StaysRunning : (most count answer : ℕ) (after : Memory) (state : TreeState) (m : Memory) →
+    IsRunning most count answer after state m → Type 0
+StaysRunning most count answer after state m run =
     (is_bounded state ≡ true) × IsInside count (ask_at state)
     × ((next : TreeState) → next_at state (reply_of (ask_at state) m) ≡ GoOn next →
-    (further : IsRunning count answer after next (memory_after (ask_at state) m)) × (suc further.left ≡ run.left)
+    (further : IsRunning most count answer after next (memory_after (ask_at state) m)) × (suc further.left ≡ run.left)
     × FewerCalls (ask_at state) (λ found. calls_of found run.ends) (λ found. calls_of found further.ends))
     × ((word : ℕ) → next_at state (reply_of (ask_at state) m) ≡ Answer word → (word ≡ answer) × (memory_after (ask_at state) m ≡ after))
 
 abbrev pub RunsGoOn : Type 0
-RunsGoOn = (count answer : ℕ) (after : Memory) (state : TreeState) (m : Memory) (run : IsRunning count answer after state m) →
-    StaysRunning count answer after state m run
+RunsGoOn = (most count answer : ℕ) (after : Memory) (state : TreeState) (m : Memory) (run : IsRunning most count answer after state m) →
+    StaysRunning most count answer after state m run
 
 -- Whatever word a job reads at a record, its calls are left out of those that were left behind it; where a change of the record's blocks begins, that
 -- adds what it weighs.

@@ -1,6 +1,6 @@
 //! What the run of a job is. Nothing here is to be run: each clause is a theorem.
 
-ghost use Rattle.fs_runs.specs.TreeRuns.{CallsAreLeft, FindsAreLooks, JobsAreActs, OpensAreFound, RunsGoOn, WaysGoOn};
+ghost use Rattle.fs_runs.specs.TreeRuns.{CallsAreLeft, FindsAreLooks, JobsAreActs, OpensAreFound, RunsGoOn, SizesAreTold, WaysGoOn};
 
 /// Each job's run ends soon, its answer is the act's, what it has stored is exactly what the act stores, what it hands back stands at the begin
 /// of the page, and the rest of the page is as it was.
@@ -13,6 +13,12 @@ pub fn jobs_are_acts()
 #[tactic(auto, using(crate::proofs::JobsWhole::all_finds_are_looks))]
 pub fn finds_are_looks()
     ensures { FindsAreLooks }
+{}
+
+/// How many bytes a file has, by its record. Nothing is stored.
+#[tactic(auto, using(crate::proofs::JobsWhole::all_sizes_are_told))]
+pub fn sizes_are_told()
+    ensures { SizesAreTold }
 {}
 
 /// Behind an open that answers 0 its path leads to a file, on the disk and in its tree.

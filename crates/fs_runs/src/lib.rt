@@ -9,6 +9,7 @@ mod laws;
 mod plan;
 
 pub use laws::{
-    calls_are_left, finds_are_looks, jobs_are_acts, opens_are_found, runs_go_on, ways_go_on,
+    calls_are_left, finds_are_looks, jobs_are_acts, opens_are_found, runs_go_on, sizes_are_told,
+    ways_go_on,
 };
 pub use plan::{ask_at, begin, next_at};

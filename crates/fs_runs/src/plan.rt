@@ -20,7 +20,8 @@ pub fn begin(job: Job) -> TreeState
         | Job::Write { .. }
         | Job::Create { .. }
         | Job::SetSize { .. }
-        | Job::Stat { .. } => WalkPlace::Magic,
+        | Job::Stat { .. }
+        | Job::Size { .. } => WalkPlace::Magic,
     };
     TreeState {
         job,

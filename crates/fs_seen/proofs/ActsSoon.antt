@@ -39,7 +39,7 @@ use Rattle.fs_requests.specs.declared.state.ServerState.{ServerState}
 use Rattle.fs_requests.specs.declared.state.ServerStep.{ServerStep}
 use Rattle.fs_requests.specs.declared.state.ServerStep.TheVariants as step
 use Rattle.fs_requests.specs.ServerPlans.{next_at, opens}
-use Rattle.fs_serving.specs.ServerRuns.{Follows, IsFound, StandsAtStep, StandsServing, is_serving, opened, removed}
+use Rattle.fs_serving.specs.ServerRuns.{Follows, IsFound, IsSizing, StandsAtStep, StandsServing, is_serving, opened, removed}
 use Rattle.fs_serving.specs.ServerViews.{Calls, Serving, called}
 use Rattle.fs_server.specs.ServerSteps.{Flushes, HasFlushed, HasWorked, answers, ends, goes, server_at}
 use Rattle.fs_seen.specs.ServerMemory.{HasRequested, serving_in}
@@ -50,7 +50,8 @@ use Rattle.fs_seen.specs.ServerWhole.{GoesOnServing, IsServing}
 use Rattle.fs_seen.proofs.CallsSeen.{calls_are_seen}
 use Rattle.fs_seen.proofs.FlushesServed.{flush_leaves, flushes_serve}
 use Rattle.fs_seen.proofs.GoesOn.{goes_well}
-use Rattle.fs_seen.proofs.JobsServed.{jobs_serve, number_below, working_or_finding}
+use Rattle.fs_seen.proofs.JobsServed.{at_job, jobs_serve, number_below}
+use Rattle.fs_seen.proofs.KindsFit.{kind_fits}
 use Rattle.fs_seen.proofs.Needs.{has_needs, reads_page}
 use Rattle.fs_seen.proofs.Over.{all_small}
 use Rattle.fs_seen.proofs.PlansFall.{plans_fall}
@@ -212,6 +213,10 @@ module _ (count : ℕ) (a : AbstractState) (it : Serving) (before : Memory) wher
   found_left (removed finds) =
       let run = finds.running in (run.left, run.soon, record { soon = run.soon; answer = _; after = before; ends = run.ends })
 
+  sizing_left : IsSizing count a it before → At step.Sizing
+  sizing_left is =
+      let run = is.running in (run.left, run.soon, record { soon = run.soon; answer = _; after = is.left_as; ends = run.ends })
+
   none : 0 ≤ job_steps_max count
   none = omega arith
 
@@ -219,6 +224,7 @@ module _ (count : ℕ) (a : AbstractState) (it : Serving) (before : Memory) wher
   left_there step.Working h =
       let way = h.on_its_way in (way.left, way.soon, record { soon = way.soon; answer = way.answer; after = way.after; ends = way.ends })
   left_there step.Finding h = found_left h
+  left_there step.Sizing h = sizing_left h
   left_there step.Releasing h = (0, none, tt)
   left_there step.Receiving h = (0, none, tt)
   left_there step.ReadingKind h = (0, none, tt)
@@ -237,6 +243,8 @@ module _ (count : ℕ) (a : AbstractState) (it : Serving) (before : Memory) wher
   left_there step.ReadingModeAgain h = (0, none, tt)
   left_there step.StoringMode h = (0, none, tt)
   left_there step.StoringFile h = (0, none, tt)
+  left_there step.ReadingRecordAgain h = (0, none, tt)
+  left_there step.StoringSize h = (0, none, tt)
   left_there step.Advancing h = (0, none, tt)
   left_there step.StoringOffset h = (0, none, tt)
   left_there step.CheckingRecord h = (0, none, tt)
@@ -281,15 +289,16 @@ module _ (most : ℕ) (e : Disk) (after : KernelState) where
       by progress.Ended serving stands = absurd stands
 
 -- by the plan
-falls_by_plan : (most left word : ℕ) (s after : KernelState) → is_serving (server_at s 0).step ≡ true → number_in left s 0 ≤ most →
-    StandsNext after 0 (next_at (server_at s 0) word) → FallsTo most after
-falls_by_plan most left word s after serves within so fewer few =
+falls_by_plan : (most left word : ℕ) (d : Disk) (s after : KernelState) (a : AbstractState) → StandsServing d.count a (serving_in d s 0) →
+    is_serving (server_at s 0).step ≡ true → number_in left s 0 ≤ most → StandsNext after 0 (next_at (server_at s 0) word) → FallsTo most after
+falls_by_plan most left word d s after a h serves within so fewer few =
     let next = next_at (server_at s 0) word in
     let fell = plans_fall WORK_STEPS_MAX (work_left left s 0) (flushes_left s 0) (work_left fewer after 0) (flushes_left after 0)
     (work_most fewer (capped WAIT_STEPS_MAX (access_left (tree.ask_at (job_in after 0)) after 0)) few
     (capped_most WAIT_STEPS_MAX (access_left (tree.ask_at (job_in after 0)) after 0)))
     (little (flushes_left after 0) (capped_most FLUSH_STEPS_MAX (left_in flush_left (cache_state after 0).place after 0)))
-    (server_at s 0) (server_at s 0).step word (number_below s 0) serves in
+    (server_at s 0) (server_at s 0).step word (number_below s 0) serves
+    (kind_fits d.count a (serving_in d s 0) h.before (server_at s 0).step h.at) in
     below (number_in fewer after 0)
     (left_over WORK_STEPS_MAX next.state.step next.state.kind next.state.number (work_left fewer after 0) (flushes_left after 0)) (number_in left s 0) most
     (λ i. left_over WORK_STEPS_MAX (so.at_step i) (so.kind i) (so.number i) (work_left fewer after 0) (flushes_left after 0)) fell within
@@ -317,11 +326,11 @@ servers_act_within a d s serving other =
         little : (x : ℕ) → x ≤ FLUSH_STEPS_MAX → x < WORK_STEPS_MAX
         little x le = omega (arith, le)
 
-        working : (b : Bool) (long work : ℕ) → work < long → (if b then long + 20 + work else 10 + work) ≤ 3 * long + 10001
+        working : (b : Bool) (long work : ℕ) → work < long → (if b then 2 * long + 40 + work else 10 + work) ≤ 3 * long + 10001
         working true long work lt = omega (arith, lt)
         working false long work lt = omega (arith, lt)
 
-        finding : (b : Bool) (long work : ℕ) → work < long → (if b then 10 + work else 2 * long + 5000 + work) ≤ 3 * long + 10001
+        finding : (b : Bool) (long work : ℕ) → work < long → (if b then long + 20 + work else 2 * long + 5000 + work) ≤ 3 * long + 10001
         finding true long work lt = omega (arith, lt)
         finding false long work lt = omega (arith, lt)
 
@@ -347,6 +356,9 @@ servers_act_within a d s serving other =
         by long step.ReadingModeAgain kind number work flush one two = omega arith
         by long step.StoringMode kind number work flush one two = omega arith
         by long step.StoringFile kind number work flush one two = omega arith
+        by long step.ReadingRecordAgain kind number work flush one two = omega arith
+        by long step.Sizing kind number work flush one two = omega (arith, one)
+        by long step.StoringSize kind number work flush one two = omega arith
         by long step.Advancing kind number work flush one two = omega arith
         by long step.StoringOffset kind number work flush one two = omega arith
         by long step.CheckingRecord kind number work flush one two = omega arith
@@ -397,44 +409,36 @@ calls_act_soon most a d s after output done is all acts other order made =
         let so = seen_stands d s after done seen in
         sooner most d after a s done acts.serving.requested acts.serving.rests
         (seen_serves d.count a d s after done is (all_small d s 0 all) h seen)
-        (falls_by_plan most acts.left so.0 s after (call_serves (server_at s 0).step is) acts.within so.1)
+        (falls_by_plan most acts.left so.0 d s after a h (call_serves (server_at s 0).step is) acts.within so.1)
 
 -- ---- a step of a job
 
 job_serves : (at : ServerStep) → is_working at ≡ true → is_serving at ≡ true
-job_serves at on = elim (working_or_finding at on) [
-  | inl is ↦ subst (λ (x : ServerStep). is_serving x ≡ true) (sym is) refl
-  | inr is ↦ subst (λ (x : ServerStep). is_serving x ≡ true) (sym is) refl
-]
+job_serves = at_job (λ (at : ServerStep). is_serving at ≡ true) refl refl refl
 
--- the run of the job, at either step
-runs_there : (at : ServerStep) (count : ℕ) (job : TreeState) (m : Memory) (left : ℕ) → is_working at ≡ true → JobLeft at count job m left →
+-- the run of the job, at each of these steps
+runs_there : (count : ℕ) (job : TreeState) (m : Memory) (left : ℕ) (at : ServerStep) → is_working at ≡ true → JobLeft at count job m left →
     RunsFor count job m left
-runs_there at count job m left on = elim (working_or_finding at on) [
-  | inl is ↦ λ run. subst (λ (x : ServerStep). JobLeft x count job m left) is run
-  | inr is ↦ λ run. subst (λ (x : ServerStep). JobLeft x count job m left) is run
-]
+runs_there count job m left =
+    at_job (λ (at : ServerStep). JobLeft at count job m left → RunsFor count job m left) (λ run. run) (λ run. run) (λ run. run)
 
-there_runs : (at : ServerStep) (count : ℕ) (job : TreeState) (m : Memory) (left : ℕ) → is_working at ≡ true → RunsFor count job m left →
+there_runs : (count : ℕ) (job : TreeState) (m : Memory) (left : ℕ) (at : ServerStep) → is_working at ≡ true → RunsFor count job m left →
     JobLeft at count job m left
-there_runs at count job m left on run = elim (working_or_finding at on) [
-  | inl is ↦ subst (λ (x : ServerStep). JobLeft x count job m left) (sym is) run
-  | inr is ↦ subst (λ (x : ServerStep). JobLeft x count job m left) (sym is) run
-]
+there_runs count job m left =
+    at_job (λ (at : ServerStep). RunsFor count job m left → JobLeft at count job m left) (λ run. run) (λ run. run) (λ run. run)
 
 -- less is left of the job alone
-working_less : (long : ℕ) (at : ServerStep) (kind : Option RequestKind) (number w v f g : ℕ) → is_working at ≡ true → w < v →
+working_less : (long : ℕ) (kind : Option RequestKind) (number w v f g : ℕ) → w < v → (at : ServerStep) → is_working at ≡ true →
     left_over long at kind number w f < left_over long at kind number v g
-working_less long at kind number w v f g on lt = elim (working_or_finding at on) [
-  | inl is ↦ subst (λ (x : ServerStep). left_over long x kind number w f < left_over long x kind number v g) (sym is) (working (opens kind))
-  | inr is ↦ subst (λ (x : ServerStep). left_over long x kind number w f < left_over long x kind number v g) (sym is) (finding (opens kind))
-]
+working_less long kind number w v f g lt =
+    at_job (λ (at : ServerStep). left_over long at kind number w f < left_over long at kind number v g) (working (opens kind)) (finding (opens kind))
+    (omega (arith, lt))
   where
-    working : (b : Bool) → (if b then long + 20 + w else 10 + w) < (if b then long + 20 + v else 10 + v)
+    working : (b : Bool) → (if b then 2 * long + 40 + w else 10 + w) < (if b then 2 * long + 40 + v else 10 + v)
     working true = omega (arith, lt)
     working false = omega (arith, lt)
 
-    finding : (b : Bool) → (if b then 10 + w else 2 * long + 5000 + w) < (if b then 10 + v else 2 * long + 5000 + v)
+    finding : (b : Bool) → (if b then long + 20 + w else 2 * long + 5000 + w) < (if b then long + 20 + v else 2 * long + 5000 + v)
     finding true = omega (arith, lt)
     finding false = omega (arith, lt)
 
@@ -447,7 +451,7 @@ module _ (most : ℕ) (a : AbstractState) (disk : DiskFile) (before now : Files)
   e = disk_in now disk
 
   run : RunsFor d.count (job_in s 0) (memory_in d s 0) acts.left
-  run = runs_there (server_at s 0).step d.count (job_in s 0) (memory_in d s 0) acts.left on acts.runs
+  run = runs_there d.count (job_in s 0) (memory_in d s 0) acts.left (server_at s 0).step on acts.runs
 
   -- it stands where it stood, and goes on with the job
   goes_on : StandsStill s after 0 → (left : ℕ) → RunsFor e.count (job_in after 0) (memory_in e after 0) left → work_left left after 0 < work_left acts.left s 0 →
@@ -458,12 +462,12 @@ module _ (most : ℕ) (a : AbstractState) (disk : DiskFile) (before now : Files)
         (left_over WORK_STEPS_MAX (server_at s 0).step (server_at s 0).kind (server_at s 0).number (work_left left after 0) (flushes_left after 0))
         (number_in acts.left s 0) most
         (λ i. left_over WORK_STEPS_MAX (same.at_step i) (same.kind i) (same.number i) (work_left left after 0) (flushes_left after 0))
-        (working_less WORK_STEPS_MAX (server_at s 0).step (server_at s 0).kind (server_at s 0).number (work_left left after 0) (work_left acts.left s 0)
-        (flushes_left after 0) (flushes_left s 0) on less) acts.within,
+        (working_less WORK_STEPS_MAX (server_at s 0).kind (server_at s 0).number (work_left left after 0) (work_left acts.left s 0)
+        (flushes_left after 0) (flushes_left s 0) less (server_at s 0).step on) acts.within,
     record {
       serving = serving;
       left = left;
-      runs = there_runs (server_at after 0).step e.count (job_in after 0) (memory_in e after 0) left (ap is_working same.at_step ∙ on) runs;
+      runs = there_runs e.count (job_in after 0) (memory_in e after 0) left (server_at after 0).step (ap is_working same.at_step ∙ on) runs;
       within = omega arith;
     },
   )
@@ -524,24 +528,24 @@ module _ (most : ℕ) (a : AbstractState) (disk : DiskFile) (before now : Files)
   still_long mid _ (steps.answers word moved by) = moved.stands
   still_long mid _ (steps.lacks waiting refusal resting) = waiting.stands
 
-  served_soon : (done : Progress) → HasWorked (server_at s 0) disk before now s after 0 done → HasServed e.count a e s after 0 done →
-      Sooner most done e after a
-  served_soon _ (goes stepped alone) served =
+  served_soon : (done : Progress) → StandsServing d.count a (serving_in d s 0) → HasWorked (server_at s 0) disk before now s after 0 done →
+      HasServed e.count a e s after 0 done → Sooner most done e after a
+  served_soon _ h (goes stepped alone) served =
       goes_further acted.Going refl (still s after 0 alone.rest) stepped
       (served_is_kept a e s after progress.Hidden acts.serving.requested acts.serving.rests served)
-  served_soon _ (answers word mid stepped alone is) served =
+  served_soon _ h (answers word mid stepped alone is) served =
       let next = next_at (server_at s 0) word in
       sooner most e after a s next.seen acts.serving.requested acts.serving.rests served
-      (falls_by_plan most acts.left word s after (job_serves (server_at s 0).step on) acts.within
+      (falls_by_plan most acts.left word d s after a h (job_serves (server_at s 0).step on) acts.within
       (gone_stands mid 0 next (goes_well (server_at s 0) (server_at s 0).step word (number_below s 0)) (still_long mid (acted.Answer word) stepped).cache.words
       after is))
 
 pub jobs_act_soon : JobsActSoon
 jobs_act_soon most a disk before now s after files output done on all acts other order is told made worked =
     let d : Disk = disk_in before disk in
-    elim (jobs_serve d.count a disk before now s after files output done on acts.serving.requested all (servers_stand a d s acts.serving other) order is told
-    made worked) [
-      | inl served ↦ inl (served_soon most a disk before now s after on all acts done worked served)
+    let h = servers_stand a d s acts.serving other in
+    elim (jobs_serve d.count a disk before now s after files output done on acts.serving.requested all h order is told made worked) [
+      | inl served ↦ inl (served_soon most a disk before now s after on all acts done h worked served)
       | inr lacks ↦ inr lacks
     ]
 
@@ -576,18 +580,21 @@ module _ (most : ℕ) (a : AbstractState) (disk : DiskFile) (before now : Files)
       below : (x v f g y w most : ℕ) → x ≡ v → v ≡ 2 + f → y ≡ w → w ≡ 2 + g → f < g → y ≤ most → x < most
       below x v f g y w most one two three four lt le = omega (arith, one, two, three, four, lt, le)
 
-  flushed_soon : (done : Progress) → HasFlushed (server_at s 0) disk s after 0 files output done → HasServed e_now.count a e_now s after 0 done →
-      Sooner most done e_now after a
-  flushed_soon _ (goes flushes) served = sooner most e_now after a s progress.Hidden acts.serving.requested acts.serving.rests served (flush_falls_on flushes)
-  flushed_soon _ (ends mid flushes gone_is) served =
+  flushed_soon : (done : Progress) → StandsServing (disk_in before disk).count a (serving_in (disk_in before disk) s 0) →
+      HasFlushed (server_at s 0) disk s after 0 files output done → HasServed e_now.count a e_now s after 0 done → Sooner most done e_now after a
+  flushed_soon _ h (goes flushes) served =
+      sooner most e_now after a s progress.Hidden acts.serving.requested acts.serving.rests served (flush_falls_on flushes)
+  flushed_soon _ h (ends mid flushes gone_is) served =
       let next = next_at (server_at s 0) 0 in
       let kept = flushes.cache before is all.stands.cache in
       sooner most e_now after a s next.seen acts.serving.requested acts.serving.rests served
-      (falls_by_plan most acts.left 0 s after (subst (λ (x : ServerStep). is_serving x ≡ true) (sym flushing_now) refl) acts.within
+      (falls_by_plan most acts.left 0 (disk_in before disk) s after a h
+      (subst (λ (x : ServerStep). is_serving x ≡ true) (sym flushing_now) refl) acts.within
       (gone_stands mid 0 next (goes_well (server_at s 0) (server_at s 0).step 0 (number_below s 0)) kept.2.words after gone_is))
 
 pub flushes_act_soon : FlushesActSoon
 flushes_act_soon most a disk before s after files output done flushing_now all acts other order is flushed =
     let d : Disk = disk_in before disk in
-    let served = flushes_serve d.count a disk before s after files output done flushing_now all (servers_stand a d s acts.serving other) order is flushed in
-    (served.0, served.1, flushed_soon most a disk before served.0 s after files output flushing_now all acts is done flushed served.2)
+    let h = servers_stand a d s acts.serving other in
+    let served = flushes_serve d.count a disk before s after files output done flushing_now all h order is flushed in
+    (served.0, served.1, flushed_soon most a disk before served.0 s after files output flushing_now all acts is done h flushed served.2)

@@ -18,24 +18,18 @@ use Rattle.fs_requests.specs.declared.state.ServerState.{ServerState}
 use Rattle.fs_requests.specs.declared.state.ServerStep.{ServerStep}
 use Rattle.fs_requests.specs.declared.state.ServerStep.TheVariants as step
 use Rattle.fs_requests.specs.ServerPlans.{acted, acting, begun, count_by, found_by, further, hidden, is_count, is_held, is_last, next_check, next_for}
-use Rattle.fs_requests.specs.ServerPlans.{next_holders, opens, request_by, shown, worked_by}
+use Rattle.fs_requests.specs.ServerPlans.{next_holders, next_sized, opens, request_by, shown, worked_by}
 use Rattle.fs_serving.specs.ServerRuns.{is_serving, job_calls_max, work_calls_max}
 use Rattle.fs_seen.specs.ServerFew.{calls_over, server_calls_max}
+use Rattle.fs_seen.proofs.KindsFit.{KindFits}
 
 -- ---- what is known at a step
-
--- a job of a file that is open, or of one that is removed
-abbrev pub KindFits : ServerStep → Option RequestKind → Type 0
-KindFits step.ReadingRecord k = opens k ≡ false
-KindFits step.CheckingRecord k = k ≡ Some kind.Remove
-KindFits step.CheckingEntry k = k ≡ Some kind.Remove
-KindFits step.CheckingHolders k = k ≡ Some kind.Remove
-KindFits _ k = Unit {0}
 
 -- so many calls are left of a job at most, where one is under way
 abbrev pub JobFits : ℕ → ℕ → ServerStep → Option RequestKind → Type 0
 JobFits count work step.Working k = work ≤ job_calls_max step.Working k count
 JobFits count work step.Finding k = work ≤ job_calls_max step.Finding k count
+JobFits count work step.Sizing k = work ≤ job_calls_max step.Sizing k count
 JobFits count work _ k = Unit {0}
 
 -- fewer behind a hidden step, and no more than a request takes behind another
@@ -65,10 +59,10 @@ module _ (count work flush later after : ℕ) (some : 1 ≤ count) (little : aft
 
   -- what a job that begins has left
   abbrev working : Option RequestKind → ℕ → ℕ
-  working k x = if opens k then 2 ^ 12 * count + 6235 + x else 10 + x
+  working k x = if opens k then 2 ^ 12 * count + 6290 + x else 10 + x
 
   abbrev finding : Bool → ℕ → ℕ
-  finding b x = if b then 10 + x else 2 ^ 12 * count + 58200 + x
+  finding b x = if b then 60 + x else 2 ^ 12 * count + 58200 + x
 
   file_below : (k : Option RequestKind) → opens k ≡ false → later ≤ work_calls_max k count → working k later < 2 ^ 13 * count + 65016
   file_below None is fits = omega (arith, fits)
@@ -80,8 +74,9 @@ module _ (count work flush later after : ℕ) (some : 1 ≤ count) (little : aft
   file_below (Some kind.Remove) is fits = omega (arith, fits)
   file_below (Some kind.Sync) is fits = omega (arith, fits)
   file_below (Some kind.Seek) is fits = omega (arith, fits)
+  file_below (Some kind.ReadAt) is fits = omega (arith, fits)
 
-  opening_below : (k : Option RequestKind) → later ≤ work_calls_max k count → working k later < 2 ^ 13 * count + 65241
+  opening_below : (k : Option RequestKind) → later ≤ work_calls_max k count → working k later < 2 ^ 13 * count + 65301
   opening_below None fits = omega (arith, fits)
   opening_below (Some kind.Open) fits = omega (arith, fits)
   opening_below (Some kind.SetSize) fits = omega (arith, fits)
@@ -91,6 +86,7 @@ module _ (count work flush later after : ℕ) (some : 1 ≤ count) (little : aft
   opening_below (Some kind.Remove) fits = omega (arith, fits)
   opening_below (Some kind.Sync) fits = omega (arith, fits)
   opening_below (Some kind.Seek) fits = omega (arith, fits)
+  opening_below (Some kind.ReadAt) fits = omega (arith, fits)
 
   removing_below : (k : Option RequestKind) (rest : ℕ) → k ≡ Some kind.Remove → later ≤ work_calls_max k count →
       working k later < 2 ^ 12 * count + 55020 + rest
@@ -106,11 +102,11 @@ module _ (count work flush later after : ℕ) (some : 1 ≤ count) (little : aft
   working_above : (k : Option RequestKind) (n : ℕ) → n < 10 → n < working k work
   working_above k n lt = by (opens k)
     where
-      by : (b : Bool) → n < (if b then 2 ^ 12 * count + 6235 + work else 10 + work)
+      by : (b : Bool) → n < (if b then 2 ^ 12 * count + 6290 + work else 10 + work)
       by true = omega (arith, lt)
       by false = omega (arith, lt)
 
-  finding_above : (b : Bool) (n : ℕ) → n < 10 → n < finding b work
+  finding_above : (b : Bool) (n : ℕ) → n < 60 → n < finding b work
   finding_above true n lt = omega (arith, lt)
   finding_above false n lt = omega (arith, lt)
 
@@ -125,6 +121,7 @@ module _ (count work flush later after : ℕ) (some : 1 ≤ count) (little : aft
     at_request (Some kind.Remove) fits = finding_below (opens st.kind) fits
     at_request (Some kind.Sync) fits = omega (arith, some, little)
     at_request (Some kind.Seek) fits = omega arith
+    at_request (Some kind.ReadAt) fits = omega arith
 
     at_count : (k : Option RequestKind) (word : ℕ) → Below (2 ^ 13 * count + 65017) (count_by k st word)
     at_count None word fits = omega arith
@@ -136,6 +133,7 @@ module _ (count work flush later after : ℕ) (some : 1 ≤ count) (little : aft
     at_count (Some kind.Remove) word fits = omega arith
     at_count (Some kind.Sync) word fits = omega arith
     at_count (Some kind.Seek) word fits = omega arith
+    at_count (Some kind.ReadAt) word fits = omega arith
 
     -- behind the job of the act
     abbrev worked_most : ℕ
@@ -151,7 +149,7 @@ module _ (count work flush later after : ℕ) (some : 1 ≤ count) (little : aft
 
     found_less : (k : Option RequestKind) → opens k ≡ true → later ≤ job_calls_max step.Finding k count → finding (opens k) later < working k work
     found_less k is fits =
-        subst (λ (b : Bool). finding b later < (if b then 2 ^ 12 * count + 6235 + work else 10 + work)) (sym is) (omega (arith, fits))
+        subst (λ (b : Bool). finding b later < (if b then 2 ^ 12 * count + 6290 + work else 10 + work)) (sym is) (omega (arith, fits))
 
     at_worked : (k : Option RequestKind) → st.kind ≡ k → (answer : ℕ) → Below worked_most (worked_by k st answer)
     at_worked None is answer = shows_next answer
@@ -166,6 +164,7 @@ module _ (count work flush later after : ℕ) (some : 1 ≤ count) (little : aft
     at_worked (Some kind.Remove) is answer = shows_next answer
     at_worked (Some kind.Sync) is answer = shows_next answer
     at_worked (Some kind.Seek) is answer = shows_next answer
+    at_worked (Some kind.ReadAt) is answer = shows_next answer
 
     -- behind that of a path
     abbrev found_most : ℕ
@@ -182,7 +181,7 @@ module _ (count work flush later after : ℕ) (some : 1 ≤ count) (little : aft
     at_found None is answer = ended answer
     at_found (Some kind.Open) is answer =
         by_test found_most (is_count answer) (hidden (record st { home = answer }) step.StoringRecord) (acting st answer)
-        (λ some_place fits. finding_above (opens st.kind) 6 (omega arith)) (λ none. ended answer)
+        (λ some_place fits. finding_above (opens st.kind) 55 (omega arith)) (λ none. ended answer)
     at_found (Some kind.SetSize) is answer = ended answer
     at_found (Some kind.Read) is answer = ended answer
     at_found (Some kind.Write) is answer = ended answer
@@ -192,6 +191,13 @@ module _ (count work flush later after : ℕ) (some : 1 ≤ count) (little : aft
         (λ some_place fits. checks_less st.kind (subst (λ (k : Option RequestKind). opens k ≡ false) (sym is) refl)) (λ none. ended answer)
     at_found (Some kind.Sync) is answer = ended answer
     at_found (Some kind.Seek) is answer = ended answer
+    at_found (Some kind.ReadAt) is answer = ended answer
+
+    -- and behind that of a size
+    at_sized : (size : ℕ) → Below (10 + work) (next_sized st size)
+    at_sized size =
+        by_test (10 + work) (is_count size) (hidden (record st { count = size }) step.StoringSize) (acting st size) (λ is fits. omega arith)
+        (λ is fits. omega arith)
 
     -- at a place of the table
     abbrev check_most : ℕ
@@ -230,7 +236,7 @@ module _ (count work flush later after : ℕ) (some : 1 ≤ count) (little : aft
   plans_take st step.LookingEntry word below on kind_is = λ fits. omega arith
   plans_take st step.LookingHolders word below on kind_is = at_holders st below (2 ^ 13 * count + 65500) word
   plans_take st step.TakingPage word below on kind_is =
-      by_test (2 ^ 13 * count + 65242) (word == 0) (hidden st step.ReadingMode) (acting st word) (λ is fits. omega arith) (λ is fits. omega arith)
+      by_test (2 ^ 13 * count + 65302) (word == 0) (hidden st step.ReadingMode) (acting st word) (λ is fits. omega arith) (λ is fits. omega arith)
   plans_take st step.ReadingMode word below on kind_is = λ fits. opening_below st.kind fits
   plans_take st step.Working word below on kind_is = at_worked st below st.kind refl word
   plans_take st step.Finding word below on kind_is = at_found st below st.kind refl word
@@ -239,6 +245,9 @@ module _ (count work flush later after : ℕ) (some : 1 ≤ count) (little : aft
   plans_take st step.ReadingModeAgain word below on kind_is = λ fits. omega arith
   plans_take st step.StoringMode word below on kind_is = λ fits. omega arith
   plans_take st step.StoringFile word below on kind_is = λ fits. omega arith
+  plans_take st step.ReadingRecordAgain word below on kind_is = λ fits. omega (arith, fits)
+  plans_take st step.Sizing word below on kind_is = at_sized st below word
+  plans_take st step.StoringSize word below on kind_is = λ fits. omega arith
   plans_take st step.Advancing word below on kind_is = λ fits. omega arith
   plans_take st step.StoringOffset word below on kind_is = λ fits. omega arith
   plans_take st step.CheckingRecord word below on kind_is =

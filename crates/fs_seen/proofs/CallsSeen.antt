@@ -1,5 +1,5 @@
 -- At each step of the server that makes a quiet call that gives what is seen, and does what is to be seen behind it; and nothing stops it.
-use Rattle.std.proofs.Common.{◌≡◌, ◌∙◌, ◌*◌, ◌+◌, ◌/◌, ◌%◌, ◌<◌, ◌≤◌, ◌^◌, ℕ, true, false, Ok, Err, refl, sym, ap, subst, arith}
+use Rattle.std.proofs.Common.{◌≡◌, ◌∙◌, ◌*◌, ◌+◌, ◌/◌, ◌%◌, ◌<◌, ◌≤◌, ◌^◌, ℕ, true, false, Option, Some, Ok, Err, refl, sym, ap, subst, arith}
 use Rattle.std.specs.Prelude.{get_or}
 use Rattle.jos_base.specs.declared.numbers.TheConstants.{PGSIZE, UENVS, UVPT}
 use Rattle.jos_base.specs.declared.registers.Regs.{Regs}
@@ -7,8 +7,10 @@ use Rattle.jos_base.specs.Environments.{Slot, record_words}
 use Rattle.jos_base.specs.KernelState.{KernelState, slot_at}
 use Rattle.jos_base.specs.Words.{upd}
 use Rattle.std.proofs.Common.{List, [], ◌∷◌}
-use Rattle.lib_os.specs.declared.numbers.TheConstants.{DEVICE_FILE, FD_DEVICE, FD_FILE, FD_MODE, FD_OFFSET, MAXOPEN, REQUEST}
-use Rattle.lib_os.specs.declared.numbers.TheConstants.{REQUEST_COUNT, REQUEST_FILE, REQUEST_MODE}
+use Rattle.lib_os.specs.declared.numbers.TheConstants.{DEVICE_FILE, FD_DEVICE, FD_FILE, FD_MODE, FD_OFFSET, FD_SIZE, MAXOPEN, REQUEST}
+use Rattle.lib_os.specs.declared.numbers.TheConstants.{REQUEST_COUNT, REQUEST_FILE, REQUEST_MODE, REQUEST_PLACE}
+use Rattle.lib_os.specs.declared.request.RequestKind.{RequestKind}
+use Rattle.lib_os.specs.declared.request.RequestKind.TheVariants as kind
 use Rattle.lib_os.specs.declared.user_os.Stop.{Stop}
 use Rattle.lib_os.specs.Disk.{Disk}
 use Rattle.lib_os.specs.InOrder.{IsInOrder}
@@ -17,9 +19,9 @@ use Rattle.fs_tree.specs.TreeSteps.{job_in}
 use Rattle.fs_requests.specs.declared.state.ServerState.{ServerState}
 use Rattle.fs_requests.specs.declared.state.ServerStep.{ServerStep}
 use Rattle.fs_requests.specs.declared.state.ServerStep.TheVariants as step
-use Rattle.fs_requests.specs.ServerPlans.{call_for, next_at, open_page, open_record}
+use Rattle.fs_requests.specs.ServerPlans.{call_for, next_at, open_page, open_record, place_va}
 use Rattle.fs_requests.specs.ServerWords.{server_in}
-use Rattle.fs_serving.specs.ServerViews.{IsReplyFor, IsSeenBehind, View, called, gone_on, request_word, with_page_word}
+use Rattle.fs_serving.specs.ServerViews.{IsReplyFor, IsSeenBehind, View, called, gone_on, place_told, request_word, with_page_word}
 use Rattle.fs_server.specs.ServerSteps as server
 use Rattle.fs_server.specs.ServerSteps.{IsReply, by_word, server_at, was_stopped}
 use Rattle.fs_seen.specs.ServerMemory.{has_request, serving_in, view_in}
@@ -137,6 +139,12 @@ module _ (d : Disk) (s : KernelState) (n : ℕ) (h : AllStands d s n) (st : Serv
       behind = store_place d s n h st.number below there place fits put mid output reply order;
     }
 
+    -- the place of the next byte, wherever it stands
+    offset_given : (asked : Option RequestKind) → HasPlace st v → has_request s n ≡ true →
+        IsStep (load s n (place_va asked st.number)) (Ok word) mid output → (word ≡ place_told asked v st.number) × IsBehind d s mid n v
+    offset_given (Some kind.ReadAt) there page reply = load_request d s n h page REQUEST_PLACE (omega arith) word mid output reply order
+    offset_given _ there page reply = load_place d s n h st.number below there FD_OFFSET (omega arith) word mid output reply order
+
     pub given : (at : ServerStep) → is_quiet at ≡ true → NeedsAt at st v n → (reads_request at ≡ true → has_request s n ≡ true) → st.home < 2 ^ 32 →
         IsReply (call_for st at) s n (Ok word) mid output → HasGiven d s mid n at st word
     given step.ReadingKind quiet first reads small reply =
@@ -147,8 +155,7 @@ module _ (d : Disk) (s : KernelState) (n : ℕ) (h : AllStands d s n) (st : Serv
         still step.ReadingClient (loaded.0 ∙ sender_is first) refl loaded.1
     given step.ReadingFile quiet need reads small reply = of_request step.ReadingFile REQUEST_FILE (reads refl) (omega arith) reply (λ is. is) refl
     given step.ReadingOffset quiet there reads small reply =
-        let loaded = load_place d s n h st.number below there FD_OFFSET (omega arith) word mid output reply order in
-        still step.ReadingOffset loaded.0 refl loaded.1
+        let loaded = offset_given st.kind there (reads refl) reply in still step.ReadingOffset loaded.0 refl loaded.1
     given step.ReadingCount quiet need reads small reply = of_request step.ReadingCount REQUEST_COUNT (reads refl) (omega arith) reply (λ is. is) refl
     given step.ReadingRecord quiet need reads small reply = of_record step.ReadingRecord reply (λ is. is) refl
     given step.LookingRecord quiet need reads small reply = of_record step.LookingRecord reply (λ is. is) refl
@@ -169,6 +176,9 @@ module _ (d : Disk) (s : KernelState) (n : ℕ) (h : AllStands d s n) (st : Serv
     given step.StoringMode quiet there reads small reply =
         of_store step.StoringMode FD_MODE (st.count % 4) (omega arith) there reply.1 tt (λ w is. is)
     given step.StoringFile quiet there reads small reply = of_store step.StoringFile FD_FILE st.number (omega arith) there reply.1 tt (λ w is. is)
+    given step.ReadingRecordAgain quiet need reads small reply = of_record step.ReadingRecordAgain reply (λ is. is) refl
+    given step.StoringSize quiet there reads small reply =
+        of_store step.StoringSize FD_SIZE st.count (omega arith) there reply.1 tt (λ w is. is)
     given step.Advancing quiet there reads small reply =
         let loaded = load_place d s n h st.number below there FD_OFFSET (omega arith) word mid output reply order in
         still step.Advancing loaded.0 refl loaded.1
@@ -187,6 +197,7 @@ module _ (d : Disk) (s : KernelState) (n : ℕ) (h : AllStands d s n) (st : Serv
     given step.TakingPage quiet need reads small reply = absurd (let contradiction : false ≡ true = quiet in cc)
     given step.Working quiet need reads small reply = absurd (let contradiction : false ≡ true = quiet in cc)
     given step.Finding quiet need reads small reply = absurd (let contradiction : false ≡ true = quiet in cc)
+    given step.Sizing quiet need reads small reply = absurd (let contradiction : false ≡ true = quiet in cc)
     given step.Flushing quiet need reads small reply = absurd (let contradiction : false ≡ true = quiet in cc)
     given step.Replying quiet need reads small reply = absurd (let contradiction : false ≡ true = quiet in cc)
 
@@ -208,6 +219,11 @@ module _ (d : Disk) (s : KernelState) (n : ℕ) (h : AllStands d s n) (st : Serv
     store_goes there place put fits =
         never_stops (store s n (open_page st.number + place) put) tt why mid output (place_store_gives d s n h st.number below there place fits put)
 
+    offset_goes : (asked : Option RequestKind) → HasPlace st v → has_request s n ≡ true →
+        IsStep (load s n (place_va asked st.number)) (Err why) mid output → ⊥
+    offset_goes (Some kind.ReadAt) there page reply = request_goes REQUEST_PLACE page (omega arith) reply
+    offset_goes _ there page reply = place_goes there reply
+
     pub goes : (at : ServerStep) → is_quiet at ≡ true → NeedsAt at st v n → (reads_request at ≡ true → has_request s n ≡ true) →
         IsReply (call_for st at) s n (Err why) mid output → ⊥
     goes step.ReadingKind quiet first reads reply =
@@ -217,7 +233,7 @@ module _ (d : Disk) (s : KernelState) (n : ℕ) (h : AllStands d s n) (st : Serv
         never_stops (load s n (UENVS + 64 * 0 + 4 * 11)) _ why mid output
         (record_gives d s n h.stands 11 (omega arith) (sender_small first)) reply
     goes step.ReadingFile quiet need reads reply = request_goes REQUEST_FILE (reads refl) (omega arith) reply
-    goes step.ReadingOffset quiet there reads reply = place_goes there reply
+    goes step.ReadingOffset quiet there reads reply = offset_goes st.kind there (reads refl) reply
     goes step.ReadingCount quiet need reads reply = request_goes REQUEST_COUNT (reads refl) (omega arith) reply
     goes step.ReadingRecord quiet need reads reply = record_goes reply
     goes step.LookingRecord quiet need reads reply = record_goes reply
@@ -230,6 +246,8 @@ module _ (d : Disk) (s : KernelState) (n : ℕ) (h : AllStands d s n) (st : Serv
     goes step.ReadingModeAgain quiet need reads reply = request_goes REQUEST_MODE (reads refl) (omega arith) reply
     goes step.StoringMode quiet there reads reply = store_goes there FD_MODE (st.count % 4) (omega arith) reply
     goes step.StoringFile quiet there reads reply = store_goes there FD_FILE st.number (omega arith) reply
+    goes step.ReadingRecordAgain quiet need reads reply = record_goes reply
+    goes step.StoringSize quiet there reads reply = store_goes there FD_SIZE st.count (omega arith) reply
     goes step.Advancing quiet there reads reply = place_goes there reply
     goes step.StoringOffset quiet there reads reply = store_goes there FD_OFFSET st.at (omega arith) reply
     goes step.CheckingRecord quiet need reads reply = record_goes reply
@@ -242,6 +260,7 @@ module _ (d : Disk) (s : KernelState) (n : ℕ) (h : AllStands d s n) (st : Serv
     goes step.TakingPage quiet need reads reply = reply
     goes step.Working quiet need reads reply = reply
     goes step.Finding quiet need reads reply = reply
+    goes step.Sizing quiet need reads reply = reply
     goes step.Flushing quiet need reads reply = reply
     goes step.Replying quiet need reads reply = reply
 

@@ -13,7 +13,6 @@ use Rattle.fs_acts.proofs.Disks.{disk-blocks}
 use Rattle.lib_os.specs.declared.progress.Progress.{Progress}
 use Rattle.lib_os.specs.declared.progress.Progress.TheVariants as progress
 use Rattle.lib_os.specs.declared.request.RequestKind.{RequestKind}
-use Rattle.lib_os.specs.declared.request.RequestKind.TheVariants as kind
 use Rattle.lib_os.specs.AbstractState.{AbstractState}
 use Rattle.lib_os.specs.Disk.{Disk, DiskFile, disk_in}
 use Rattle.lib_os.specs.UserCalls.{Output}
@@ -36,7 +35,7 @@ use Rattle.fs_requests.specs.declared.state.ServerState.{ServerState}
 use Rattle.fs_requests.specs.declared.state.ServerStep.{ServerStep}
 use Rattle.fs_requests.specs.declared.state.ServerStep.TheVariants as step
 use Rattle.fs_requests.specs.ServerPlans.{next_at, opens}
-use Rattle.fs_serving.specs.ServerRuns.{Follows, IsFound, StandsAtStep, StandsServing, calls_at, found_calls, has_job, is_of_file, is_serving, job_calls}
+use Rattle.fs_serving.specs.ServerRuns.{Follows, IsFound, StandsAtStep, StandsServing, calls_at, found_calls, has_job, is_serving, job_calls}
 use Rattle.fs_serving.specs.ServerRuns.{job_calls_max, opened, removed}
 use Rattle.fs_serving.specs.ServerViews.{Calls, Serving, called}
 use Rattle.fs_serving.proofs.JobsLeft.{job-calls-few}
@@ -46,12 +45,13 @@ use Rattle.fs_seen.specs.ServerFew.{calls_over, found_for, found_in, server_call
 use Rattle.fs_seen.specs.ServerMemory.{HasRequested, serving_in}
 use Rattle.fs_seen.specs.ServerSees.{AccessRests, AllStands, CacheRests, HasServed, IsSeen, is_working}
 use Rattle.fs_seen.specs.ServerWhole.{GoesOnServing, IsServing}
-use Rattle.fs_seen.proofs.CallsFall.{Falls, JobFits, KindFits, falls_more, plans_take}
+use Rattle.fs_seen.proofs.CallsFall.{Falls, JobFits, falls_more, plans_take}
 use Rattle.fs_seen.proofs.CallsSeen.{calls_are_seen}
 use Rattle.fs_seen.proofs.FewAccesses.{Head, access_least, access_most, access_ready, rest_most, run_five, run_head, wanted_same}
 use Rattle.fs_seen.proofs.FlushesServed.{flush_leaves, flushes_serve}
 use Rattle.fs_seen.proofs.GoesOn.{goes_well}
 use Rattle.fs_seen.proofs.JobsServed.{jobs_serve, number_below}
+use Rattle.fs_seen.proofs.KindsFit.{kind_fits}
 use Rattle.fs_seen.proofs.Needs.{has_needs, reads_page}
 use Rattle.fs_seen.proofs.Over.{all_small}
 use Rattle.fs_seen.proofs.Rests.{found_rests, rests_of_job, rests_there}
@@ -62,20 +62,7 @@ use Rattle.fs_seen.proofs.Setting.{StandsNext, gone_cache, gone_stands}
 use Rattle.fs_seen.proofs.TableLeft.{StandsStill, still}
 use Rattle.fs_seen.proofs.TakingLaw.{pages_are_taken}
 
--- ---- what is asked for
-
-of_file_opens : (k : RequestKind) → is_of_file k ≡ true → opens (Some k) ≡ false
-of_file_opens kind.Open of = absurd (false≢true of)
-of_file_opens _ of = refl
-
-kind_fits : (count : ℕ) (a : AbstractState) (it : Serving) (before : Memory) (at : ServerStep) → StandsAtStep at count a it before →
-    KindFits at it.state.kind
-kind_fits count a it before step.ReadingRecord h =
-    ap (λ (k : Option RequestKind). opens k) h.0.is_busy.kind_is ∙ of_file_opens h.0.k h.0.of_file
-kind_fits count a it before step.CheckingRecord h = h.is_busy.kind_is
-kind_fits count a it before step.CheckingEntry h = h.0.is_busy.kind_is
-kind_fits count a it before step.CheckingHolders h = h.0.is_busy.kind_is
-kind_fits count a it before _ h = tt
+-- ---- what is known
 
 -- a disk has blocks
 some_blocks : (count : ℕ) (a : AbstractState) (it : Serving) → StandsServing count a it → 1 ≤ count
@@ -106,6 +93,9 @@ module _ (count : ℕ) (a : AbstractState) (it : Serving) (before : Memory) wher
       let way = is.on_its_way in
       record { left = way.left; answer = way.answer; after = way.after; ends = way.ends; calls_are = λ found. refl; few = few refl }
   few_there step.Finding is few = found_few is (few refl)
+  few_there step.Sizing is few =
+      let run = is.running in
+      record { left = run.left; answer = _; after = is.left_as; ends = run.ends; calls_are = λ found. refl; few = few refl }
   few_there _ is few = tt
 
 abbrev HasFew : ℕ → Serving → Type 0
@@ -142,11 +132,13 @@ job_fits : (count : ℕ) (at : ServerStep) (k : Option RequestKind) (s : KernelS
     JobInFew at k count (job_in s n) m calls → JobFits count (work_calls calls s n) at k
 job_fits count step.Working k s n m calls few run = run_most run few (cache_state s n).place
 job_fits count step.Finding k s n m calls few run = run_most run few (cache_state s n).place
+job_fits count step.Sizing k s n m calls few run = run_most run few (cache_state s n).place
 job_fits count _ k s n m calls few run = tt
 
 ready_at : (at : ServerStep) (s : KernelState) (n : ℕ) → is_fetching (cache_state s n).place ≡ false → JobReady at s n
 ready_at step.Working s n none = access_ready (tree.ask_at (job_in s n)) (cache_state s n).place none
 ready_at step.Finding s n none = access_ready (tree.ask_at (job_in s n)) (cache_state s n).place none
+ready_at step.Sizing s n none = access_ready (tree.ask_at (job_in s n)) (cache_state s n).place none
 ready_at _ s n none = tt
 
 -- ---- behind a step
@@ -296,6 +288,7 @@ calls_take_few most a d s after output done is all acts other order made =
 job_serves : (at : ServerStep) → is_working at ≡ true → is_serving at ≡ true
 job_serves step.Working on = refl
 job_serves step.Finding on = refl
+job_serves step.Sizing on = refl
 job_serves _ on = absurd (false≢true on)
 
 -- the run of the job, at either step
@@ -303,24 +296,28 @@ runs_there : (at : ServerStep) (k : Option RequestKind) (count : ℕ) (job : Tre
     JobInFew at k count job m calls → RunsInFew (job_calls_max at k count) count job m calls
 runs_there step.Working k count job m calls on run = run
 runs_there step.Finding k count job m calls on run = run
+runs_there step.Sizing k count job m calls on run = run
 runs_there _ k count job m calls on run = absurd (false≢true on)
 
 there_runs : (at : ServerStep) (k : Option RequestKind) (count : ℕ) (job : TreeState) (m : Memory) (calls : Option ℕ → ℕ) → is_working at ≡ true →
     RunsInFew (job_calls_max at k count) count job m calls → JobInFew at k count job m calls
 there_runs step.Working k count job m calls on run = run
 there_runs step.Finding k count job m calls on run = run
+there_runs step.Sizing k count job m calls on run = run
 there_runs _ k count job m calls on run = absurd (false≢true on)
 
 ready_there : (at : ServerStep) (s : KernelState) (n : ℕ) → is_working at ≡ true → JobReady at s n →
     AccessReady (tree.ask_at (job_in s n)) (cache_state s n).place
 ready_there step.Working s n on ready = ready
 ready_there step.Finding s n on ready = ready
+ready_there step.Sizing s n on ready = ready
 ready_there _ s n on ready = absurd (false≢true on)
 
 there_ready : (at : ServerStep) (s : KernelState) (n : ℕ) → is_working at ≡ true →
     AccessReady (tree.ask_at (job_in s n)) (cache_state s n).place → JobReady at s n
 there_ready step.Working s n on ready = ready
 there_ready step.Finding s n on ready = ready
+there_ready step.Sizing s n on ready = ready
 there_ready _ s n on ready = absurd (false≢true on)
 
 -- less is left of the job alone
@@ -328,14 +325,15 @@ working_less : (count : ℕ) (at : ServerStep) (k : Option RequestKind) (number 
     calls_over count at k number w f < calls_over count at k number v g
 working_less count step.Working k number w v f g on lt = by (opens k)
   where
-    by : (b : Bool) → (if b then 2 ^ 12 * count + 6235 + w else 10 + w) < (if b then 2 ^ 12 * count + 6235 + v else 10 + v)
+    by : (b : Bool) → (if b then 2 ^ 12 * count + 6290 + w else 10 + w) < (if b then 2 ^ 12 * count + 6290 + v else 10 + v)
     by true = omega (arith, lt)
     by false = omega (arith, lt)
 working_less count step.Finding k number w v f g on lt = by (opens k)
   where
-    by : (b : Bool) → (if b then 10 + w else 2 ^ 12 * count + 58200 + w) < (if b then 10 + v else 2 ^ 12 * count + 58200 + v)
+    by : (b : Bool) → (if b then 60 + w else 2 ^ 12 * count + 58200 + w) < (if b then 60 + v else 2 ^ 12 * count + 58200 + v)
     by true = omega (arith, lt)
     by false = omega (arith, lt)
+working_less count step.Sizing k number w v f g on lt = omega (arith, lt)
 working_less count _ k number w v f g on lt = absurd (false≢true on)
 
 module _ (most : ℕ) (a : AbstractState) (disk : DiskFile) (before now : Files) (s after : KernelState)

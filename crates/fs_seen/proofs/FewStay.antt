@@ -48,6 +48,9 @@ module _ (count : ℕ) (a : AbstractState) (it : Serving) (before : Memory) wher
       subst (λ (x : Memory). RunsInFew (job_calls_max step.Working k count) count job x calls) (sym (same (ap keeps_request is.is_busy.server))) run
   runs_left step.Finding k job m now calls is same run =
       subst (λ (x : Memory). RunsInFew (job_calls_max step.Finding k count) count job x calls) (sym (same (found_keeps is))) run
+  runs_left step.Sizing k job m now calls is same run =
+      subst (λ (x : Memory). RunsInFew (job_calls_max step.Sizing k count) count job x calls)
+      (sym (same (ap keeps_request is.so_far.opened.opening.is_busy.server))) run
   runs_left _ k job m now calls is same run = tt
 
 module _ (most : ℕ) (a b : AbstractState) (d : Disk) (s after : KernelState) (acts : ActsInFew most d s 0 a) (other : a.server ≢ idle)
@@ -71,6 +74,9 @@ module _ (most : ℕ) (a b : AbstractState) (d : Disk) (s after : KernelState) (
       subst (λ (c : CacheState). AccessReady (tree.ask_at (job_in after 0)) c.place) (sym cache_same)
       (subst (λ (j : TreeState). AccessReady (tree.ask_at j) (cache_state s 0).place) (sym job_same) ready)
   ready_left step.Finding ready =
+      subst (λ (c : CacheState). AccessReady (tree.ask_at (job_in after 0)) c.place) (sym cache_same)
+      (subst (λ (j : TreeState). AccessReady (tree.ask_at j) (cache_state s 0).place) (sym job_same) ready)
+  ready_left step.Sizing ready =
       subst (λ (c : CacheState). AccessReady (tree.ask_at (job_in after 0)) c.place) (sym cache_same)
       (subst (λ (j : TreeState). AccessReady (tree.ask_at j) (cache_state s 0).place) (sym job_same) ready)
   ready_left _ ready = tt

@@ -15,12 +15,13 @@ use Rattle.lib_os.specs.GuestStep.{born_in}
 use Rattle.fs_runs.specs.TreeRuns.{HasActed, Memory}
 use Rattle.fs_requests.specs.declared.state.ServerStep.{ServerStep}
 use Rattle.fs_requests.specs.declared.state.ServerStep.TheVariants as step
-use Rattle.fs_serving.specs.ServerRuns.{AsksFor, HasCome, HasFile, HasMoved, HasObject, HasPage, IsBusy, IsChecking, IsClosed, IsDone, IsFinding, IsFound}
-use Rattle.fs_serving.specs.ServerRuns.{IsLooking, IsMoving, IsOpenAs, IsOpened, IsOpening, IsReplying, IsStoring, IsTold, IsWorking, OfFile, OpenAlike}
-use Rattle.fs_serving.specs.ServerRuns.{StandsAtStep, client_of, moved, opened, opens, over, reads, removed, removes, seeks, sizes, sought, stats, syncs}
-use Rattle.fs_serving.specs.ServerRuns.{writes}
+use Rattle.fs_serving.specs.ServerRuns.{AsksFor, HasCome, HasFile, HasMoved, HasObject, HasOffset, HasPage, IsBusy, IsChecking, IsClosed, IsDone}
+use Rattle.fs_serving.specs.ServerRuns.{IsFinding, IsFound, IsLooking, IsMoving, IsOpenAs, IsOpened, IsOpening, IsReplying, IsSizing, IsStoring}
+use Rattle.fs_serving.specs.ServerRuns.{IsTold, IsWorking, OfFile, OpenAlike, StandsAtStep, client_of, moved, opened, opens, over, reads, reads_at}
+use Rattle.fs_serving.specs.ServerRuns.{removed, removes, seeks, sizes, sought, stats, syncs, writes}
 use Rattle.fs_serving.specs.ServerViews.{Serving, View}
 use Rattle.fs_serving.proofs.Working.{acted-alike}
+use Rattle.fs_seen.proofs.SeenAlike.{place_told_same}
 
 -- Another abstract state keeps what the server has. Of what is held some may be given up.
 pub record KeepsServed (a b : AbstractState) : Type 0 where
@@ -68,6 +69,7 @@ moved_closed : (a : AbstractState) (page : ℕ → ℕ) (is_open : List ℕ → 
 moved_closed a page is_open disk _ _ _ (opens path mode has is) moves = tt
 moved_closed a page is_open disk _ _ _ (removes path has) moves = absurd (let contradiction : false ≡ true = moves in cc)
 moved_closed a page is_open disk _ _ _ (reads name f so) moves = tt
+moved_closed a page is_open disk _ _ _ (reads_at name f so near) moves = tt
 moved_closed a page is_open disk _ _ _ (writes name f so within) moves = tt
 moved_closed a page is_open disk _ _ _ (sizes name f so) moves = tt
 moved_closed a page is_open disk _ _ _ (stats name f so) moves = tt
@@ -100,6 +102,7 @@ module _ (a b : AbstractState) (same : KeepsServed a b) where
     asks_as page _ _ (opens path mode has is) = opens path mode has is
     asks_as page _ _ (removes path has) = removes path has
     asks_as page _ _ (reads name f so) = reads name f (open_as so)
+    asks_as page _ _ (reads_at name f so near) = reads_at name f (open_as so) near
     asks_as page _ _ (writes name f so within) = writes name f (open_as so) within
     asks_as page _ _ (sizes name f so) = sizes name f (open_as so)
     asks_as page _ _ (stats name f so) = stats name f (open_as so)
@@ -163,6 +166,7 @@ module _ (a b : AbstractState) (same : KeepsServed a b) where
       device = h.device;
       offset = h.offset;
       mode = h.mode;
+      size = h.size;
       number_is = h.number_is;
       small = h.small;
     }
@@ -208,7 +212,7 @@ module _ (a b : AbstractState) (same : KeepsServed a b) where
       used = ap (λ (o : ℕ → TablePlace). (o it.state.number).used) same.opened ∙ h.used;
     }
 
-    opened_as : {path : List ℕ} {mode home : ℕ} → IsOpened a it before path mode home → IsOpened b now before path mode home
+    unfoldable opened_as : {path : List ℕ} {mode home : ℕ} → IsOpened a it before path mode home → IsOpened b now before path mode home
     opened_as {path = path} {mode = mode} h = record {
       opening = opening_as h.opening;
       has_page = page_as h.opening.nobodys h.has_page;
@@ -219,16 +223,21 @@ module _ (a b : AbstractState) (same : KeepsServed a b) where
       named = h.named;
     }
 
-    told_as : {told : ℕ} → IsTold a it before told → IsTold b now before told
+    unfoldable told_as : {told : ℕ} → IsTold a it before told → IsTold b now before told
+    unfolding opened_as
     told_as h = record {
       path = h.path;
       mode = h.mode;
-      opened = opened_as h.opened;
       home = h.home;
+      opened = opened_as h.opened;
+      kept = h.kept;
+      home_is = h.home_is;
       device = h.device;
       read = h.read;
       mode_is = h.mode_is;
       number_is = h.number_is;
+      sized = h.sized;
+      size = h.size;
       offset = h.offset;
     }
 
@@ -263,6 +272,9 @@ module _ (a b : AbstractState) (same : KeepsServed a b) where
     storing_as (opened so) = opened (told_as so)
     storing_as (moved so is) = moved (moved_as so) is
     storing_as (sought name so number at count memory) = sought name (busy_as so) number at count memory
+
+    offset_as : HasOffset it → HasOffset now
+    offset_as is = is ∙ sym (place_told_same it.state.kind it.view now.view it.state.number refl refl)
 
     checking_as : IsChecking a it before → IsChecking b now before
     checking_as h = record {
@@ -323,6 +335,10 @@ module _ (a b : AbstractState) (same : KeepsServed a b) where
     found_as (opened path mode home {m} so running) = opened path mode home {m = m} (opened_as (over it m) before holders free so) running
     found_as (removed so) = removed (finding_as so)
 
+    sizing_as : IsSizing count a it before → IsSizing count b (mapped it holders) before
+    unfolding told_as opened_as
+    sizing_as h = record { left_as = h.left_as; so_far = told_as (over it h.left_as) before holders free h.so_far; running = h.running }
+
     pub at_as : (at : ServerStep) → StandsAtStep at count a it before → StandsAtStep at count b (mapped it holders) before
     at_as step.Releasing h = (server_as h.0, h.1)
     at_as step.Receiving h = (server_as h.0, h.1)
@@ -330,8 +346,8 @@ module _ (a b : AbstractState) (same : KeepsServed a b) where
     at_as step.ReadingClient h = (h.0, h.1, come_as it before holders free h.2)
     at_as step.ReadingFile h = of_file_as it before holders free h
     at_as step.ReadingOffset h = (of_file_as it before holders free h.0, h.1)
-    at_as step.ReadingCount h = (of_file_as it before holders free h.0, h.1, h.2)
-    at_as step.ReadingRecord h = (of_file_as it before holders free h.0, h.1, h.2, h.3, h.4)
+    at_as step.ReadingCount h = (of_file_as it before holders free h.0, h.1, offset_as it before holders free h.2)
+    at_as step.ReadingRecord h = (of_file_as it before holders free h.0, h.1, offset_as it before holders free h.2, h.3, h.4)
     at_as step.LookingRecord h = looking_as it before holders free h
     at_as step.LookingEntry h = (looking_as it before holders free h.0, h.1)
     at_as step.LookingHolders h = (looking_as it before holders free h.0, h.1, h.2)
@@ -344,6 +360,9 @@ module _ (a b : AbstractState) (same : KeepsServed a b) where
     at_as step.ReadingModeAgain h = told_as it before holders free h
     at_as step.StoringMode h = told_as it before holders free h
     at_as step.StoringFile h = told_as it before holders free h
+    at_as step.ReadingRecordAgain h = told_as it before holders free h
+    at_as step.Sizing h = sizing_as h
+    at_as step.StoringSize h = told_as it before holders free h
     at_as step.Advancing h = moved_as it before holders free h
     at_as step.StoringOffset h = storing_as it before holders free h
     at_as step.CheckingRecord h = checking_as it before holders free h

@@ -14,7 +14,7 @@ use Rattle.fs_requests.specs.declared.state.ServerState.{ServerState}
 use Rattle.fs_requests.specs.declared.state.ServerStep.{ServerStep}
 use Rattle.fs_requests.specs.declared.state.ServerStep.TheVariants as step
 use Rattle.fs_requests.specs.ServerPlans.{acted, acting, begun, count_by, found_by, further, hidden, is_count, is_held, is_last, next_check, next_for}
-use Rattle.fs_requests.specs.ServerPlans.{next_holders, next_replied, request_by, shown, worked_by}
+use Rattle.fs_requests.specs.ServerPlans.{next_holders, next_replied, next_sized, request_by, shown, worked_by}
 use Rattle.fs_seen.specs.ServerSees.{is_working}
 
 pub record GoesWell (next : ServerNext) : Type 0 where
@@ -37,6 +37,7 @@ module _ (st : ServerState) (below : st.number < MAXOPEN) where
   well_request (Some kind.Remove) = record { below = omega arith; begins = refl }
   well_request (Some kind.Sync) = record { below = omega arith; begins = refl }
   well_request (Some kind.Seek) = record { below = omega arith; begins = refl }
+  well_request (Some kind.ReadAt) = record { below = omega arith; begins = refl }
 
   well_count : (k : Option RequestKind) (word : ℕ) → GoesWell (count_by k st word)
   well_count None word = record { below = below; begins = refl }
@@ -48,6 +49,7 @@ module _ (st : ServerState) (below : st.number < MAXOPEN) where
   well_count (Some kind.Remove) word = record { below = below; begins = refl }
   well_count (Some kind.Sync) word = record { below = below; begins = refl }
   well_count (Some kind.Seek) word = record { below = below; begins = refl }
+  well_count (Some kind.ReadAt) word = record { below = below; begins = refl }
 
   well_acting : (answer : ℕ) → GoesWell (acting st answer)
   well_acting answer = record { below = below; begins = refl }
@@ -69,6 +71,7 @@ module _ (st : ServerState) (below : st.number < MAXOPEN) where
   well_worked (Some kind.Remove) answer = well_acting answer
   well_worked (Some kind.Sync) answer = well_acting answer
   well_worked (Some kind.Seek) answer = well_acting answer
+  well_worked (Some kind.ReadAt) answer = well_acting answer
 
   well_going : (at : ServerStep) → is_working at ≡ false → (answer : ℕ) →
       GoesWell (if is_count answer then hidden (record st { home = answer }) at else acting st answer)
@@ -86,6 +89,12 @@ module _ (st : ServerState) (below : st.number < MAXOPEN) where
   well_found (Some kind.Remove) answer = well_going step.CheckingRecord refl answer
   well_found (Some kind.Sync) answer = well_acting answer
   well_found (Some kind.Seek) answer = well_acting answer
+  well_found (Some kind.ReadAt) answer = well_acting answer
+
+  well_sized : (size : ℕ) → GoesWell (next_sized st size)
+  well_sized size =
+      by_test (is_count size) (hidden (record st { count = size }) step.StoringSize) (acting st size)
+      (λ is. record { below = below; begins = refl }) (λ is. well_acting size)
 
   further_below : is_last st ≡ false → (further st).number < MAXOPEN
   further_below not_last = grind (arith, nat_tests)
@@ -138,6 +147,9 @@ goes_well st step.StoringDevice word below = record { below = below; begins = re
 goes_well st step.ReadingModeAgain word below = record { below = below; begins = refl }
 goes_well st step.StoringMode word below = record { below = below; begins = refl }
 goes_well st step.StoringFile word below = record { below = below; begins = refl }
+goes_well st step.ReadingRecordAgain word below = record { below = below; begins = refl }
+goes_well st step.Sizing word below = well_sized st below word
+goes_well st step.StoringSize word below = record { below = below; begins = refl }
 goes_well st step.Advancing word below = record { below = below; begins = refl }
 goes_well st step.StoringOffset word below = record { below = below; begins = refl }
 goes_well st step.CheckingRecord word below =

@@ -3,6 +3,7 @@ use Rattle.std.proofs.Common.{◌≡◌, ◌∙◌, ◌⊎◌, ◌&&◌, ◌==�
 use Rattle.std.proofs.Common.{refl, sym, ap, subst, arith, if◌then◌else◌}
 use Rattle.std.specs.Prelude.{get_or, nat_le, nat_lt, slice_index}
 use Rattle.std.specs.Int.{w32, to_le_bytes}
+use Rattle.std.proofs.lemmas.Bool.{false≢true}
 use Rattle.jos_host.specs.Files.{Files}
 use Rattle.jos_base.specs.declared.numbers.TheConstants.{E_NO_MEM}
 use Rattle.jos_base.specs.KernelState.{KernelState}
@@ -32,7 +33,7 @@ use Rattle.fs_requests.specs.declared.state.ServerStep.{ServerStep}
 use Rattle.fs_requests.specs.declared.state.ServerStep.TheVariants as step
 use Rattle.fs_requests.specs.ServerPlans.{ask_for, next_at}
 use Rattle.fs_requests.specs.ServerWords.{server_in}
-use Rattle.fs_serving.specs.ServerRuns.{Follows, GoesOnBy, IsWorking, StandsAtStep, StandsServing, WorksOn, is_serving, memory_worked, worked}
+use Rattle.fs_serving.specs.ServerRuns.{Follows, GoesOnBy, StandsAtStep, StandsServing, WorksOn, is_serving, memory_worked, worked}
 use Rattle.fs_serving.specs.ServerViews.{Serving, View}
 use Rattle.fs_serving.proofs.ServedWhole.{all_servers_serve}
 use Rattle.fs_server.specs.ServerSteps as server
@@ -43,7 +44,7 @@ use Rattle.fs_seen.specs.ServerSees.{AccessRests, AllStands, CacheRests, HasServ
 use Rattle.fs_seen.proofs.GoesOn.{goes_well}
 use Rattle.fs_seen.proofs.DiskStays.{bytes_behind}
 use Rattle.fs_seen.proofs.JobsLeave.{job_leaves}
-use Rattle.fs_seen.proofs.Needs.{finding_page, working_page}
+use Rattle.fs_seen.proofs.Needs.{finding_page, sizing_page, working_page}
 use Rattle.fs_seen.proofs.Over.{all_small, over_of, tree_of, tree_requested}
 use Rattle.fs_seen.proofs.Rests.{disk_rests, found_rests, job_rests, rests_at, rests_of_job}
 use Rattle.fs_seen.proofs.SeenAlike.{seeing, sees_as}
@@ -87,58 +88,26 @@ still_small (asks.HandBack at byte) m small = (small.0, byte_small m.page at byt
 
 -- ---- a job is under way
 
-pub working_or_finding : (at : ServerStep) → is_working at ≡ true → (at ≡ step.Working) ⊎ (at ≡ step.Finding)
-working_or_finding step.Working on = inl refl
-working_or_finding step.Finding on = inr refl
-working_or_finding step.Releasing on = absurd (let contradiction : false ≡ true = on in cc)
-working_or_finding step.Receiving on = absurd (let contradiction : false ≡ true = on in cc)
-working_or_finding step.ReadingKind on = absurd (let contradiction : false ≡ true = on in cc)
-working_or_finding step.ReadingClient on = absurd (let contradiction : false ≡ true = on in cc)
-working_or_finding step.ReadingFile on = absurd (let contradiction : false ≡ true = on in cc)
-working_or_finding step.ReadingOffset on = absurd (let contradiction : false ≡ true = on in cc)
-working_or_finding step.ReadingCount on = absurd (let contradiction : false ≡ true = on in cc)
-working_or_finding step.ReadingRecord on = absurd (let contradiction : false ≡ true = on in cc)
-working_or_finding step.LookingRecord on = absurd (let contradiction : false ≡ true = on in cc)
-working_or_finding step.LookingEntry on = absurd (let contradiction : false ≡ true = on in cc)
-working_or_finding step.LookingHolders on = absurd (let contradiction : false ≡ true = on in cc)
-working_or_finding step.TakingPage on = absurd (let contradiction : false ≡ true = on in cc)
-working_or_finding step.ReadingMode on = absurd (let contradiction : false ≡ true = on in cc)
-working_or_finding step.StoringRecord on = absurd (let contradiction : false ≡ true = on in cc)
-working_or_finding step.StoringDevice on = absurd (let contradiction : false ≡ true = on in cc)
-working_or_finding step.ReadingModeAgain on = absurd (let contradiction : false ≡ true = on in cc)
-working_or_finding step.StoringMode on = absurd (let contradiction : false ≡ true = on in cc)
-working_or_finding step.StoringFile on = absurd (let contradiction : false ≡ true = on in cc)
-working_or_finding step.Advancing on = absurd (let contradiction : false ≡ true = on in cc)
-working_or_finding step.StoringOffset on = absurd (let contradiction : false ≡ true = on in cc)
-working_or_finding step.CheckingRecord on = absurd (let contradiction : false ≡ true = on in cc)
-working_or_finding step.CheckingEntry on = absurd (let contradiction : false ≡ true = on in cc)
-working_or_finding step.CheckingHolders on = absurd (let contradiction : false ≡ true = on in cc)
-working_or_finding step.Flushing on = absurd (let contradiction : false ≡ true = on in cc)
-working_or_finding step.Acting on = absurd (let contradiction : false ≡ true = on in cc)
-working_or_finding step.Replying on = absurd (let contradiction : false ≡ true = on in cc)
-working_or_finding step.Pausing on = absurd (let contradiction : false ≡ true = on in cc)
+-- what is so at each step that has one
+pub at_job : (P : ServerStep → Type 0) → P step.Working → P step.Finding → P step.Sizing → (at : ServerStep) → is_working at ≡ true → P at
+at_job P working finding sizing step.Working on = working
+at_job P working finding sizing step.Finding on = finding
+at_job P working finding sizing step.Sizing on = sizing
+at_job P working finding sizing _ on = absurd (false≢true on)
 
 works_on : (count : ℕ) (a : AbstractState) (it : Serving) → is_working it.state.step ≡ true → AreSmall it.view.memory → StandsServing count a it →
     WorksOn count a it
 works_on count a it on small h =
-    elim (working_or_finding it.state.step on) [
-      | inl is ↦ subst (λ (at : ServerStep). GoesOnBy (ask_for it.state at) count a it) is (served (subst (λ (at : ServerStep). is_serving at ≡ true) (sym is) refl))
-      | inr is ↦ subst (λ (at : ServerStep). GoesOnBy (ask_for it.state at) count a it) is (served (subst (λ (at : ServerStep). is_serving at ≡ true) (sym is) refl))
-    ]
-  where
-    served : is_serving it.state.step ≡ true → GoesOnBy (ask_for it.state it.state.step) count a it
-    served serving = all_servers_serve count a it serving small h
+    at_job (λ (at : ServerStep). GoesOnBy (ask_for it.state at) count a it → WorksOn count a it) (λ works. works) (λ works. works) (λ works. works)
+    it.state.step on
+    (all_servers_serve count a it (at_job (λ (at : ServerStep). is_serving at ≡ true) refl refl refl it.state.step on) small h)
 
 -- the page of the request is there
 pub page_at_work : (count : ℕ) (a : AbstractState) (it : Serving) (s : KernelState) (n : ℕ) → is_working it.state.step ≡ true → HasRequested a.server s n →
     StandsServing count a it → has_request s n ≡ true
-page_at_work count a it s n on requested h = elim (working_or_finding it.state.step on) [
-  | inl is ↦
-      let works : IsWorking count a it h.before = subst (λ (at : ServerStep). StandsAtStep at count a it h.before) is h.at in
-      working_page a it h.before s n requested works
-  | inr is ↦
-      finding_page count a it h.before s n requested (subst (λ (at : ServerStep). StandsAtStep at count a it h.before) is h.at)
-]
+page_at_work count a it s n on requested h =
+    at_job (λ (at : ServerStep). StandsAtStep at count a it h.before → has_request s n ≡ true) (working_page a it h.before s n requested)
+    (finding_page count a it h.before s n requested) (sizing_page count a it h.before s n requested) it.state.step on h.at
 
 pub jobs_are_lawful : JobsAreLawful
 jobs_are_lawful a d s n on requested over h =

@@ -43,6 +43,7 @@ pub mod OthersNow
 pub mod StaysUnopened
 pub mod AskedByPages
 pub mod FirstServes
+pub mod KindsFit
 pub mod PlansFall
 pub mod RunsOn
 pub mod ActsSoon

@@ -12,9 +12,9 @@ use Rattle.lib_os.specs.declared.request.RequestKind.TheVariants as kind
 use Rattle.lib_os.specs.AbstractState.{AbstractState, Request, Server, busy}
 use Rattle.fs_requests.specs.declared.state.ServerStep.{ServerStep}
 use Rattle.fs_requests.specs.declared.state.ServerStep.TheVariants as step
-use Rattle.fs_serving.specs.ServerRuns.{AsksFor, HasFiles, HasMoved, IsBusy, IsChecking, IsFound, IsMoving, IsStoring, IsTold, IsWorking, OfFile}
-use Rattle.fs_serving.specs.ServerRuns.{StandsAtStep, StandsServing, TableStands, client_of, is_of_file, moved, opened, opens, over, reads, removed}
-use Rattle.fs_serving.specs.ServerRuns.{removes, seeks, sizes, sought, stats, syncs, writes}
+use Rattle.fs_serving.specs.ServerRuns.{AsksFor, HasFiles, HasMoved, IsBusy, IsChecking, IsFound, IsMoving, IsSizing, IsStoring, IsTold, IsWorking}
+use Rattle.fs_serving.specs.ServerRuns.{OfFile, StandsAtStep, StandsServing, TableStands, client_of, is_of_file, moved, opened, opens, over, reads}
+use Rattle.fs_serving.specs.ServerRuns.{reads_at, removed, removes, seeks, sizes, sought, stats, syncs, writes}
 use Rattle.fs_serving.specs.ServerViews.{Serving, request_word}
 use Rattle.fs_serving.proofs.HeldFiles.{led-stands, place-past}
 use Rattle.fs_serving.proofs.OfFiles.{names_file}
@@ -30,6 +30,7 @@ moves_file kind.Stat is = refl
 moves_file kind.Remove is = is
 moves_file kind.Sync is = is
 moves_file kind.Seek is = refl
+moves_file kind.ReadAt is = refl
 
 module _ (count : ℕ) (a : AbstractState) (it : Serving) (before : Memory) (files : HasFiles count before a.files)
     (table : TableStands before.disk a it.view) where
@@ -87,6 +88,9 @@ module _ (count : ℕ) (a : AbstractState) (it : Serving) (before : Memory) (fil
   needs_at n first step.ReadingModeAgain h = tt
   needs_at n first step.StoringMode h = of_told h
   needs_at n first step.StoringFile h = of_told h
+  needs_at n first step.ReadingRecordAgain h = tt
+  needs_at n first step.Sizing h = tt
+  needs_at n first step.StoringSize h = of_told h
   needs_at n first step.Advancing h = of_moved h
   needs_at n first step.StoringOffset h = of_storing h
   needs_at n first step.CheckingRecord h = tt
@@ -110,6 +114,7 @@ asks_page : (a : AbstractState) (page : ℕ → ℕ) (k : RequestKind) (request 
 asks_page a page _ _ (opens path mode has mode_is) other = refl
 asks_page a page _ _ (removes path has) other = refl
 asks_page a page _ _ (reads name f so) other = refl
+asks_page a page _ _ (reads_at name f so near) other = refl
 asks_page a page _ _ (writes name f so within) other = refl
 asks_page a page _ _ (sizes name f so) other = refl
 asks_page a page _ _ (stats name f so) other = refl
@@ -134,36 +139,39 @@ module _ (a : AbstractState) (it : Serving) (before : Memory) (s : KernelState) 
   pub working_page : {count : ℕ} → IsWorking count a it before → has_request s n ≡ true
   working_page h = busy_page h.is_busy h.no_sync
 
-  reads_at : (count : ℕ) (at : ServerStep) → StandsAtStep at count a it before → reads_request at ≡ true → has_request s n ≡ true
-  reads_at count step.Releasing h is = absurd (let contradiction : false ≡ true = is in cc)
-  reads_at count step.Receiving h is = absurd (let contradiction : false ≡ true = is in cc)
-  reads_at count step.ReadingKind h is = absurd (let contradiction : false ≡ true = is in cc)
-  reads_at count step.ReadingClient h is = absurd (let contradiction : false ≡ true = is in cc)
-  reads_at count step.ReadingFile h is = of_file_page h
-  reads_at count step.ReadingOffset h is = absurd (let contradiction : false ≡ true = is in cc)
-  reads_at count step.ReadingCount h is = of_file_page h.0
-  reads_at count step.ReadingRecord h is = absurd (let contradiction : false ≡ true = is in cc)
-  reads_at count step.LookingRecord h is = absurd (let contradiction : false ≡ true = is in cc)
-  reads_at count step.LookingEntry h is = absurd (let contradiction : false ≡ true = is in cc)
-  reads_at count step.LookingHolders h is = absurd (let contradiction : false ≡ true = is in cc)
-  reads_at count step.TakingPage h is = absurd (let contradiction : false ≡ true = is in cc)
-  reads_at count step.ReadingMode h is = busy_page h.2.is_busy (λ e. cc)
-  reads_at count step.Working h is = absurd (let contradiction : false ≡ true = is in cc)
-  reads_at count step.Finding h is = absurd (let contradiction : false ≡ true = is in cc)
-  reads_at count step.StoringRecord h is = absurd (let contradiction : false ≡ true = is in cc)
-  reads_at count step.StoringDevice h is = absurd (let contradiction : false ≡ true = is in cc)
-  reads_at count step.ReadingModeAgain h is = busy_page h.opened.opening.is_busy (λ e. cc)
-  reads_at count step.StoringMode h is = absurd (let contradiction : false ≡ true = is in cc)
-  reads_at count step.StoringFile h is = absurd (let contradiction : false ≡ true = is in cc)
-  reads_at count step.Advancing h is = absurd (let contradiction : false ≡ true = is in cc)
-  reads_at count step.StoringOffset h is = absurd (let contradiction : false ≡ true = is in cc)
-  reads_at count step.CheckingRecord h is = absurd (let contradiction : false ≡ true = is in cc)
-  reads_at count step.CheckingEntry h is = absurd (let contradiction : false ≡ true = is in cc)
-  reads_at count step.CheckingHolders h is = absurd (let contradiction : false ≡ true = is in cc)
-  reads_at count step.Flushing h is = absurd (let contradiction : false ≡ true = is in cc)
-  reads_at count step.Acting h is = absurd (let contradiction : false ≡ true = is in cc)
-  reads_at count step.Replying h is = absurd (let contradiction : false ≡ true = is in cc)
-  reads_at count step.Pausing h is = absurd (let contradiction : false ≡ true = is in cc)
+  reads_step : (count : ℕ) (at : ServerStep) → StandsAtStep at count a it before → reads_request at ≡ true → has_request s n ≡ true
+  reads_step count step.Releasing h is = absurd (let contradiction : false ≡ true = is in cc)
+  reads_step count step.Receiving h is = absurd (let contradiction : false ≡ true = is in cc)
+  reads_step count step.ReadingKind h is = absurd (let contradiction : false ≡ true = is in cc)
+  reads_step count step.ReadingClient h is = absurd (let contradiction : false ≡ true = is in cc)
+  reads_step count step.ReadingFile h is = of_file_page h
+  reads_step count step.ReadingOffset h is = of_file_page h.0
+  reads_step count step.ReadingCount h is = of_file_page h.0
+  reads_step count step.ReadingRecord h is = absurd (let contradiction : false ≡ true = is in cc)
+  reads_step count step.LookingRecord h is = absurd (let contradiction : false ≡ true = is in cc)
+  reads_step count step.LookingEntry h is = absurd (let contradiction : false ≡ true = is in cc)
+  reads_step count step.LookingHolders h is = absurd (let contradiction : false ≡ true = is in cc)
+  reads_step count step.TakingPage h is = absurd (let contradiction : false ≡ true = is in cc)
+  reads_step count step.ReadingMode h is = busy_page h.2.is_busy (λ e. cc)
+  reads_step count step.Working h is = absurd (let contradiction : false ≡ true = is in cc)
+  reads_step count step.Finding h is = absurd (let contradiction : false ≡ true = is in cc)
+  reads_step count step.StoringRecord h is = absurd (let contradiction : false ≡ true = is in cc)
+  reads_step count step.StoringDevice h is = absurd (let contradiction : false ≡ true = is in cc)
+  reads_step count step.ReadingModeAgain h is = busy_page h.opened.opening.is_busy (λ e. cc)
+  reads_step count step.StoringMode h is = absurd (let contradiction : false ≡ true = is in cc)
+  reads_step count step.StoringFile h is = absurd (let contradiction : false ≡ true = is in cc)
+  reads_step count step.ReadingRecordAgain h is = absurd (let contradiction : false ≡ true = is in cc)
+  reads_step count step.Sizing h is = absurd (let contradiction : false ≡ true = is in cc)
+  reads_step count step.StoringSize h is = absurd (let contradiction : false ≡ true = is in cc)
+  reads_step count step.Advancing h is = absurd (let contradiction : false ≡ true = is in cc)
+  reads_step count step.StoringOffset h is = absurd (let contradiction : false ≡ true = is in cc)
+  reads_step count step.CheckingRecord h is = absurd (let contradiction : false ≡ true = is in cc)
+  reads_step count step.CheckingEntry h is = absurd (let contradiction : false ≡ true = is in cc)
+  reads_step count step.CheckingHolders h is = absurd (let contradiction : false ≡ true = is in cc)
+  reads_step count step.Flushing h is = absurd (let contradiction : false ≡ true = is in cc)
+  reads_step count step.Acting h is = absurd (let contradiction : false ≡ true = is in cc)
+  reads_step count step.Replying h is = absurd (let contradiction : false ≡ true = is in cc)
+  reads_step count step.Pausing h is = absurd (let contradiction : false ≡ true = is in cc)
 
 pub finding_page : (count : ℕ) (a : AbstractState) (it : Serving) (before : Memory) (s : KernelState) (n : ℕ) → HasRequested a.server s n →
     IsFound count a it before → has_request s n ≡ true
@@ -171,6 +179,11 @@ finding_page count a it before s n requested (opened path mode home {m} so runni
     busy_page a (over it m) before s n requested so.opening.is_busy (λ e. cc)
 finding_page count a it before s n requested (removed so) = busy_page a it before s n requested so.is_busy (λ e. cc)
 
+pub sizing_page : (count : ℕ) (a : AbstractState) (it : Serving) (before : Memory) (s : KernelState) (n : ℕ) → HasRequested a.server s n →
+    IsSizing count a it before → has_request s n ≡ true
+sizing_page count a it before s n requested h =
+    busy_page a (over it h.left_as) before s n requested h.so_far.opened.opening.is_busy (λ e. cc)
+
 pub reads_page : (count : ℕ) (a : AbstractState) (it : Serving) (s : KernelState) (n : ℕ) → HasRequested a.server s n → StandsServing count a it →
     reads_request it.state.step ≡ true → has_request s n ≡ true
-reads_page count a it s n requested h = reads_at a it h.before s n requested count it.state.step h.at
+reads_page count a it s n requested h = reads_step a it h.before s n requested count it.state.step h.at

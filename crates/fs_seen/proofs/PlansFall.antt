@@ -12,9 +12,10 @@ use Rattle.fs_requests.specs.declared.state.ServerState.{ServerState}
 use Rattle.fs_requests.specs.declared.state.ServerStep.{ServerStep}
 use Rattle.fs_requests.specs.declared.state.ServerStep.TheVariants as step
 use Rattle.fs_requests.specs.ServerPlans.{acted, acting, begun, count_by, found_by, further, hidden, is_count, is_held, is_last, next_check, next_for}
-use Rattle.fs_requests.specs.ServerPlans.{next_holders, opens, request_by, shown, worked_by}
+use Rattle.fs_requests.specs.ServerPlans.{next_holders, next_sized, opens, request_by, shown, worked_by}
 use Rattle.fs_serving.specs.ServerRuns.{is_serving}
 use Rattle.fs_seen.specs.ServerSoon.{left_over}
+use Rattle.fs_seen.proofs.KindsFit.{KindFits}
 
 module _ (long work flush later after : ℕ) (few : later < long) (little : after < long) where
   -- behind it less is left than so much
@@ -25,21 +26,34 @@ module _ (long work flush later after : ℕ) (few : later < long) (little : afte
   by_test most true x y first second = first refl
   by_test most false x y first second = second refl
 
-  -- what a job that begins has left
-  working_below : (b : Bool) (most : ℕ) → 2 * long + 19 < most → (if b then long + 20 + later else 10 + later) < most
+  -- what a job has left
+  abbrev working : Bool → ℕ → ℕ
+  working b x = if b then 2 * long + 40 + x else 10 + x
+
+  abbrev finding : Bool → ℕ → ℕ
+  finding b x = if b then long + 20 + x else 2 * long + 5000 + x
+
+  -- where one begins, of a file that is open, of one that is removed, or whatever it is of
+  file_below : (k : Option RequestKind) → opens k ≡ false → working (opens k) later < 2 * long + 40
+  file_below k is = subst (λ (b : Bool). working b later < 2 * long + 40) (sym is) (omega (arith, few))
+
+  removing_below : (k : Option RequestKind) (rest : ℕ) → k ≡ Some kind.Remove → working (opens k) later < 2 * long + 20 + rest
+  removing_below k rest is = subst (λ (k : Option RequestKind). working (opens k) later < 2 * long + 20 + rest) (sym is) (omega (arith, few))
+
+  working_below : (b : Bool) (most : ℕ) → 3 * long + 39 < most → working b later < most
   working_below true most lt = omega (arith, lt, few)
   working_below false most lt = omega (arith, lt, few)
 
-  finding_below : (b : Bool) (most : ℕ) → 3 * long + 4999 < most → (if b then 10 + later else 2 * long + 5000 + later) < most
+  finding_below : (b : Bool) (most : ℕ) → 3 * long + 4999 < most → finding b later < most
   finding_below true most lt = omega (arith, lt, few)
   finding_below false most lt = omega (arith, lt, few)
 
   -- and one that ends
-  working_above : (b : Bool) (k : ℕ) → k < 10 → k < (if b then long + 20 + work else 10 + work)
+  working_above : (b : Bool) (k : ℕ) → k < 10 → k < working b work
   working_above true k lt = omega (arith, lt)
   working_above false k lt = omega (arith, lt)
 
-  finding_above : (b : Bool) (k : ℕ) → k < 10 → k < (if b then 10 + work else 2 * long + 5000 + work)
+  finding_above : (b : Bool) (k : ℕ) → k < long + 20 → k < finding b work
   finding_above true k lt = omega (arith, lt)
   finding_above false k lt = omega (arith, lt)
 
@@ -54,6 +68,7 @@ module _ (long work flush later after : ℕ) (few : later < long) (little : afte
     at_request (Some kind.Remove) = finding_below (opens st.kind) (3 * long + 10000) (omega arith)
     at_request (Some kind.Sync) = omega (arith, little)
     at_request (Some kind.Seek) = omega arith
+    at_request (Some kind.ReadAt) = omega arith
 
     at_count : (k : Option RequestKind) (word : ℕ) → Below (2 * long + 41) (count_by k st word)
     at_count None word = omega arith
@@ -65,18 +80,18 @@ module _ (long work flush later after : ℕ) (few : later < long) (little : afte
     at_count (Some kind.Remove) word = omega arith
     at_count (Some kind.Sync) word = omega arith
     at_count (Some kind.Seek) word = omega arith
+    at_count (Some kind.ReadAt) word = omega arith
 
     abbrev worked_most : ℕ
-    worked_most = if opens st.kind then long + 20 + work else 10 + work
+    worked_most = working (opens st.kind) work
 
     moved_on : (answer : ℕ) → Below worked_most (if is_count answer then hidden (record st { count = answer }) step.Advancing else acting st answer)
     moved_on answer =
         by_test worked_most (is_count answer) (hidden (record st { count = answer }) step.Advancing) (acting st answer)
         (λ is. working_above (opens st.kind) 2 (omega arith)) (λ is. working_above (opens st.kind) 1 (omega arith))
 
-    found_less : (k : Option RequestKind) → opens k ≡ true → (if opens k then 10 + later else 2 * long + 5000 + later) < (if opens k then long + 20 + work else 10 + work)
-    found_less k is =
-        subst (λ (b : Bool). (if b then 10 + later else 2 * long + 5000 + later) < (if b then long + 20 + work else 10 + work)) (sym is) (omega (arith, few))
+    found_less : (k : Option RequestKind) → opens k ≡ true → finding (opens k) later < working (opens k) work
+    found_less k is = subst (λ (b : Bool). finding b later < working b work) (sym is) (omega (arith, few))
 
     at_worked : (k : Option RequestKind) → st.kind ≡ k → (answer : ℕ) → Below worked_most (worked_by k st answer)
     at_worked None is answer = working_above (opens st.kind) 1 (omega arith)
@@ -91,23 +106,22 @@ module _ (long work flush later after : ℕ) (few : later < long) (little : afte
     at_worked (Some kind.Remove) is answer = working_above (opens st.kind) 1 (omega arith)
     at_worked (Some kind.Sync) is answer = working_above (opens st.kind) 1 (omega arith)
     at_worked (Some kind.Seek) is answer = working_above (opens st.kind) 1 (omega arith)
+    at_worked (Some kind.ReadAt) is answer = working_above (opens st.kind) 1 (omega arith)
 
     abbrev found_most : ℕ
-    found_most = if opens st.kind then 10 + work else 2 * long + 5000 + work
+    found_most = finding (opens st.kind) work
 
     ended : (answer : ℕ) → Below found_most (acting st answer)
     ended answer = finding_above (opens st.kind) 1 (omega arith)
 
-    checks_less : (k : Option RequestKind) → opens k ≡ false →
-        2 * long + 22 + 3 * (MAXOPEN - st.number) < (if opens k then 10 + work else 2 * long + 5000 + work)
-    checks_less k is =
-        subst (λ (b : Bool). 2 * long + 22 + 3 * (MAXOPEN - st.number) < (if b then 10 + work else 2 * long + 5000 + work)) (sym is) (omega arith)
+    checks_less : (k : Option RequestKind) → opens k ≡ false → 2 * long + 22 + 3 * (MAXOPEN - st.number) < finding (opens k) work
+    checks_less k is = subst (λ (b : Bool). 2 * long + 22 + 3 * (MAXOPEN - st.number) < finding b work) (sym is) (omega arith)
 
     at_found : (k : Option RequestKind) → st.kind ≡ k → (answer : ℕ) → Below found_most (found_by k st answer)
     at_found None is answer = ended answer
     at_found (Some kind.Open) is answer =
         by_test found_most (is_count answer) (hidden (record st { home = answer }) step.StoringRecord) (acting st answer)
-        (λ some. finding_above (opens st.kind) 6 (omega arith)) (λ none. ended answer)
+        (λ some. finding_above (opens st.kind) (long + 10) (omega arith)) (λ none. ended answer)
     at_found (Some kind.SetSize) is answer = ended answer
     at_found (Some kind.Read) is answer = ended answer
     at_found (Some kind.Write) is answer = ended answer
@@ -117,73 +131,77 @@ module _ (long work flush later after : ℕ) (few : later < long) (little : afte
         (λ some. checks_less st.kind (subst (λ (k : Option RequestKind). opens k ≡ false) (sym is) refl)) (λ none. ended answer)
     at_found (Some kind.Sync) is answer = ended answer
     at_found (Some kind.Seek) is answer = ended answer
+    at_found (Some kind.ReadAt) is answer = ended answer
 
-    at_check : (k : ℕ) → Below (2 * long + 20 + 3 * (MAXOPEN - st.number) + k) (next_check st)
-    at_check k =
-        by_test (2 * long + 20 + 3 * (MAXOPEN - st.number) + k) (is_last st) (begun st step.Working (job.Remove st.home))
+    at_sized : (size : ℕ) → Below (4 + work) (next_sized st size)
+    at_sized size =
+        by_test (4 + work) (is_count size) (hidden (record st { count = size }) step.StoringSize) (acting st size) (λ is. omega arith)
+        (λ is. omega arith)
+
+    at_check : st.kind ≡ Some kind.Remove → Below (2 * long + 20 + 3 * (MAXOPEN - st.number)) (next_check st)
+    at_check removes =
+        by_test (2 * long + 20 + 3 * (MAXOPEN - st.number)) (is_last st) (begun st step.Working (job.Remove st.home))
         (hidden (further st) step.CheckingRecord)
-        (λ last. working_below (opens st.kind) (2 * long + 20 + 3 * (MAXOPEN - st.number) + k) (omega arith))
-        (λ more. further_below (is_last st) more)
+        (λ last. removing_below st.kind (3 * (MAXOPEN - st.number)) removes) (λ more. further_below more)
       where
-        further_below : (t : Bool) → is_last st ≡ false → 2 * long + 22 + 3 * (MAXOPEN - (st.number % MAXOPEN + 1)) < 2 * long + 20 + 3 * (MAXOPEN - st.number) + k
-        further_below t more = let less : st.number % MAXOPEN + 1 < MAXOPEN = grind (arith, nat_tests, more) in omega (arith, less, below)
+        further_below : is_last st ≡ false → 2 * long + 22 + 3 * (MAXOPEN - (st.number % MAXOPEN + 1)) < 2 * long + 20 + 3 * (MAXOPEN - st.number)
+        further_below more = let less : st.number % MAXOPEN + 1 < MAXOPEN = grind (arith, nat_tests, more) in omega (arith, less, below)
 
-    at_holders : (holders : ℕ) → Below (2 * long + 60 + 3 * (MAXOPEN - st.number)) (next_holders st holders)
+    at_holders : (holders : ℕ) → Below (3 * long + 60 + 3 * (MAXOPEN - st.number)) (next_holders st holders)
     at_holders holders =
-        let most = 2 * long + 60 + 3 * (MAXOPEN - st.number) in
+        let most = 3 * long + 60 + 3 * (MAXOPEN - st.number) in
         by_test most (not (is_held holders)) (shown st step.ReadingMode)
         (if is_last st then acted st (negated E_MAX_OPEN) else shown (further st) step.LookingRecord)
         (λ is. omega arith)
         (λ is. by_test most (is_last st) (acted st (negated E_MAX_OPEN)) (shown (further st) step.LookingRecord)
         (λ last. omega arith) (λ more. further_below more))
       where
-        further_below : is_last st ≡ false → 2 * long + 62 + 3 * (MAXOPEN - (st.number % MAXOPEN + 1)) < 2 * long + 60 + 3 * (MAXOPEN - st.number)
+        further_below : is_last st ≡ false → 3 * long + 62 + 3 * (MAXOPEN - (st.number % MAXOPEN + 1)) < 3 * long + 60 + 3 * (MAXOPEN - st.number)
         further_below more = let less : st.number % MAXOPEN + 1 < MAXOPEN = grind (arith, nat_tests, more) in omega (arith, less, below)
 
   -- from each step up to the act
-  pub plans_fall : (st : ServerState) (at : ServerStep) (word : ℕ) → st.number < MAXOPEN → is_serving at ≡ true →
+  pub plans_fall : (st : ServerState) (at : ServerStep) (word : ℕ) → st.number < MAXOPEN → is_serving at ≡ true → KindFits at st.kind →
       Below (left_over long at st.kind st.number work flush) (next_for st at word)
-  plans_fall st step.Releasing word below on = absurd (let contradiction : false ≡ true = on in cc)
-  plans_fall st step.Receiving word below on = absurd (let contradiction : false ≡ true = on in cc)
-  plans_fall st step.ReadingKind word below on = omega arith
-  plans_fall st step.ReadingClient word below on = at_request (record st { client = word }) below st.kind
-  plans_fall st step.ReadingFile word below on = omega arith
-  plans_fall st step.ReadingOffset word below on = omega arith
-  plans_fall st step.ReadingCount word below on = at_count st below st.kind word
-  plans_fall st step.ReadingRecord word below on = working_below (opens st.kind) (2 * long + 40) (omega arith)
-  plans_fall st step.LookingRecord word below on =
-      by_test (2 * long + 62 + 3 * (MAXOPEN - st.number)) (word == 0) (shown st step.TakingPage) (hidden st step.LookingEntry) (λ is. omega arith)
+  plans_fall st step.Releasing word below on kind_is = absurd (let contradiction : false ≡ true = on in cc)
+  plans_fall st step.Receiving word below on kind_is = absurd (let contradiction : false ≡ true = on in cc)
+  plans_fall st step.ReadingKind word below on kind_is = omega arith
+  plans_fall st step.ReadingClient word below on kind_is = at_request (record st { client = word }) below st.kind
+  plans_fall st step.ReadingFile word below on kind_is = omega arith
+  plans_fall st step.ReadingOffset word below on kind_is = omega arith
+  plans_fall st step.ReadingCount word below on kind_is = at_count st below st.kind word
+  plans_fall st step.ReadingRecord word below on kind_is = file_below st.kind kind_is
+  plans_fall st step.LookingRecord word below on kind_is =
+      by_test (3 * long + 62 + 3 * (MAXOPEN - st.number)) (word == 0) (shown st step.TakingPage) (hidden st step.LookingEntry) (λ is. omega arith)
       (λ is. omega arith)
-  plans_fall st step.LookingEntry word below on = omega arith
-  plans_fall st step.LookingHolders word below on = at_holders st below word
-  plans_fall st step.TakingPage word below on =
-      by_test (2 * long + 51) (word == 0) (hidden st step.ReadingMode) (acting st word) (λ is. omega arith) (λ is. omega arith)
-  plans_fall st step.ReadingMode word below on = working_below (opens st.kind) (2 * long + 50) (omega arith)
-  plans_fall st step.Working word below on = at_worked st below st.kind refl word
-  plans_fall st step.Finding word below on = at_found st below st.kind refl word
-  plans_fall st step.StoringRecord word below on = omega arith
-  plans_fall st step.StoringDevice word below on = omega arith
-  plans_fall st step.ReadingModeAgain word below on = omega arith
-  plans_fall st step.StoringMode word below on = omega arith
-  plans_fall st step.StoringFile word below on = omega arith
-  plans_fall st step.Advancing word below on = omega arith
-  plans_fall st step.StoringOffset word below on = omega arith
-  plans_fall st step.CheckingRecord word below on =
+  plans_fall st step.LookingEntry word below on kind_is = omega arith
+  plans_fall st step.LookingHolders word below on kind_is = at_holders st below word
+  plans_fall st step.TakingPage word below on kind_is =
+      by_test (3 * long + 51) (word == 0) (hidden st step.ReadingMode) (acting st word) (λ is. omega arith) (λ is. omega arith)
+  plans_fall st step.ReadingMode word below on kind_is = working_below (opens st.kind) (3 * long + 50) (omega arith)
+  plans_fall st step.Working word below on kind_is = at_worked st below st.kind refl word
+  plans_fall st step.Finding word below on kind_is = at_found st below st.kind refl word
+  plans_fall st step.StoringRecord word below on kind_is = omega arith
+  plans_fall st step.StoringDevice word below on kind_is = omega arith
+  plans_fall st step.ReadingModeAgain word below on kind_is = omega arith
+  plans_fall st step.StoringMode word below on kind_is = omega arith
+  plans_fall st step.StoringFile word below on kind_is = omega arith
+  plans_fall st step.ReadingRecordAgain word below on kind_is = omega (arith, few)
+  plans_fall st step.Sizing word below on kind_is = at_sized st below word
+  plans_fall st step.StoringSize word below on kind_is = omega arith
+  plans_fall st step.Advancing word below on kind_is = omega arith
+  plans_fall st step.StoringOffset word below on kind_is = omega arith
+  plans_fall st step.CheckingRecord word below on kind_is =
       by_test (2 * long + 22 + 3 * (MAXOPEN - st.number)) (word == st.home) (hidden st step.CheckingEntry) (next_check st) (λ is. omega arith)
       (λ is. up (left_over long (next_check st).state.step (next_check st).state.kind (next_check st).state.number later after) (2 * long)
-      (3 * (MAXOPEN - st.number)) (at_check st below 0))
+      (3 * (MAXOPEN - st.number)) (at_check st below kind_is))
     where
-      up : (x l r : ℕ) → x < l + 20 + r + 0 → x < l + 22 + r
+      up : (x l r : ℕ) → x < l + 20 + r → x < l + 22 + r
       up x l r lt = omega (arith, lt)
-  plans_fall st step.CheckingEntry word below on = omega arith
-  plans_fall st step.CheckingHolders word below on =
+  plans_fall st step.CheckingEntry word below on kind_is = omega arith
+  plans_fall st step.CheckingHolders word below on kind_is =
       by_test (2 * long + 20 + 3 * (MAXOPEN - st.number)) (is_held word) (acted st (negated E_INVAL)) (next_check st) (λ is. omega arith)
-      (λ is. up (left_over long (next_check st).state.step (next_check st).state.kind (next_check st).state.number later after) (2 * long)
-      (3 * (MAXOPEN - st.number)) (at_check st below 0))
-    where
-      up : (x l r : ℕ) → x < l + 20 + r + 0 → x < l + 20 + r
-      up x l r lt = omega (arith, lt)
-  plans_fall st step.Flushing word below on = omega arith
-  plans_fall st step.Acting word below on = omega arith
-  plans_fall st step.Replying word below on = absurd (let contradiction : false ≡ true = on in cc)
-  plans_fall st step.Pausing word below on = absurd (let contradiction : false ≡ true = on in cc)
+      (λ is. at_check st below kind_is)
+  plans_fall st step.Flushing word below on kind_is = omega arith
+  plans_fall st step.Acting word below on kind_is = omega arith
+  plans_fall st step.Replying word below on kind_is = absurd (let contradiction : false ≡ true = on in cc)
+  plans_fall st step.Pausing word below on kind_is = absurd (let contradiction : false ≡ true = on in cc)

@@ -43,6 +43,7 @@ module _ (count : ℕ) (a : AbstractState) (it : Serving) (before : Memory) (fre
     device = h.device;
     offset = h.offset;
     mode = h.mode;
+    size = h.size;
     number_is = h.number_is;
     small = h.small;
   }

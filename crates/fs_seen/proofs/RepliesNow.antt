@@ -66,6 +66,7 @@ no_page state none = by_kind state.kind none
     by_kind (Some kind.Remove) other = refl
     by_kind (Some kind.Sync) other = refl
     by_kind (Some kind.Seek) other = refl
+    by_kind (Some kind.ReadAt) other = refl
 
 -- ---- from one of the two steps to the other
 

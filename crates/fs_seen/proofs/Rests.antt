@@ -49,22 +49,26 @@ module _ (s : KernelState) (n : ℕ) where
   pub rests_at : (at : ServerStep) → is_fetching (cache_state s n).place ≡ false → CacheRests at s n
   rests_at step.Working rests = access_rests (tree.ask_at (job_in s n)) (cache_state s n).place rests
   rests_at step.Finding rests = access_rests (tree.ask_at (job_in s n)) (cache_state s n).place rests
+  rests_at step.Sizing rests = access_rests (tree.ask_at (job_in s n)) (cache_state s n).place rests
   rests_at _ rests = rests
 
   pub rests_there : (at : ServerStep) → is_working at ≡ false → CacheRests at s n → is_fetching (cache_state s n).place ≡ false
   rests_there step.Working off rests = absurd (false≢true (sym off))
   rests_there step.Finding off rests = absurd (false≢true (sym off))
+  rests_there step.Sizing off rests = absurd (false≢true (sym off))
   rests_there _ off rests = rests
 
   -- while a job is under way
   pub job_rests : (at : ServerStep) → is_working at ≡ true → AccessRests (tree.ask_at (job_in s n)) (cache_state s n).place → CacheRests at s n
   job_rests step.Working on rests = rests
   job_rests step.Finding on rests = rests
+  job_rests step.Sizing on rests = rests
   job_rests _ on rests = absurd (false≢true on)
 
   pub rests_of_job : (at : ServerStep) → is_working at ≡ true → CacheRests at s n → AccessRests (tree.ask_at (job_in s n)) (cache_state s n).place
   rests_of_job step.Working on rests = rests
   rests_of_job step.Finding on rests = rests
+  rests_of_job step.Sizing on rests = rests
   rests_of_job _ on rests = absurd (false≢true on)
 
 -- Where the server, its job and its cache stand where they stood.
@@ -78,6 +82,9 @@ rests_same s after n step_is job_is cache_is rests =
         subst (λ (c : CacheState). AccessRests (tree.ask_at (job_in after n)) c.place) (sym cache_is)
         (subst (λ (j : TreeState). AccessRests (tree.ask_at j) (cache_state s n).place) (sym job_is) rests)
     by_step step.Finding rests =
+        subst (λ (c : CacheState). AccessRests (tree.ask_at (job_in after n)) c.place) (sym cache_is)
+        (subst (λ (j : TreeState). AccessRests (tree.ask_at j) (cache_state s n).place) (sym job_is) rests)
+    by_step step.Sizing rests =
         subst (λ (c : CacheState). AccessRests (tree.ask_at (job_in after n)) c.place) (sym cache_is)
         (subst (λ (j : TreeState). AccessRests (tree.ask_at j) (cache_state s n).place) (sym job_is) rests)
     by_step _ rests = ap (λ (c : CacheState). is_fetching c.place) cache_is ∙ rests

@@ -1,15 +1,18 @@
 -- A server that sees the same, but for how often frames are mapped that are no place's, stands for what it stood for.
-use Rattle.std.proofs.Common.{◌≡◌, ◌∙◌, ℕ, true, List, Option, Some, None, sym, ap, subst}
+use Rattle.std.proofs.Common.{◌≡◌, ◌∙◌, ℕ, true, List, Option, Some, None, refl, sym, ap, subst}
 use Rattle.std.specs.Prelude.{is_some, nat_le}
 use Rattle.fs_runs.specs.TreeRuns.{Memory}
+use Rattle.jos_base.specs.Words.{word_at}
+use Rattle.lib_os.specs.declared.numbers.TheConstants.{FD_OFFSET, REQUEST_PLACE}
 use Rattle.lib_os.specs.declared.request.RequestKind.{RequestKind}
+use Rattle.lib_os.specs.declared.request.RequestKind.TheVariants as kind
 use Rattle.lib_os.specs.AbstractState.{AbstractState, Request}
 use Rattle.fs_requests.specs.declared.state.ServerStep.{ServerStep}
 use Rattle.fs_requests.specs.declared.state.ServerStep.TheVariants as step
-use Rattle.fs_serving.specs.ServerRuns.{HasCome, HasFile, HasMoved, HasObject, HasPage, IsBusy, IsChecking, IsDone, IsFinding, IsFound, IsLooking}
-use Rattle.fs_serving.specs.ServerRuns.{IsOpened, IsOpening, IsReplying, IsStoring, IsTold, IsWorking, OfFile, PlaceStands, StandsAtStep}
-use Rattle.fs_serving.specs.ServerRuns.{StandsServing, TableStands, moved, opened, over, removed, sought}
-use Rattle.fs_serving.specs.ServerViews.{Serving, View}
+use Rattle.fs_serving.specs.ServerRuns.{HasCome, HasFile, HasMoved, HasObject, HasOffset, HasPage, IsBusy, IsChecking, IsDone, IsFinding, IsFound}
+use Rattle.fs_serving.specs.ServerRuns.{IsLooking, IsOpened, IsOpening, IsReplying, IsSizing, IsStoring, IsTold, IsWorking, OfFile, PlaceStands}
+use Rattle.fs_serving.specs.ServerRuns.{StandsAtStep, StandsServing, TableStands, moved, opened, over, removed, sought}
+use Rattle.fs_serving.specs.ServerViews.{Serving, View, place_told, word_of}
 use Rattle.fs_seen.specs.BlockSteps.{SeesAlike}
 
 -- frames of places are mapped as often
@@ -27,6 +30,12 @@ counting v holders = record {
   sender = v.sender;
 }
 
+-- the place of the next byte is told by the request, or by the page of a place
+pub place_told_same : (asked : Option RequestKind) (v w : View) (number : ℕ) → w.memory ≡ v.memory → w.pages ≡ v.pages →
+    place_told asked w number ≡ place_told asked v number
+place_told_same (Some kind.ReadAt) v w number memory pages = ap (λ (m : Memory). word_at m.page REQUEST_PLACE) memory
+place_told_same _ v w number memory pages = ap (λ (p : ℕ → Option (ℕ → ℕ)). word_of (p number) FD_OFFSET) pages
+
 -- ---- the table
 
 module _ (disk : ℕ → ℕ) (a : AbstractState) (v : View) (holders : ℕ → ℕ) (same : CountsAlike v holders) where
@@ -40,6 +49,7 @@ module _ (disk : ℕ → ℕ) (a : AbstractState) (v : View) (holders : ℕ → 
     device = h.device;
     offset = h.offset;
     mode = h.mode;
+    size = h.size;
     number_is = h.number_is;
     small = h.small;
   }
@@ -97,7 +107,7 @@ module _ (a : AbstractState) (it : Serving) (before : Memory) (holders : ℕ →
   page_now : HasPage it → HasPage now
   page_now h = (h.0, ap (nat_le 2) (same it.state.number h.0) ∙ h.1)
 
-  opened_now : {path : List ℕ} {mode place : ℕ} → IsOpened a it before path mode place → IsOpened a now before path mode place
+  unfoldable opened_now : {path : List ℕ} {mode place : ℕ} → IsOpened a it before path mode place → IsOpened a now before path mode place
   opened_now h = record {
     opening = opening_now h.opening;
     has_page = page_now h.has_page;
@@ -108,16 +118,21 @@ module _ (a : AbstractState) (it : Serving) (before : Memory) (holders : ℕ →
     named = h.named;
   }
 
-  told_now : {told : ℕ} → IsTold a it before told → IsTold a now before told
+  unfoldable told_now : {told : ℕ} → IsTold a it before told → IsTold a now before told
+  unfolding opened_now
   told_now h = record {
     path = h.path;
     mode = h.mode;
-    opened = opened_now h.opened;
     home = h.home;
+    opened = opened_now h.opened;
+    kept = h.kept;
+    home_is = h.home_is;
     device = h.device;
     read = h.read;
     mode_is = h.mode_is;
     number_is = h.number_is;
+    sized = h.sized;
+    size = h.size;
     offset = h.offset;
   }
 
@@ -150,6 +165,9 @@ module _ (a : AbstractState) (it : Serving) (before : Memory) (holders : ℕ →
   storing_now (opened so) = opened (told_now so)
   storing_now (moved so is) = moved (moved_now so) is
   storing_now (sought name so number at count memory) = sought name (busy_now so) number at count memory
+
+  offset_now : HasOffset it → HasOffset now
+  offset_now is = is ∙ sym (place_told_same it.state.kind it.view now.view it.state.number refl refl)
 
   checking_now : IsChecking a it before → IsChecking a now before
   checking_now h = record {
@@ -205,6 +223,10 @@ module _ (blocks : ℕ) (a : AbstractState) (it : Serving) (before : Memory) (ho
       opened path mode place {m = m} (opened_now a (over it m) before holders same so) running
   found_now (removed so) = removed (finding_now so)
 
+  sizing_now : IsSizing blocks a it before → IsSizing blocks a (counted it holders) before
+  unfolding told_now opened_now
+  sizing_now h = record { left_as = h.left_as; so_far = told_now a (over it h.left_as) before holders same h.so_far; running = h.running }
+
   at_step_now : (at : ServerStep) → StandsAtStep at blocks a it before → StandsAtStep at blocks a (counted it holders) before
   at_step_now step.Releasing h = h
   at_step_now step.Receiving h = h
@@ -212,8 +234,9 @@ module _ (blocks : ℕ) (a : AbstractState) (it : Serving) (before : Memory) (ho
   at_step_now step.ReadingClient h = (h.0, h.1, come_now a it before holders same h.2)
   at_step_now step.ReadingFile h = of_file_now a it before holders same h
   at_step_now step.ReadingOffset h = (of_file_now a it before holders same h.0, h.1)
-  at_step_now step.ReadingCount h = (of_file_now a it before holders same h.0, h.1, h.2)
-  at_step_now step.ReadingRecord h = (of_file_now a it before holders same h.0, h.1, h.2, h.3, h.4)
+  at_step_now step.ReadingCount h = (of_file_now a it before holders same h.0, h.1, offset_now a it before holders same h.2)
+  at_step_now step.ReadingRecord h =
+      (of_file_now a it before holders same h.0, h.1, offset_now a it before holders same h.2, h.3, h.4)
   at_step_now step.LookingRecord h = looking_now a it before holders same h
   at_step_now step.LookingEntry h = (looking_now a it before holders same h.0, h.1)
   at_step_now step.LookingHolders h = (looking_now a it before holders same h.0, h.1, h.2)
@@ -227,6 +250,9 @@ module _ (blocks : ℕ) (a : AbstractState) (it : Serving) (before : Memory) (ho
   at_step_now step.ReadingModeAgain h = told_now a it before holders same h
   at_step_now step.StoringMode h = told_now a it before holders same h
   at_step_now step.StoringFile h = told_now a it before holders same h
+  at_step_now step.ReadingRecordAgain h = told_now a it before holders same h
+  at_step_now step.Sizing h = sizing_now h
+  at_step_now step.StoringSize h = told_now a it before holders same h
   at_step_now step.Advancing h = moved_now a it before holders same h
   at_step_now step.StoringOffset h = storing_now a it before holders same h
   at_step_now step.CheckingRecord h = checking_now a it before holders same h

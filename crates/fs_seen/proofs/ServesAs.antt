@@ -1,6 +1,6 @@
 -- A server that stands as another and sees the same serves as that does: while a job is under way the three words that are the job's tell nothing,
 -- and else the job tells nothing.
-use Rattle.std.proofs.Common.{◌≡◌, ℕ, Bool, true, false, List, Option, refl, sym, subst}
+use Rattle.std.proofs.Common.{◌≡◌, ℕ, Bool, true, false, List, Option, refl, sym, subst, arith}
 use Rattle.fs_runs.specs.TreeRuns.{Memory}
 use Rattle.fs_jobs.specs.declared.place.TreeState.{TreeState}
 use Rattle.lib_os.specs.declared.progress.Progress.{Progress}
@@ -10,8 +10,8 @@ use Rattle.lib_os.specs.AbstractState.{AbstractState, Request}
 use Rattle.fs_requests.specs.declared.state.ServerStep.{ServerStep}
 use Rattle.fs_requests.specs.declared.state.ServerStep.TheVariants as step
 use Rattle.fs_serving.specs.ServerRuns.{HasCome, HasMoved, IsBusy, IsChecking, IsDone, IsFound, IsLooking, IsOpened, IsOpening, IsReplying}
-use Rattle.fs_serving.specs.ServerRuns.{Follows, IsStoring, IsTold, IsWorking, OfFile, StandsAtStep, StandsServing, TableStands, moved, opened, over}
-use Rattle.fs_serving.specs.ServerRuns.{removed, sought}
+use Rattle.fs_serving.specs.ServerRuns.{Follows, IsSizing, IsStoring, IsTold, IsWorking, OfFile, StandsAtStep, StandsServing, TableStands, moved}
+use Rattle.fs_serving.specs.ServerRuns.{opened, over, removed, sought}
 use Rattle.fs_serving.specs.ServerViews.{Serving, View}
 use Rattle.fs_seen.specs.ServerSees.{ServesAlike, is_working}
 
@@ -43,7 +43,7 @@ module _ (a : AbstractState) (it : Serving) (before : Memory) (home at count : �
   opening_alt : {path : List ℕ} {mode : ℕ} → IsOpening a it before path mode → IsOpening a alt before path mode
   opening_alt h = record { is_busy = busy_alt h.is_busy; below = h.below; nobodys = h.nobodys; used = h.used }
 
-  opened_alt : {path : List ℕ} {mode place : ℕ} → IsOpened a it before path mode place → IsOpened a alt before path mode place
+  unfoldable opened_alt : {path : List ℕ} {mode place : ℕ} → IsOpened a it before path mode place → IsOpened a alt before path mode place
   opened_alt h = record {
     opening = opening_alt h.opening;
     has_page = h.has_page;
@@ -52,6 +52,25 @@ module _ (a : AbstractState) (it : Serving) (before : Memory) (home at count : �
     leads = h.leads;
     regular = h.regular;
     named = h.named;
+  }
+
+  -- while the size is asked for, none of these words tells anything
+  unfoldable five_alt : IsTold a it before 5 → IsTold a alt before 5
+  unfolding opened_alt
+  five_alt h = record {
+    path = h.path;
+    mode = h.mode;
+    home = h.home;
+    opened = opened_alt h.opened;
+    kept = λ far. absurd (omega (arith, far));
+    home_is = h.home_is;
+    device = h.device;
+    read = λ far. absurd (omega (arith, far));
+    mode_is = h.mode_is;
+    number_is = h.number_is;
+    sized = λ far. absurd (omega (arith, far));
+    size = λ far. absurd (omega (arith, far));
+    offset = λ far. absurd (omega (arith, far));
   }
 
 -- while a job is under way
@@ -82,6 +101,14 @@ module _ (blocks : ℕ) (a : AbstractState) (it : Serving) (before : Memory) (ho
     running = so.running;
   })
 
+  sizing_alt : IsSizing blocks a it before → IsSizing blocks a (altered it home at count it.job) before
+  unfolding five_alt opened_alt
+  sizing_alt h = record {
+    left_as = h.left_as;
+    so_far = five_alt a (over it h.left_as) before home at count it.job h.so_far;
+    running = h.running;
+  }
+
 -- while none is
 module _ (a : AbstractState) (it : Serving) (before : Memory) (job : TreeState) where
   abbrev other : Serving
@@ -111,15 +138,20 @@ module _ (a : AbstractState) (it : Serving) (before : Memory) (job : TreeState) 
   opening_as = opening_alt a it before it.state.home it.state.at it.state.count job
 
   told_as : {told : ℕ} → IsTold a it before told → IsTold a other before told
+  unfolding opened_alt
   told_as h = record {
     path = h.path;
     mode = h.mode;
-    opened = opened_alt a it before it.state.home it.state.at it.state.count job h.opened;
     home = h.home;
+    opened = opened_alt a it before it.state.home it.state.at it.state.count job h.opened;
+    kept = h.kept;
+    home_is = h.home_is;
     device = h.device;
     read = h.read;
     mode_is = h.mode_is;
     number_is = h.number_is;
+    sized = h.sized;
+    size = h.size;
     offset = h.offset;
   }
 
@@ -196,6 +228,9 @@ module _ (a : AbstractState) (it : Serving) (before : Memory) (job : TreeState) 
   at_step_as blocks step.ReadingModeAgain off h = told_as h
   at_step_as blocks step.StoringMode off h = told_as h
   at_step_as blocks step.StoringFile off h = told_as h
+  at_step_as blocks step.ReadingRecordAgain off h = told_as h
+  at_step_as blocks step.Sizing off h = absurd (let contradiction : true ≡ false = off in cc)
+  at_step_as blocks step.StoringSize off h = told_as h
   at_step_as blocks step.Advancing off h = moved_as h
   at_step_as blocks step.StoringOffset off h = storing_as h
   at_step_as blocks step.CheckingRecord off h = checking_as h
@@ -233,6 +268,7 @@ module _ (blocks : ℕ) (a : AbstractState) (it other : Serving) (same : ServesA
   working_at : (at : ServerStep) → is_working at ≡ true → StandsAtStep at blocks a it h.before → StandsAtStep at blocks a alike h.before
   working_at step.Working on so = working_alt blocks a it h.before other.state.home other.state.at other.state.count so
   working_at step.Finding on so = found_alt blocks a it h.before other.state.home other.state.at other.state.count so
+  working_at step.Sizing on so = sizing_alt blocks a it h.before other.state.home other.state.at other.state.count so
   working_at step.Releasing on so = absurd (let contradiction : false ≡ true = on in cc)
   working_at step.Receiving on so = absurd (let contradiction : false ≡ true = on in cc)
   working_at step.ReadingKind on so = absurd (let contradiction : false ≡ true = on in cc)
@@ -251,6 +287,8 @@ module _ (blocks : ℕ) (a : AbstractState) (it other : Serving) (same : ServesA
   working_at step.ReadingModeAgain on so = absurd (let contradiction : false ≡ true = on in cc)
   working_at step.StoringMode on so = absurd (let contradiction : false ≡ true = on in cc)
   working_at step.StoringFile on so = absurd (let contradiction : false ≡ true = on in cc)
+  working_at step.ReadingRecordAgain on so = absurd (let contradiction : false ≡ true = on in cc)
+  working_at step.StoringSize on so = absurd (let contradiction : false ≡ true = on in cc)
   working_at step.Advancing on so = absurd (let contradiction : false ≡ true = on in cc)
   working_at step.StoringOffset on so = absurd (let contradiction : false ≡ true = on in cc)
   working_at step.CheckingRecord on so = absurd (let contradiction : false ≡ true = on in cc)

@@ -42,6 +42,8 @@ module _ (count : ℕ) (a : AbstractState) (it : Serving) (next : ServerNext) (b
   called_so st step.ReadingModeAgain is goes = goes next behind calls
   called_so st step.StoringMode is goes = goes next behind calls
   called_so st step.StoringFile is goes = goes next behind calls
+  called_so st step.ReadingRecordAgain is goes = goes next behind calls
+  called_so st step.StoringSize is goes = goes next behind calls
   called_so st step.Advancing is goes = goes next behind calls
   called_so st step.StoringOffset is goes = goes next behind calls
   called_so st step.CheckingRecord is goes = goes next behind calls
@@ -54,6 +56,7 @@ module _ (count : ℕ) (a : AbstractState) (it : Serving) (next : ServerNext) (b
   called_so st step.Pausing is goes = goes next behind calls
   called_so st step.Working is goes = absurd (let contradiction : false ≡ true = is in cc)
   called_so st step.Finding is goes = absurd (let contradiction : false ≡ true = is in cc)
+  called_so st step.Sizing is goes = absurd (let contradiction : false ≡ true = is in cc)
   called_so st step.Flushing is goes = absurd (let contradiction : false ≡ true = is in cc)
 
 -- such a step is one from a request up to the reply
@@ -76,6 +79,9 @@ call_serves step.StoringDevice is = refl
 call_serves step.ReadingModeAgain is = refl
 call_serves step.StoringMode is = refl
 call_serves step.StoringFile is = refl
+call_serves step.ReadingRecordAgain is = refl
+call_serves step.Sizing is = refl
+call_serves step.StoringSize is = refl
 call_serves step.Advancing is = refl
 call_serves step.StoringOffset is = refl
 call_serves step.CheckingRecord is = refl
@@ -106,6 +112,8 @@ quiet_or_taking step.StoringDevice is = inl refl
 quiet_or_taking step.ReadingModeAgain is = inl refl
 quiet_or_taking step.StoringMode is = inl refl
 quiet_or_taking step.StoringFile is = inl refl
+quiet_or_taking step.ReadingRecordAgain is = inl refl
+quiet_or_taking step.StoringSize is = inl refl
 quiet_or_taking step.Advancing is = inl refl
 quiet_or_taking step.StoringOffset is = inl refl
 quiet_or_taking step.CheckingRecord is = inl refl
@@ -114,6 +122,7 @@ quiet_or_taking step.CheckingHolders is = inl refl
 quiet_or_taking step.Acting is = inl refl
 quiet_or_taking step.Working is = inl is
 quiet_or_taking step.Finding is = inl is
+quiet_or_taking step.Sizing is = inl is
 quiet_or_taking step.Flushing is = inl is
 quiet_or_taking step.Releasing is = inl is
 quiet_or_taking step.Receiving is = inl is
@@ -124,6 +133,7 @@ quiet_or_taking step.Pausing is = inl refl
 pub call_idle : (at : ServerStep) → makes_call at ≡ true → is_working at ≡ false
 call_idle step.Working is = absurd (let contradiction : false ≡ true = is in cc)
 call_idle step.Finding is = absurd (let contradiction : false ≡ true = is in cc)
+call_idle step.Sizing is = absurd (let contradiction : false ≡ true = is in cc)
 call_idle _ is = refl
 
 -- what is seen of the server is what the server by itself does

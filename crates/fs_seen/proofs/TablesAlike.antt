@@ -2,7 +2,7 @@
 use Rattle.std.proofs.Common.{◌≡◌, ◌∙◌, ◌<◌, ℕ, true, Option, Some, None, refl, sym, ap, subst}
 use Rattle.std.specs.Prelude.{is_some, nat_le}
 use Rattle.fs_layout.specs.DiskImage.{is_directory_at}
-use Rattle.lib_os.specs.declared.numbers.TheConstants.{FD_DEVICE, FD_FILE, FD_MODE, FD_OFFSET}
+use Rattle.lib_os.specs.declared.numbers.TheConstants.{FD_DEVICE, FD_FILE, FD_MODE, FD_OFFSET, FD_SIZE}
 use Rattle.lib_os.specs.AbstractState.{AbstractState, Object, TablePlace}
 use Rattle.lib_os.specs.Descriptors.{is_held}
 use Rattle.lib_os.specs.FileServer.{is_held_by}
@@ -46,6 +46,7 @@ module _ (disk : ℕ → ℕ) (a b : AbstractState) (v w : View) (same : SameObj
     device = word_again number FD_DEVICE ∙ h.device;
     offset = word_again number FD_OFFSET ∙ h.offset;
     mode = word_again number FD_MODE ∙ h.mode;
+    size = word_again number FD_SIZE ∙ h.size;
     number_is = word_again number FD_FILE ∙ h.number_is;
     small = h.small;
   }

@@ -7,7 +7,7 @@ use Rattle.jos_base.specs.KernelState.{KernelState}
 use Rattle.jos_base.specs.Reach.{Entry}
 use Rattle.jos_base.specs.SpacesState.{reference_count}
 use Rattle.fs_layout.specs.DiskImage.{is_directory_at}
-use Rattle.lib_os.specs.declared.numbers.TheConstants.{FD_DEVICE, FD_FILE, FD_MODE, FD_OFFSET, MAXOPEN}
+use Rattle.lib_os.specs.declared.numbers.TheConstants.{FD_DEVICE, FD_FILE, FD_MODE, FD_OFFSET, FD_SIZE, MAXOPEN}
 use Rattle.lib_os.specs.AbstractLaws.{IsNewName, IsNoFile, LeavesFiles}
 use Rattle.lib_os.specs.AbstractState.{AbstractState, Object, OpenFile, Server, TablePlace, acted, busy, file, idle, leaving, looking}
 use Rattle.lib_os.specs.Descriptors.{is_held}
@@ -66,6 +66,7 @@ module _ (disk : ℕ → ℕ) (a b : AbstractState) (v : View) (t : TableStands 
       device = word_left number FD_DEVICE ∙ h.device;
       offset = word_left number FD_OFFSET ∙ h.offset;
       mode = word_left number FD_MODE ∙ h.mode;
+      size = word_left number FD_SIZE ∙ h.size;
       number_is = word_left number FD_FILE ∙ h.number_is;
       small = h.small;
     }

@@ -40,6 +40,9 @@ step_back step.StoringDevice = refl
 step_back step.ReadingModeAgain = refl
 step_back step.StoringMode = refl
 step_back step.StoringFile = refl
+step_back step.ReadingRecordAgain = refl
+step_back step.Sizing = refl
+step_back step.StoringSize = refl
 step_back step.Advancing = refl
 step_back step.StoringOffset = refl
 step_back step.CheckingRecord = refl
@@ -72,6 +75,9 @@ step_small step.StoringDevice = omega arith
 step_small step.ReadingModeAgain = omega arith
 step_small step.StoringMode = omega arith
 step_small step.StoringFile = omega arith
+step_small step.ReadingRecordAgain = omega arith
+step_small step.Sizing = omega arith
+step_small step.StoringSize = omega arith
 step_small step.Advancing = omega arith
 step_small step.StoringOffset = omega arith
 step_small step.CheckingRecord = omega arith
@@ -92,6 +98,7 @@ kind_back (Some kind.Stat) = refl
 kind_back (Some kind.Remove) = refl
 kind_back (Some kind.Sync) = refl
 kind_back (Some kind.Seek) = refl
+kind_back (Some kind.ReadAt) = refl
 
 kind_small : (k : Option RequestKind) → kind_word k < 16
 kind_small None = omega arith
@@ -103,6 +110,7 @@ kind_small (Some kind.Stat) = omega arith
 kind_small (Some kind.Remove) = omega arith
 kind_small (Some kind.Sync) = omega arith
 kind_small (Some kind.Seek) = omega arith
+kind_small (Some kind.ReadAt) = omega arith
 
 -- ---- the words
 

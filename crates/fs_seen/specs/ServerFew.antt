@@ -63,6 +63,7 @@ pub record RunsInFew (most count : ℕ) (job : TreeState) (m : Memory) (calls : 
 abbrev pub JobInFew : ServerStep → Option RequestKind → ℕ → TreeState → Memory → (Option ℕ → ℕ) → Type 0
 JobInFew step.Working kind count job m calls = RunsInFew (job_calls_max step.Working kind count) count job m calls
 JobInFew step.Finding kind count job m calls = RunsInFew (job_calls_max step.Finding kind count) count job m calls
+JobInFew step.Sizing kind count job m calls = RunsInFew (job_calls_max step.Sizing kind count) count job m calls
 JobInFew _ kind count job m calls = Unit {0}
 
 -- over the cache: the calls for the block that is wanted, and those of the job behind that
@@ -74,6 +75,7 @@ work_calls calls s n =
 abbrev pub JobReady : ServerStep → KernelState → ℕ → Type 0
 JobReady step.Working s n = AccessReady (ask_at (job_in s n)) (cache_state s n).place
 JobReady step.Finding s n = AccessReady (ask_at (job_in s n)) (cache_state s n).place
+JobReady step.Sizing s n = AccessReady (ask_at (job_in s n)) (cache_state s n).place
 JobReady _ s n = Unit {0}
 
 -- ---- the number
@@ -81,8 +83,8 @@ JobReady _ s n = Unit {0}
 abbrev pub server_calls_max : ℕ → ℕ
 server_calls_max count = 2 ^ 13 * count + 65504
 
--- From a step on, where so many calls are left of a job, or of a flush. What is opened is looked up behind its job, and what is removed before it,
--- and behind that it may be looked for at each place of the table.
+-- From a step on, where so many calls are left of a job, or of a flush. What is opened is looked up behind its job, and then asked for its size; what
+-- is removed is looked up before its job, and behind that it may be looked for at each place of the table.
 abbrev pub calls_over : ℕ → ServerStep → Option RequestKind → ℕ → ℕ → ℕ → ℕ
 calls_over count step.ReadingKind kind number work flush = 2 ^ 13 * count + 65504
 calls_over count step.ReadingClient kind number work flush = 2 ^ 13 * count + 65503
@@ -93,18 +95,21 @@ calls_over count step.ReadingFile kind number work flush = 2 ^ 13 * count + 6501
 calls_over count step.ReadingOffset kind number work flush = 2 ^ 13 * count + 65018
 calls_over count step.ReadingCount kind number work flush = 2 ^ 13 * count + 65017
 calls_over count step.ReadingRecord kind number work flush = 2 ^ 13 * count + 65016
-calls_over count step.TakingPage kind number work flush = 2 ^ 13 * count + 65242
-calls_over count step.ReadingMode kind number work flush = 2 ^ 13 * count + 65241
-calls_over count step.Working kind number work flush = if opens kind then 2 ^ 12 * count + 6235 + work else 10 + work
-calls_over count step.Finding kind number work flush = if opens kind then 10 + work else 2 ^ 12 * count + 58200 + work
+calls_over count step.TakingPage kind number work flush = 2 ^ 13 * count + 65302
+calls_over count step.ReadingMode kind number work flush = 2 ^ 13 * count + 65301
+calls_over count step.Working kind number work flush = if opens kind then 2 ^ 12 * count + 6290 + work else 10 + work
+calls_over count step.Finding kind number work flush = if opens kind then 60 + work else 2 ^ 12 * count + 58200 + work
 calls_over count step.CheckingRecord kind number work flush = 2 ^ 12 * count + 55022 + 3 * (MAXOPEN - number)
 calls_over count step.CheckingEntry kind number work flush = 2 ^ 12 * count + 55021 + 3 * (MAXOPEN - number)
 calls_over count step.CheckingHolders kind number work flush = 2 ^ 12 * count + 55020 + 3 * (MAXOPEN - number)
-calls_over count step.StoringRecord kind number work flush = 6
-calls_over count step.StoringDevice kind number work flush = 5
-calls_over count step.ReadingModeAgain kind number work flush = 4
-calls_over count step.StoringMode kind number work flush = 3
-calls_over count step.StoringFile kind number work flush = 2
+calls_over count step.StoringRecord kind number work flush = 55
+calls_over count step.StoringDevice kind number work flush = 54
+calls_over count step.ReadingModeAgain kind number work flush = 53
+calls_over count step.StoringMode kind number work flush = 52
+calls_over count step.StoringFile kind number work flush = 51
+calls_over count step.ReadingRecordAgain kind number work flush = 50
+calls_over count step.Sizing kind number work flush = 10 + work
+calls_over count step.StoringSize kind number work flush = 2
 calls_over count step.Advancing kind number work flush = 2
 calls_over count step.StoringOffset kind number work flush = 1
 calls_over count step.Flushing kind number work flush = 2 + flush

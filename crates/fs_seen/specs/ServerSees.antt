@@ -33,6 +33,7 @@ use Rattle.fs_seen.specs.ServerMemory.{HasRequested, HasWholeRequest, HasWords, 
 abbrev pub is_working : ServerStep → Bool
 is_working step.Working = true
 is_working step.Finding = true
+is_working step.Sizing = true
 is_working _ = false
 
 -- The server stands where another does, and sees the same. Three of its words are the job's while one is under way, and the job is none else.
@@ -54,6 +55,7 @@ is_quiet step.Receiving = false
 is_quiet step.TakingPage = false
 is_quiet step.Working = false
 is_quiet step.Finding = false
+is_quiet step.Sizing = false
 is_quiet step.Flushing = false
 is_quiet step.Replying = false
 is_quiet _ = true
@@ -72,6 +74,7 @@ abbrev pub NeedsAt : ServerStep → ServerState → View → ℕ → Type 0
 NeedsAt step.ReadingKind st v n = n ≡ 0
 NeedsAt step.ReadingClient st v n = n ≡ 0
 NeedsAt step.ReadingOffset st v n = HasPlace st v
+NeedsAt step.StoringSize st v n = HasPlace st v
 NeedsAt step.LookingEntry st v n = HasPlace st v
 NeedsAt step.LookingHolders st v n = HasPlace st v × (st.at / PGSIZE ≡ v.frames st.number)
 NeedsAt step.TakingPage st v n = HavePages v
@@ -84,8 +87,9 @@ NeedsAt step.CheckingEntry st v n = HasPlace st v
 NeedsAt step.CheckingHolders st v n = HasPlace st v × (st.at / PGSIZE ≡ v.frames st.number)
 NeedsAt _ st v n = Unit {0}
 
--- the steps that read the page of the request
+-- The steps that may read the page of the request: where the place of the next byte stands, is told by what is asked for.
 abbrev pub reads_request : ServerStep → Bool
+reads_request step.ReadingOffset = true
 reads_request step.ReadingFile = true
 reads_request step.ReadingCount = true
 reads_request step.ReadingMode = true
@@ -114,6 +118,7 @@ AccessRests _ place = Unit {0}
 abbrev pub CacheRests : ServerStep → KernelState → ℕ → Type 0
 CacheRests step.Working s n = AccessRests (tree.ask_at (job_in s n)) (cache_state s n).place
 CacheRests step.Finding s n = AccessRests (tree.ask_at (job_in s n)) (cache_state s n).place
+CacheRests step.Sizing s n = AccessRests (tree.ask_at (job_in s n)) (cache_state s n).place
 CacheRests _ s n = is_fetching (cache_state s n).place ≡ false
 
 -- ---- what is so behind one

@@ -46,6 +46,7 @@ pub record RunsFor (count : ℕ) (job : TreeState) (m : Memory) (left : ℕ) : T
 abbrev pub JobLeft : ServerStep → ℕ → TreeState → Memory → ℕ → Type 0
 JobLeft step.Working count job m left = RunsFor count job m left
 JobLeft step.Finding count job m left = RunsFor count job m left
+JobLeft step.Sizing count job m left = RunsFor count job m left
 JobLeft _ count job m left = Unit {0}
 
 -- ---- the number
@@ -69,7 +70,8 @@ abbrev pub WORK_STEPS_MAX : ℕ
 WORK_STEPS_MAX = JOB_STEPS_MAX * ACCESS_STEPS_MAX + WAIT_STEPS_MAX + FLUSH_STEPS_MAX + 1
 
 -- from a step on, where what is under way has so much left, and nothing else of the kind takes as long as this: a place of the table takes three
--- steps at most; what is opened is a job, which is looked up behind that by another; what is removed is looked up first
+-- steps at most; what is opened is a job, which is looked up behind that by another and asked for its size by a third; what is
+-- removed is looked up first
 abbrev pub left_over : ℕ → ServerStep → Option RequestKind → ℕ → ℕ → ℕ → ℕ
 left_over long step.ReadingKind kind number work flush = 3 * long + 10001
 left_over long step.ReadingClient kind number work flush = 3 * long + 10000
@@ -77,18 +79,21 @@ left_over long step.ReadingFile kind number work flush = 2 * long + 43
 left_over long step.ReadingOffset kind number work flush = 2 * long + 42
 left_over long step.ReadingCount kind number work flush = 2 * long + 41
 left_over long step.ReadingRecord kind number work flush = 2 * long + 40
-left_over long step.LookingRecord kind number work flush = 2 * long + 62 + 3 * (MAXOPEN - number)
-left_over long step.LookingEntry kind number work flush = 2 * long + 61 + 3 * (MAXOPEN - number)
-left_over long step.LookingHolders kind number work flush = 2 * long + 60 + 3 * (MAXOPEN - number)
-left_over long step.TakingPage kind number work flush = 2 * long + 51
-left_over long step.ReadingMode kind number work flush = 2 * long + 50
-left_over long step.Working kind number work flush = if opens kind then long + 20 + work else 10 + work
-left_over long step.Finding kind number work flush = if opens kind then 10 + work else 2 * long + 5000 + work
-left_over long step.StoringRecord kind number work flush = 6
-left_over long step.StoringDevice kind number work flush = 5
-left_over long step.ReadingModeAgain kind number work flush = 4
-left_over long step.StoringMode kind number work flush = 3
-left_over long step.StoringFile kind number work flush = 2
+left_over long step.LookingRecord kind number work flush = 3 * long + 62 + 3 * (MAXOPEN - number)
+left_over long step.LookingEntry kind number work flush = 3 * long + 61 + 3 * (MAXOPEN - number)
+left_over long step.LookingHolders kind number work flush = 3 * long + 60 + 3 * (MAXOPEN - number)
+left_over long step.TakingPage kind number work flush = 3 * long + 51
+left_over long step.ReadingMode kind number work flush = 3 * long + 50
+left_over long step.Working kind number work flush = if opens kind then 2 * long + 40 + work else 10 + work
+left_over long step.Finding kind number work flush = if opens kind then long + 20 + work else 2 * long + 5000 + work
+left_over long step.StoringRecord kind number work flush = long + 10
+left_over long step.StoringDevice kind number work flush = long + 9
+left_over long step.ReadingModeAgain kind number work flush = long + 8
+left_over long step.StoringMode kind number work flush = long + 7
+left_over long step.StoringFile kind number work flush = long + 6
+left_over long step.ReadingRecordAgain kind number work flush = long + 5
+left_over long step.Sizing kind number work flush = 4 + work
+left_over long step.StoringSize kind number work flush = 2
 left_over long step.Advancing kind number work flush = 2
 left_over long step.StoringOffset kind number work flush = 1
 left_over long step.CheckingRecord kind number work flush = 2 * long + 22 + 3 * (MAXOPEN - number)

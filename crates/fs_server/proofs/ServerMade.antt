@@ -8,8 +8,10 @@ use Rattle.jos_host.specs.Frames.{Around, from_to}
 use Rattle.jos_base.specs.declared.numbers.TheConstants.{PGSIZE, UTOP}
 use Rattle.jos_base.specs.declared.registers.Regs.{Regs}
 use Rattle.jos_base.specs.KernelState.{KernelState, slot_at}
-use Rattle.lib_os.specs.declared.numbers.TheConstants.{DEVICE_FILE, FD_DEVICE, FD_FILE, FD_MODE, FD_OFFSET, MAXOPEN}
+use Rattle.lib_os.specs.declared.numbers.TheConstants.{DEVICE_FILE, FD_DEVICE, FD_FILE, FD_MODE, FD_OFFSET, FD_SIZE, MAXOPEN}
 use Rattle.lib_os.specs.declared.progress.Progress.{Progress}
+use Rattle.lib_os.specs.declared.request.RequestKind.{RequestKind}
+use Rattle.lib_os.specs.declared.request.RequestKind.TheVariants as kind
 use Rattle.lib_os.specs.declared.user_os.Stop.{Stop}
 use Rattle.lib_os.specs.declared.user_os.Stop.TheVariants as stop
 use Rattle.lib_os.specs.Disk.{DiskFile}
@@ -32,7 +34,7 @@ use Rattle.fs_requests.specs.declared.plan.ServerNext.{ServerNext}
 use Rattle.fs_requests.specs.declared.state.ServerState.{ServerState}
 use Rattle.fs_requests.specs.declared.state.ServerStep.{ServerStep}
 use Rattle.fs_requests.specs.declared.state.ServerStep.TheVariants as step
-use Rattle.fs_requests.specs.ServerPlans.{ask_at, ask_for, next_at, open_page, open_perm, opens, replying}
+use Rattle.fs_requests.specs.ServerPlans.{ask_at, ask_for, next_at, open_page, open_perm, opens, place_va, replying}
 use Rattle.fs_requests.specs.ServerWords.{registers_with, words_with}
 use Rattle.fs_server.specs.ServerSteps.{HasCalled, HasFlushed, IsCalled, IsFlushed, IsReply, by_word, ends, goes, gone_on, registers_begun}
 use Rattle.fs_server.specs.ServerSteps.{was_stopped, words_begun}
@@ -59,13 +61,26 @@ replies : (state : ServerState) (t : Bool) → IsServersCall (call_of (replying 
 replies state true = sends_place state.client state.count (state.number % MAXOPEN) (within state.number)
 replies state false = sends state.client state.count
 
+-- wherever the place of the next byte stands
+offset_placed : (asked : Option RequestKind) (number : ℕ) → IsServersCall (loads (place_va asked number))
+offset_placed None number = omega arith
+offset_placed (Some kind.Open) number = omega arith
+offset_placed (Some kind.SetSize) number = omega arith
+offset_placed (Some kind.Read) number = omega arith
+offset_placed (Some kind.Write) number = omega arith
+offset_placed (Some kind.Stat) number = omega arith
+offset_placed (Some kind.Remove) number = omega arith
+offset_placed (Some kind.Sync) number = omega arith
+offset_placed (Some kind.Seek) number = omega arith
+offset_placed (Some kind.ReadAt) number = refl
+
 servers : (state : ServerState) (at : ServerStep) → IsServersAsk (ask_for state at)
 servers state step.Releasing = unmaps_request
 servers state step.Receiving = receives
 servers state step.ReadingKind = refl
 servers state step.ReadingClient = refl
 servers state step.ReadingFile = refl
-servers state step.ReadingOffset = omega arith
+servers state step.ReadingOffset = offset_placed state.kind state.number
 servers state step.ReadingCount = refl
 servers state step.ReadingRecord = omega arith
 servers state step.LookingRecord = omega arith
@@ -80,6 +95,9 @@ servers state step.StoringDevice = placed state.number FD_DEVICE DEVICE_FILE (om
 servers state step.ReadingModeAgain = refl
 servers state step.StoringMode = placed state.number FD_MODE (state.count % 4) (omega arith) refl
 servers state step.StoringFile = placed state.number FD_FILE state.number (omega arith) refl
+servers state step.ReadingRecordAgain = omega arith
+servers state step.Sizing = tt
+servers state step.StoringSize = placed state.number FD_SIZE state.count (omega arith) refl
 servers state step.Advancing = omega arith
 servers state step.StoringOffset = placed state.number FD_OFFSET state.at (omega arith) refl
 servers state step.CheckingRecord = omega arith

@@ -15,7 +15,7 @@ use Rattle.lib_os.specs.FileServer.{act_done, after_act, file_opened, is_count, 
 use Rattle.lib_os.specs.FileServer.{with_offset}
 use Rattle.fs_requests.specs.declared.state.ServerStep.TheVariants as step
 use Rattle.fs_requests.specs.ServerPlans.{next_for}
-use Rattle.fs_serving.specs.ServerRuns.{AsksFor, Follows, HasFiles, IsDone, TableStands, client_of, opens, reads}
+use Rattle.fs_serving.specs.ServerRuns.{AsksFor, Follows, HasFiles, IsDone, TableStands, client_of, opens, reads, reads_at}
 use Rattle.fs_serving.specs.ServerRuns.{removes, sizes, stats, syncs, writes}
 use Rattle.fs_serving.specs.ServerViews.{Serving, View, gone_on}
 use Rattle.fs_serving.proofs.ActsDone.{acts_are_done}
@@ -28,6 +28,7 @@ pub asked-string : (a : AbstractState) (page : ℕ → ℕ) (k : RequestKind) (f
 asked-string a page _ _ _ (opens path mode has mode_is) = has.no_nul
 asked-string a page _ _ _ (removes path has) = tt
 asked-string a page _ _ _ (reads name f so) = tt
+asked-string a page _ _ _ (reads_at name f so near) = tt
 asked-string a page _ _ _ (writes name f so within) = tt
 asked-string a page _ _ _ (sizes name f so) = tt
 asked-string a page _ _ _ (stats name f so) = tt

@@ -57,6 +57,9 @@ module _ (count : ℕ) (a : AbstractState) (it : Serving) (before : Memory) wher
   acts_at step.ReadingModeAgain h = acts_as _ h.opened.opening.is_busy.server refl
   acts_at step.StoringMode h = acts_as _ h.opened.opening.is_busy.server refl
   acts_at step.StoringFile h = acts_as _ h.opened.opening.is_busy.server refl
+  acts_at step.ReadingRecordAgain h = acts_as _ h.opened.opening.is_busy.server refl
+  acts_at step.Sizing h = acts_as _ h.so_far.opened.opening.is_busy.server refl
+  acts_at step.StoringSize h = acts_as _ h.opened.opening.is_busy.server refl
   acts_at step.Advancing h = acts_as _ h.is_busy.server refl
   acts_at step.StoringOffset h = acts_storing h
   acts_at step.CheckingRecord h = acts_as _ h.is_busy.server refl

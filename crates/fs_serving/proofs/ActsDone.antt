@@ -115,6 +115,7 @@ module _ (count : â„•) (a : AbstractState) (v : View) (f : FileAct) (answer : â„
               device = has.device;
               offset = has.offset;
               mode = has.mode;
+              size = has.size;
               number_is = has.number_is;
               small = has.small;
             }

@@ -12,6 +12,7 @@ use Rattle.fs_acts.specs.BlockActs.{Led, Planned, a_record, astray, empty_it, le
 use Rattle.fs_acts.specs.BlockActs.{resizing, too_long, turned_down}
 use Rattle.fs_acts.specs.BlockLaws.{HasString}
 use Rattle.fs_jobs.specs.declared.place.TreeState.{TreeState}
+use Rattle.fs_runs.specs.JobCalls.{find_calls_max}
 use Rattle.fs_runs.specs.TreeRuns.{AreSmall, HasActed, IsRunning, IsSound, Memory, found_place}
 use Rattle.fs_runs.proofs.Ways.{runs_go_on}
 use Rattle.lib_os.specs.declared.request.RequestKind.{RequestKind}
@@ -89,6 +90,7 @@ module _ (done : ActsAreDone) (count : ℕ) (a : AbstractState) (it : Serving) (
         at = record {
           path = path;
           mode = mode;
+          home = home;
           opened = record {
             opening = record {
               is_busy = record {
@@ -107,19 +109,22 @@ module _ (done : ActsAreDone) (count : ℕ) (a : AbstractState) (it : Serving) (
             regular = is.regular;
             named = is.named;
           };
-          home = λ e. absurd (omega (arith, e));
+          kept = λ e. refl;
+          home_is = λ e. absurd (omega (arith, e));
           device = λ e. absurd (omega (arith, e));
           read = λ e. absurd (omega (arith, e));
           mode_is = λ e. absurd (omega (arith, e));
           number_is = λ e. absurd (omega (arith, e));
+          sized = λ e. absurd (omega (arith, e));
+          size = λ e. absurd (omega (arith, e));
           offset = λ e. absurd (omega (arith, e));
         };
       }
 
   of-opened : (path : List ℕ) (mode home : ℕ) (m : Memory) → IsOpened a (over it m) before path mode home →
-      IsRunning count home m it.job it.view.memory → WorksOn count a it
+      IsRunning (find_calls_max count) count home m it.job it.view.memory → WorksOn count a it
   of-opened path mode home m is run =
-      let stays = runs_go_on count home m it.job it.view.memory run in
+      let stays = runs_go_on (find_calls_max count) count home m it.job it.view.memory run in
       record {
         bounded = stays.0;
         inside = stays.1;
@@ -251,7 +256,7 @@ module _ (done : ActsAreDone) (count : ℕ) (a : AbstractState) (it : Serving) (
   of-removed : IsFinding count a it before → WorksOn count a it
   of-removed is =
       let answer : ℕ = found_place before.disk (led_to before.disk is.path) in
-      let stays = runs_go_on count answer before it.job it.view.memory is.running in
+      let stays = runs_go_on (find_calls_max count) count answer before it.job it.view.memory is.running in
       record {
         bounded = stays.0;
         inside = stays.1;

@@ -5,7 +5,7 @@ use Rattle.fs_layout.specs.FileTree.{FileAct}
 use Rattle.fs_acts.specs.BlockActs.{led_to}
 use Rattle.fs_jobs.specs.declared.asks.TreeNext.TheVariants.{GoOn}
 use Rattle.fs_jobs.specs.declared.place.TreeState.{TreeState}
-use Rattle.fs_runs.specs.JobCalls.{act_calls_max, job_steps_max}
+use Rattle.fs_runs.specs.JobCalls.{act_calls_max, find_calls_max, job_steps_max, size_calls_max}
 use Rattle.fs_runs.specs.TreePlans as tree
 use Rattle.fs_runs.specs.TreeRuns.{FewerCalls, Memory, calls_of, found_place}
 use Rattle.fs_runs.proofs.Ways.{runs_go_on, ways_go_on}
@@ -13,11 +13,12 @@ use Rattle.lib_os.specs.declared.request.RequestKind.{RequestKind}
 use Rattle.lib_os.specs.AbstractState.{AbstractState, act}
 use Rattle.fs_requests.specs.declared.state.ServerStep.{ServerStep}
 use Rattle.fs_requests.specs.declared.state.ServerStep.TheVariants as step
-use Rattle.fs_serving.specs.ServerRuns.{AsksFor, IsFound, IsOpened, JobsEndSoon, StandsAtStep, StandsServing, calls_at, has_job, job_calls}
-use Rattle.fs_serving.specs.ServerRuns.{job_calls_max, job_on, left_at, memory_worked, opened, opens, over, reads, removed, removes, sizes, stats}
-use Rattle.fs_serving.specs.ServerRuns.{syncs, word_worked, work_calls_max, writes}
+use Rattle.fs_serving.specs.ServerRuns.{AsksFor, IsFound, IsOpened, IsSizing, JobsEndSoon, StandsAtStep, StandsServing, calls_at, has_job, job_calls}
+use Rattle.fs_serving.specs.ServerRuns.{job_calls_max, job_on, left_at, memory_worked, opened, opens, over, reads, reads_at, removed, removes, sizes}
+use Rattle.fs_serving.specs.ServerRuns.{size_opened, stats, syncs, word_worked, work_calls_max, writes}
 use Rattle.fs_serving.specs.ServerViews.{Serving}
 use Rattle.fs_serving.proofs.SameTables.{table-over}
+use Rattle.fs_serving.proofs.Sizing.{sizes-on}
 use Rattle.fs_serving.proofs.Working.{further}
 
 -- An act's calls are no more than those that its kind allows.
@@ -26,6 +27,7 @@ act-calls : (count : ℕ) (a : AbstractState) (page : ℕ → ℕ) (k : RequestK
 act-calls count a page _ _ _ (opens path mode has mode_is) = omega arith
 act-calls count a page _ _ _ (removes path has) = omega arith
 act-calls count a page _ _ _ (reads name f so) = omega arith
+act-calls count a page _ _ _ (reads_at name f so near) = omega arith
 act-calls count a page _ _ _ (writes name f so within) = omega arith
 act-calls count a page _ _ _ (sizes name f so) = omega arith
 act-calls count a page _ _ _ (stats name f so) = omega arith
@@ -76,13 +78,14 @@ opened-on count a it before m next is = record {
 finding-ends : (count : ℕ) (a : AbstractState) (it : Serving) (before : Memory) (is : IsFound count a it before) →
     EndsAt step.Finding count a it before is
 finding-ends count a it before (opened path mode home {m} is run) =
-    let stays = runs_go_on count home m it.job it.view.memory run in (
+    let stays = runs_go_on (find_calls_max count) count home m it.job it.view.memory run in (
       run.soon,
       run.few,
       λ next goes. let on = stays.2 next goes in (opened path mode home (opened-on count a it before m next is) on.0, on.1, on.2),
     )
 finding-ends count a it before (removed is) =
-    let stays = runs_go_on count (found_place before.disk (led_to before.disk is.path)) before it.job it.view.memory is.running in (
+    let place = found_place before.disk (led_to before.disk is.path) in
+    let stays = runs_go_on (find_calls_max count) count place before it.job it.view.memory is.running in (
       is.running.soon,
       is.running.few,
       λ next goes. let on = stays.2 next goes in (
@@ -97,10 +100,21 @@ finding-ends count a it before (removed is) =
       ),
     )
 
+sizing-ends : (count : ℕ) (a : AbstractState) (it : Serving) (before : Memory) (is : IsSizing count a it before) →
+    EndsAt step.Sizing count a it before is
+unfolding sizes-on
+sizing-ends count a it before is =
+    let stays = runs_go_on size_calls_max count (size_opened is.so_far.opened) is.left_as it.job it.view.memory is.running in (
+      is.running.soon,
+      is.running.few,
+      λ next goes. let on = stays.2 next goes in (sizes-on count a it before is next on.0, on.1, on.2),
+    )
+
 ends-at : (at : ServerStep) (count : ℕ) (a : AbstractState) (it : Serving) (before : Memory) (is : StandsAtStep at count a it before) →
     has_job at ≡ true → EndsAt at count a it before is
 ends-at step.Working count a it before is job = working-ends count a it before is
 ends-at step.Finding count a it before is job = finding-ends count a it before is
+ends-at step.Sizing count a it before is job = sizing-ends count a it before is
 ends-at _ count a it before is job = absurd (false≢true job)
 
 -- the most calls that the job at hand has left, whatever block was found last

@@ -7,7 +7,9 @@ pub mod ActsAt
 pub mod Acting
 pub mod Working
 pub mod Opening
+pub mod OpenedSizes
 pub mod Opened
+pub mod Sizing
 pub mod OfFiles
 pub mod Storing
 pub mod Removing

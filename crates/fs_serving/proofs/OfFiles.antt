@@ -11,7 +11,7 @@ use Rattle.fs_jobs.specs.declared.place.Job.TheVariants as job
 use Rattle.fs_runs.specs.TreeRuns.{AreSmall, IsOnItsWay, IsSound, Memory, begun_with, bytes_given}
 use Rattle.fs_runs.specs.TreeRuns as runs
 use Rattle.fs_runs.proofs.JobsWhole.{all_jobs_are_acts}
-use Rattle.lib_os.specs.declared.numbers.TheConstants.{FD_OFFSET, MAXOPEN, REQUEST_COUNT, REQUEST_FILE}
+use Rattle.lib_os.specs.declared.numbers.TheConstants.{FD_OFFSET, MAXOPEN, REQUEST_COUNT, REQUEST_FILE, REQUEST_PLACE}
 use Rattle.lib_os.specs.declared.request.RequestKind.{RequestKind}
 use Rattle.lib_os.specs.declared.request.RequestKind.TheVariants as kind
 use Rattle.lib_os.specs.AbstractState.{AbstractState, Object, OpenFile, Request, act, busy, file, seek}
@@ -20,8 +20,8 @@ use Rattle.fs_requests.specs.declared.state.ServerStep.TheVariants as step
 use Rattle.fs_requests.specs.ServerPlans.{begun, count_by, hidden, job_by, next_for}
 use Rattle.fs_serving.specs.ServerRuns.{AsksFor, HasFile, HasFiles, HasNumber, HasOffset, IsBusy, IsOpenAs}
 use Rattle.fs_serving.specs.ServerRuns.{Follows, IsClosed, OpenAlike, StandsServing, TableStands, client_of}
-use Rattle.fs_serving.specs.ServerRuns.{is_of_file, opens, reads, removes, seeks, sizes, stats, sought, syncs, writes}
-use Rattle.fs_serving.specs.ServerViews.{Serving, View, gone_on, page_word, request_word}
+use Rattle.fs_serving.specs.ServerRuns.{is_of_file, opens, reads, reads_at, removes, seeks, sizes, stats, sought, syncs, writes}
+use Rattle.fs_serving.specs.ServerViews.{Serving, View, gone_on, page_word, place_told, request_word}
 use Rattle.fs_serving.proofs.Pieces.{StepFollows}
 
 -- ---- what is known of the file
@@ -37,6 +37,7 @@ pub names_file : (a : AbstractState) (page : ℕ → ℕ) (k : RequestKind) (req
 names_file a page _ _ (opens path mode has is) of_file = absurd (false≢true of_file)
 names_file a page _ _ (removes path has) of_file = absurd (false≢true of_file)
 names_file a page _ _ (reads name f so) of_file = record { name = name; f = f; open_as = so }
+names_file a page _ _ (reads_at name f so near) of_file = record { name = name; f = f; open_as = so }
 names_file a page _ _ (writes name f so within) of_file = record { name = name; f = f; open_as = so }
 names_file a page _ _ (sizes name f so) of_file = record { name = name; f = f; open_as = so }
 names_file a page _ _ (stats name f so) of_file = record { name = name; f = f; open_as = so }
@@ -173,6 +174,8 @@ module _ (count : ℕ) (a : AbstractState) (it : Serving) (before : Memory) (fil
       numbered = number ∙ ap (λ (m : Memory). word_at m.page REQUEST_FILE) memory
   counted _ _ is server (reads name f so) of_file =
       goes_on kind.Read _ (record { server = server; kind_is = is; asks = reads name f so }) refl (λ e. cc)
+  counted _ _ is server (reads_at name f so near) of_file =
+      goes_on kind.ReadAt _ (record { server = server; kind_is = is; asks = reads_at name f so near }) refl (λ e. cc)
   counted _ _ is server (writes name f so within) of_file =
       goes_on kind.Write _ (record { server = server; kind_is = is; asks = writes name f so within }) refl (λ e. cc)
   counted _ _ is server (sizes name f so) of_file =
@@ -241,6 +244,12 @@ module _ (count : ℕ) (a : AbstractState) (it : Serving) (before : Memory) (fil
   counted-so : it.state.count ≡ word_at before.page REQUEST_COUNT
   counted-so = counts ∙ ap (λ (m : Memory). word_at m.page REQUEST_COUNT) memory
 
+  -- where it is told by the request
+  placed-so : it.state.kind ≡ Some kind.ReadAt → it.state.at ≡ word_at before.page REQUEST_PLACE
+  placed-so is =
+      offset ∙ ap (λ (o : Option RequestKind). place_told o it.view it.state.number) is
+      ∙ ap (λ (m : Memory). word_at m.page REQUEST_PLACE) memory
+
   module _ (name : ℕ) (f : OpenFile) (so : IsOpenAs a before.page name f) where
     there : FileIs before.disk it.view it.state.number f
     there = subst (λ (n : ℕ). FileIs before.disk it.view n f) (sym numbered) (file_is before.disk a it.view before.page name f table so)
@@ -248,8 +257,10 @@ module _ (count : ℕ) (a : AbstractState) (it : Serving) (before : Memory) (fil
     stands : place_at before.disk f.way ≡ Some word
     stands = there.home ∙ ap Some (sym reply)
 
-    at_is : it.state.at ≡ f.offset
-    at_is = offset ∙ there.offset
+    -- where its place of the next byte is told by its page
+    at_is : (k : RequestKind) → it.state.kind ≡ Some k → place_told (Some k) it.view it.state.number ≡ page_word it.view it.state.number FD_OFFSET →
+        it.state.at ≡ f.offset
+    at_is k is by_page = offset ∙ ap (λ (o : Option RequestKind). place_told o it.view it.state.number) is ∙ by_page ∙ there.offset
 
   -- behind this the job of the act is under way
   works : (k : RequestKind) (f : FileAct) (object : Option ℕ) → IsBusy a it before None k (act f object) → k ≢ kind.Open → k ≢ kind.Sync →
@@ -290,12 +301,17 @@ module _ (count : ℕ) (a : AbstractState) (it : Serving) (before : Memory) (fil
       works kind.Read (read_file f.way f.offset (word_at before.page REQUEST_COUNT)) (Some name)
       (record { server = server; kind_is = is; asks = reads name f so }) (λ e. cc) (λ e. cc) tt tt
       (reads_begin count (is_file_open a) f.way word f.offset (word_at before.page REQUEST_COUNT) before it.view.memory it.state.at it.state.count
-      whole (stands name f so) (there name f so).small memory (at_is name f so) counted-so)
+      whole (stands name f so) (there name f so).small memory (at_is name f so kind.Read is refl) counted-so)
+  begins _ _ is other server (reads_at name f so near) of_file =
+      works kind.ReadAt (read_file f.way (word_at before.page REQUEST_PLACE) (word_at before.page REQUEST_COUNT)) None
+      (record { server = server; kind_is = is; asks = reads_at name f so near }) (λ e. cc) (λ e. cc) tt tt
+      (reads_begin count (is_file_open a) f.way word (word_at before.page REQUEST_PLACE) (word_at before.page REQUEST_COUNT) before it.view.memory
+      it.state.at it.state.count whole (stands name f so) near memory (placed-so is) counted-so)
   begins _ _ is other server (writes name f so within) of_file =
       works kind.Write (write_file f.way f.offset (bytes_given before.page (word_at before.page REQUEST_COUNT))) (Some name)
       (record { server = server; kind_is = is; asks = writes name f so within }) (λ e. cc) (λ e. cc) tt tt
       (writes_begin count (is_file_open a) f.way word f.offset (word_at before.page REQUEST_COUNT) before it.view.memory it.state.at it.state.count
-      whole (stands name f so) (there name f so).small within memory (at_is name f so) counted-so)
+      whole (stands name f so) (there name f so).small within memory (at_is name f so kind.Write is refl) counted-so)
   begins _ _ is other server (sizes name f so) of_file =
       works kind.SetSize (set_file_size f.way (word_at before.page REQUEST_COUNT)) None
       (record { server = server; kind_is = is; asks = sizes name f so }) (λ e. cc) (λ e. cc) tt tt

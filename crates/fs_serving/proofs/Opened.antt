@@ -12,7 +12,7 @@ use Rattle.fs_layout.specs.DiskFiles.{IsDiskImage, file_system_of}
 use Rattle.fs_layout.specs.DiskImage.{block_count, block_number_at, first_data_block, is_data_block, is_directory_at, is_empty_record, root_place}
 use Rattle.fs_layout.specs.DiskImage.{size_of, slot_count, slot_place}
 use Rattle.fs_layout.specs.FileActs.{Acted, file_act, file_named, look_up}
-use Rattle.fs_layout.specs.FileTree.{FileSystem, blocks_taken, needs_indirect, open_path}
+use Rattle.fs_layout.specs.FileTree.{FileSystem, blocks_taken, file_size, needs_indirect, open_path}
 use Rattle.fs_acts.specs.BlockActs.{Led, Planned, a_record, astray, blocks_grown, create_plan, create_plan_at, first_slot, fits, growth, led_to}
 use Rattle.fs_acts.specs.BlockActs.{make_record, no_record, open_led, place_at, place_from, plan_of, planned, planned_if_it_fits}
 use Rattle.fs_acts.specs.BlockActs.{resizing, size_plan, too_long, turned_down}
@@ -23,7 +23,7 @@ use Rattle.fs_acts.proofs.Stored.{same-word}
 use Rattle.fs_acts.proofs.Undamaged.{some-same, way-goes}
 use Rattle.fs_acts.proofs.WalkCounts.{slot-parts}
 use Rattle.fs_runs.specs.TreeRuns.{HasActed, Memory}
-use Rattle.lib_os.specs.declared.numbers.TheConstants.{DEVICE_FILE, FD_DEVICE, FD_FILE, FD_MODE, FD_OFFSET, MAXOPEN, REQUEST_MODE}
+use Rattle.lib_os.specs.declared.numbers.TheConstants.{DEVICE_FILE, FD_DEVICE, FD_FILE, FD_MODE, FD_OFFSET, FD_SIZE, MAXOPEN, REQUEST_MODE}
 use Rattle.lib_os.specs.AbstractState.{AbstractState, Object, OpenFile, Server, TablePlace, act, acted, busy, file}
 use Rattle.lib_os.specs.Descriptors.{is_held}
 use Rattle.lib_os.specs.FileServer.{act_done, after_act, file_opened, is_file_open, is_held_by, low_mode, served, server_step}
@@ -31,8 +31,9 @@ use Rattle.fs_requests.specs.declared.plan.ServerNext.{ServerNext}
 use Rattle.fs_requests.specs.declared.state.ServerStep.TheVariants as step
 use Rattle.fs_requests.specs.ServerPlans as plans
 use Rattle.fs_serving.specs.ServerRuns as runs
-use Rattle.fs_serving.specs.ServerRuns.{Follows, HasFile, HasFiles, HasPage, IsOpened, IsTold, PlaceStands, TableStands, client_of}
+use Rattle.fs_serving.specs.ServerRuns.{Follows, HasFile, HasFiles, HasPage, IsOpened, IsTold, PlaceStands, TableStands, client_of, size_opened}
 use Rattle.fs_serving.specs.ServerViews.{Serving, View, gone_on, with_page_word, with_word}
+use Rattle.fs_serving.proofs.OpenedSizes.{opened-short}
 use Rattle.fs_serving.proofs.Opening.{opening-in, path-asked}
 use Rattle.fs_serving.proofs.Pieces.{ActsAreDone, StepFollows}
 use Rattle.fs_serving.proofs.Tables.{after, no-name, or-other, page-left, page-there, page-told, place-free, place-kept, table-seen}
@@ -91,9 +92,9 @@ word-stays one other at same = same-word one other at (same at) (same (at + 1)) 
 -- ---- what is told
 
 -- what is opened, wherever the server goes on with it
-opened-in : (a : AbstractState) (it : Serving) (before : Memory) (path : List ℕ) (mode home : ℕ) → IsOpened a it before path mode home →
-    (next : Serving) → next.state.client ≡ it.state.client → next.state.number ≡ it.state.number → next.state.kind ≡ it.state.kind →
-    next.view.memory ≡ it.view.memory → HasPage next → IsOpened a next before path mode home
+unfoldable pub opened-in : (a : AbstractState) (it : Serving) (before : Memory) (path : List ℕ) (mode home : ℕ) →
+    IsOpened a it before path mode home → (next : Serving) → next.state.client ≡ it.state.client → next.state.number ≡ it.state.number →
+    next.state.kind ≡ it.state.kind → next.view.memory ≡ it.view.memory → HasPage next → IsOpened a next before path mode home
 opened-in a it before path mode home so next client number kind_is memory has_page =
     record {
       opening = opening-in a it before path mode so.opening next client number kind_is;
@@ -104,6 +105,16 @@ opened-in a it before path mode home so next client number kind_is memory has_pa
       regular = ap (λ (m : Memory). is_directory_at m.disk home) memory ∙ so.regular;
       named = ap (λ (m : Memory). file_named (file_system_of m.disk) path) memory ∙ so.named;
     }
+
+-- its size is as it was
+size-stays : (a : AbstractState) (it : Serving) (before : Memory) (path : List ℕ) (mode home : ℕ)
+    (so : IsOpened a it before path mode home) (next : Serving) (client : next.state.client ≡ it.state.client)
+    (number : next.state.number ≡ it.state.number) (kind_is : next.state.kind ≡ it.state.kind)
+    (memory : next.view.memory ≡ it.view.memory) (has_page : HasPage next) →
+    size_opened (opened-in a it before path mode home so next client number kind_is memory has_page) ≡ size_opened so
+unfolding opened-in
+size-stays a it before path mode home so next client number kind_is memory has_page =
+    ap (λ (m : Memory). file_size (file_system_of m.disk) so.way) memory
 
 pub storing_record : StepFollows step.StoringRecord
 storing_record count a it before small files table so word v reply seen =
@@ -125,12 +136,16 @@ storing_record count a it before small files table so word v reply seen =
           record {
             path = so.path;
             mode = so.mode;
-            opened = opened-in a it before so.path so.mode home so.opened (gone_on it next w) refl refl refl refl so.opened.has_page;
-            home = λ far. upd-at it.view.homes k home;
+            home = so.home;
+            opened = opened-in a it before so.path so.mode so.home so.opened (gone_on it next w) refl refl refl refl so.opened.has_page;
+            kept = λ far. absurd (omega (arith, far));
+            home_is = λ far. upd-at it.view.homes k home ∙ so.kept refl;
             device = λ far. absurd (omega (arith, far));
             read = λ far. absurd (omega (arith, far));
             mode_is = λ far. absurd (omega (arith, far));
             number_is = λ far. absurd (omega (arith, far));
+            sized = λ far. absurd (omega (arith, far));
+            size = λ far. absurd (omega (arith, far));
             offset = λ far. absurd (omega (arith, far));
           };
     })
@@ -158,14 +173,18 @@ storing_device count a it before small files table so word v reply seen =
           record {
             path = so.path;
             mode = so.mode;
+            home = so.home;
             opened =
-                opened-in a it before so.path so.mode it.state.home so.opened (gone_on it next w) refl refl refl refl
+                opened-in a it before so.path so.mode so.home so.opened (gone_on it next w) refl refl refl refl
                 (page-in it so.opened.has_page next FD_DEVICE DEVICE_FILE refl);
-            home = λ far. so.home (omega arith);
+            kept = λ far. absurd (omega (arith, far));
+            home_is = λ far. so.home_is (omega arith);
             device = λ far. page-told it.view k FD_DEVICE DEVICE_FILE (omega arith) so.opened.has_page.0;
             read = λ far. absurd (omega (arith, far));
             mode_is = λ far. absurd (omega (arith, far));
             number_is = λ far. absurd (omega (arith, far));
+            sized = λ far. absurd (omega (arith, far));
+            size = λ far. absurd (omega (arith, far));
             offset = λ far. absurd (omega (arith, far));
           };
     })
@@ -183,13 +202,17 @@ reading_mode_again count a it before small files table so word v reply seen =
           record {
             path = so.path;
             mode = so.mode;
+            home = so.home;
             opened =
-                opened-in a it before so.path so.mode it.state.home so.opened (gone_on it next it.view) refl refl refl refl so.opened.has_page;
-            home = λ far. so.home (omega arith);
+                opened-in a it before so.path so.mode so.home so.opened (gone_on it next it.view) refl refl refl refl so.opened.has_page;
+            kept = λ far. absurd (omega (arith, far));
+            home_is = λ far. so.home_is (omega arith);
             device = λ far. so.device (omega arith);
             read = λ far. reply ∙ word-stays it.view.memory.page before.page REQUEST_MODE stays ∙ asked.1;
             mode_is = λ far. absurd (omega (arith, far));
             number_is = λ far. absurd (omega (arith, far));
+            sized = λ far. absurd (omega (arith, far));
+            size = λ far. absurd (omega (arith, far));
             offset = λ far. absurd (omega (arith, far));
           };
     })
@@ -215,15 +238,19 @@ storing_mode count a it before small files table so word v reply seen =
           record {
             path = so.path;
             mode = so.mode;
+            home = so.home;
             opened =
-                opened-in a it before so.path so.mode it.state.home so.opened (gone_on it next w) refl refl refl refl
+                opened-in a it before so.path so.mode so.home so.opened (gone_on it next w) refl refl refl refl
                 (page-in it so.opened.has_page next FD_MODE low refl);
-            home = λ far. so.home (omega arith);
+            kept = λ far. absurd (omega (arith, far));
+            home_is = λ far. so.home_is (omega arith);
             device = λ far. page-left it.view k FD_MODE low FD_DEVICE (inl (omega arith)) ∙ so.device (omega arith);
             read = λ far. absurd (omega (arith, far));
             mode_is =
                 λ far. page-told it.view k FD_MODE low (low-small it.state.count) so.opened.has_page.0 ∙ ap (λ (n : ℕ). n % 4) (so.read refl);
             number_is = λ far. absurd (omega (arith, far));
+            sized = λ far. absurd (omega (arith, far));
+            size = λ far. absurd (omega (arith, far));
             offset = λ far. absurd (omega (arith, far));
           };
     })
@@ -239,17 +266,61 @@ storing_file count a it before small files table so word v reply seen =
       files = files;
       table = table-told before.disk a it.view k FD_FILE k opening.below opening.nobodys table;
       at =
-          runs.opened (record {
+          record {
             path = so.path;
             mode = so.mode;
+            home = so.home;
             opened =
-                opened-in a it before so.path so.mode it.state.home so.opened (gone_on it next w) refl refl refl refl
+                opened-in a it before so.path so.mode so.home so.opened (gone_on it next w) refl refl refl refl
                 (page-in it so.opened.has_page next FD_FILE k refl);
-            home = λ far. so.home (omega arith);
+            kept = λ far. absurd (omega (arith, far));
+            home_is = λ far. so.home_is (omega arith);
             device = λ far. page-left it.view k FD_FILE k FD_DEVICE (inl (omega arith)) ∙ so.device (omega arith);
             read = λ far. absurd (omega (arith, far));
             mode_is = λ far. page-left it.view k FD_FILE k FD_MODE (inl (omega arith)) ∙ so.mode_is (omega arith);
             number_is = λ far. page-told it.view k FD_FILE k (number-small k opening.below) so.opened.has_page.0;
+            sized = λ far. absurd (omega (arith, far));
+            size = λ far. absurd (omega (arith, far));
+            offset = λ far. absurd (omega (arith, far));
+          };
+    })
+
+size-small : (n : ℕ) → n ≤ MAXFILESIZE → n < 2 ^ 32
+size-small n short = omega (arith, short)
+
+pub storing_size : StepFollows step.StoringSize
+storing_size count a it before small files table so word v reply seen =
+    let k : ℕ = it.state.number in
+    let size : ℕ = it.state.count in
+    let next : ServerNext = plans.next_for it.state step.StoringSize word in
+    let w : View = with_page_word it.view it.state.number FD_SIZE it.state.count in
+    let opening = so.opened.opening in
+    let page : HasPage (gone_on it next w) = page-in it so.opened.has_page next FD_SIZE size refl in
+    subst (λ (u : View). Follows count a next.seen (gone_on it next u)) (sym seen) (record {
+      before = before;
+      files = files;
+      table = table-told before.disk a it.view k FD_SIZE size opening.below opening.nobodys table;
+      at =
+          runs.opened (record {
+            path = so.path;
+            mode = so.mode;
+            home = so.home;
+            opened = opened-in a it before so.path so.mode so.home so.opened (gone_on it next w) refl refl refl refl page;
+            kept = λ far. absurd (omega (arith, far));
+            home_is = λ far. so.home_is (omega arith);
+            device = λ far. page-left it.view k FD_SIZE size FD_DEVICE (inl (omega arith)) ∙ so.device (omega arith);
+            read = λ far. absurd (omega (arith, far));
+            mode_is = λ far. page-left it.view k FD_SIZE size FD_MODE (inl (omega arith)) ∙ so.mode_is (omega arith);
+            number_is = λ far. page-left it.view k FD_SIZE size FD_FILE (inl (omega arith)) ∙ so.number_is (omega arith);
+            sized = λ far. absurd (omega (arith, far));
+            size =
+                λ far.
+                page-told it.view k FD_SIZE size
+                (size-small size
+                (subst (λ (n : ℕ). n ≤ MAXFILESIZE) (sym (so.sized refl))
+                (opened-short count a it before files table small so.path so.mode so.home so.opened))) so.opened.has_page.0
+                ∙ so.sized refl
+                ∙ sym (size-stays a it before so.path so.mode so.home so.opened (gone_on it next w) refl refl refl refl page);
             offset = λ far. (refl, refl);
           });
     })
@@ -411,7 +482,8 @@ table-opened disk a v w k f files server below free home page others table =
 acts : (a : AbstractState) (client : ℕ) (path : List ℕ) (mode k : ℕ) (way : List ℕ) (did : Acted) → did.answer ≡ 0 →
     file_named did.files path ≡ Some way →
     after_act a client (open_path path mode) None (Some k) did
-    ≡ with_opened a k (record { way = way; offset = 0; mode = low_mode mode }) did.files (acted client 0 [] (Some a.next_name))
+    ≡ with_opened a k (record { way = way; offset = 0; mode = low_mode mode; size = file_size did.files way }) did.files
+    (acted client 0 [] (Some a.next_name))
 acts a client path mode k way did zero_ named =
     ap
     (λ (n : ℕ).
@@ -425,7 +497,7 @@ unfolding server_step
 steps a b client path mode k server is = ap (served a) server ∙ ap (λ (s : AbstractState). Some s) is
 
 pub storing_opened : ActsAreDone → (count : ℕ) (a : AbstractState) (it : Serving) (before : Memory) → HasFiles count before a.files →
-    TableStands before.disk a it.view → IsTold a it before 5 → (v : View) → v ≡ with_page_word it.view it.state.number FD_OFFSET it.state.at →
+    TableStands before.disk a it.view → IsTold a it before 7 → (v : View) → v ≡ with_page_word it.view it.state.number FD_OFFSET it.state.at →
     (word : ℕ) →
     let next = plans.next_for it.state step.StoringOffset word in Follows count a next.seen (gone_on it next v)
 storing_opened acts_are_done count a it before files table so v seen word =
@@ -438,13 +510,13 @@ storing_opened acts_are_done count a it before files table so v seen word =
     let asked = path-asked a before.page so.path so.mode opening.is_busy.asks in
     let done = acts_are_done count a it.view (open_path so.path so.mode) 0 before m asked.0.no_nul files table opened.has_acted in
     let did : Acted = file_act (is_file_open a) a.files (open_path so.path so.mode) in
-    let f : OpenFile = record { way = opened.way; offset = 0; mode = low_mode so.mode } in
+    let f : OpenFile = record { way = opened.way; offset = 0; mode = low_mode so.mode; size = file_size did.files opened.way } in
     let client : ℕ = client_of it.state in
     let b : AbstractState = with_opened a k f did.files (acted client 0 [] (Some a.next_name)) in
     let named : file_named did.files so.path ≡ Some opened.way = ap (λ (s : FileSystem). file_named s so.path) (sym done.files.are) ∙ opened.named in
-    let home : it.view.homes k ≡ it.state.home = so.home (omega arith) in
+    let home : it.view.homes k ≡ so.home = so.home_is (omega arith) in
     let stands : place_at m.disk opened.way ≡ Some (it.view.homes k) =
-    led-place (BLKSIZE * count) m.disk so.path opened.way it.state.home done.files.disk opened.leads ∙ ap (λ (n : ℕ). Some n) (sym home) in
+    led-place (BLKSIZE * count) m.disk so.path opened.way so.home done.files.disk opened.leads ∙ ap (λ (n : ℕ). Some n) (sym home) in
     let told = so.offset (omega arith) in
     let its_file : HasFile m.disk b w k a.next_name = record {
       f = f;
@@ -455,6 +527,9 @@ storing_opened acts_are_done count a it before files table so v seen word =
       device = page-left it.view k FD_OFFSET it.state.at FD_DEVICE (inl (omega arith)) ∙ so.device (omega arith);
       offset = page-told it.view k FD_OFFSET it.state.at (subst (λ (n : ℕ). n < 2 ^ 32) (sym told.0) (omega arith)) opened.has_page.0 ∙ told.0;
       mode = page-left it.view k FD_OFFSET it.state.at FD_MODE (inr (omega arith)) ∙ so.mode_is (omega arith);
+      size =
+          page-left it.view k FD_OFFSET it.state.at FD_SIZE (inr (omega arith)) ∙ so.size (omega arith)
+          ∙ ap (λ (s : FileSystem). file_size s opened.way) done.files.are;
       number_is = page-left it.view k FD_OFFSET it.state.at FD_FILE (inr (omega arith)) ∙ so.number_is (omega arith);
       small = omega arith;
     } in

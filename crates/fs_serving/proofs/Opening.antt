@@ -10,6 +10,7 @@ use Rattle.jos_base.proofs.Maps.{upd-at, upd-other}
 use Rattle.fs_layout.specs.FileTree.{open_path}
 use Rattle.fs_acts.specs.BlockActs.{led_to}
 use Rattle.fs_jobs.specs.declared.place.Job.TheVariants as job
+use Rattle.fs_runs.specs.JobCalls.{find_calls_max}
 use Rattle.fs_runs.specs.TreeRuns as tree
 use Rattle.fs_runs.specs.TreeRuns.{AreSmall, HasPath, IsOnItsWay, IsRunning, IsSound, Memory, begun_with, found_place}
 use Rattle.fs_runs.proofs.JobsWhole.{all_finds_are_looks, all_jobs_are_acts}
@@ -43,6 +44,7 @@ kind-back kind.Stat = refl
 kind-back kind.Remove = refl
 kind-back kind.Sync = refl
 kind-back kind.Seek = refl
+kind-back kind.ReadAt = refl
 
 pub reading_kind : StepFollows step.ReadingKind
 reading_kind count a it before small files table (k, value, come) word v reply seen =
@@ -116,7 +118,9 @@ module _ (count : ℕ) (a : AbstractState) (it : Serving) (before : Memory) (sen
               is_busy = record { server = server; kind_is = kind_is; asks = runs.removes path has_path };
               first = refl;
               running =
-                  subst (λ (m : Memory). IsRunning count (found_place before.disk (led_to before.disk path)) before (begun_with job.Find) m)
+                  subst
+                  (λ (m : Memory).
+                  IsRunning (find_calls_max count) count (found_place before.disk (led_to before.disk path)) before (begun_with job.Find) m)
                   (sym memory) (record { left = found.0; soon = found.1; ends = found.2; few = found.3 });
             });
       }
@@ -128,6 +132,8 @@ module _ (count : ℕ) (a : AbstractState) (it : Serving) (before : Memory) (sen
         at = (record { server = server; kind_is = kind_is; asks = runs.syncs }, memory);
       }
   by-asked kind.Read request kind_is server (runs.reads name f is_open) = of-file kind.Read request kind_is server (runs.reads name f is_open) refl
+  by-asked kind.ReadAt request kind_is server (runs.reads_at name f is_open near) =
+      of-file kind.ReadAt request kind_is server (runs.reads_at name f is_open near) refl
   by-asked kind.Write request kind_is server (runs.writes name f is_open fits) =
       of-file kind.Write request kind_is server (runs.writes name f is_open fits) refl
   by-asked kind.SetSize request kind_is server (runs.sizes name f is_open) =

@@ -19,6 +19,7 @@ module _ (disk : ℕ → ℕ) (a : AbstractState) (v : View) where
     device = has.device;
     offset = has.offset;
     mode = has.mode;
+    size = has.size;
     number_is = has.number_is;
     small = has.small;
   }
@@ -53,6 +54,7 @@ module _ (disk : ℕ → ℕ) (a : AbstractState) (v : View) where
     device = has.device;
     offset = has.offset;
     mode = has.mode;
+    size = has.size;
     number_is = has.number_is;
     small = has.small;
   }

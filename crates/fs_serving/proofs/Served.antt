@@ -28,6 +28,8 @@ pub record Pieces : Type 0 where
   pub reading_mode_again : StepFollows step.ReadingModeAgain
   pub storing_mode : StepFollows step.StoringMode
   pub storing_file : StepFollows step.StoringFile
+  pub reading_record_again : StepFollows step.ReadingRecordAgain
+  pub storing_size : StepFollows step.StoringSize
   pub advancing : StepFollows step.Advancing
   pub storing_offset : StepFollows step.StoringOffset
   pub checking_record : StepFollows step.CheckingRecord
@@ -36,6 +38,7 @@ pub record Pieces : Type 0 where
   pub acting : StepFollows step.Acting
   pub working : JobFollows step.Working
   pub finding : JobFollows step.Finding
+  pub sizing : JobFollows step.Sizing
   pub flushing : FlushFollows
 
 -- a call of a step, told by the step
@@ -64,6 +67,11 @@ module _ (pieces : Pieces) (count : ℕ) (a : AbstractState) (it : Serving) (sma
   by-step step.ReadingModeAgain is serves = by-call step.ReadingModeAgain pieces.reading_mode_again count a it is small stands
   by-step step.StoringMode is serves = by-call step.StoringMode pieces.storing_mode count a it is small stands
   by-step step.StoringFile is serves = by-call step.StoringFile pieces.storing_file count a it is small stands
+  by-step step.ReadingRecordAgain is serves = by-call step.ReadingRecordAgain pieces.reading_record_again count a it is small stands
+  by-step step.Sizing is serves =
+      pieces.sizing count a it stands.before is stands.files stands.table
+      (subst (λ (x : ServerStep). StandsAtStep x count a it stands.before) is stands.at)
+  by-step step.StoringSize is serves = by-call step.StoringSize pieces.storing_size count a it is small stands
   by-step step.Advancing is serves = by-call step.Advancing pieces.advancing count a it is small stands
   by-step step.StoringOffset is serves = by-call step.StoringOffset pieces.storing_offset count a it is small stands
   by-step step.CheckingRecord is serves = by-call step.CheckingRecord pieces.checking_record count a it is small stands

@@ -4,9 +4,10 @@ use Rattle.fs_serving.proofs.Acting.{acting, flushing}
 use Rattle.fs_serving.proofs.ActsDone.{acts_are_done}
 use Rattle.fs_serving.proofs.Finding.{finding}
 use Rattle.fs_serving.proofs.OfFiles.{reading_count, reading_file, reading_offset, reading_record}
-use Rattle.fs_serving.proofs.Opened.{reading_mode_again, storing_device, storing_file, storing_mode, storing_opened, storing_record}
+use Rattle.fs_serving.proofs.Opened.{reading_mode_again, storing_device, storing_file, storing_mode, storing_opened, storing_record, storing_size}
 use Rattle.fs_serving.proofs.Opening.{looking_entry, looking_holders, looking_record, reading_client, reading_kind, reading_mode, taking_page}
 use Rattle.fs_serving.proofs.Removing.{checking_entry, checking_holders, checking_record}
+use Rattle.fs_serving.proofs.Sizing.{reading_record_again, sizing}
 use Rattle.fs_serving.proofs.Storing.{advancing, storing_offset}
 use Rattle.fs_serving.proofs.Working.{working}
 use Rattle.fs_serving.proofs.Served.{Pieces, servers_serve}
@@ -25,6 +26,9 @@ pieces = record {
   reading_mode_again = reading_mode_again;
   storing_mode = storing_mode;
   storing_file = storing_file;
+  reading_record_again = reading_record_again;
+  sizing = sizing;
+  storing_size = storing_size;
   reading_file = reading_file;
   reading_offset = reading_offset;
   reading_count = reading_count;

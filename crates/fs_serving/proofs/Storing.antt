@@ -21,7 +21,8 @@ use Rattle.fs_acts.specs.BlockLaws.{HasString}
 use Rattle.fs_acts.proofs.Stored.{stored-word, stored-word_left}
 use Rattle.fs_acts.proofs.Undamaged.{way-reached}
 use Rattle.fs_runs.specs.TreeRuns.{HasActed, Memory, bytes_given}
-use Rattle.lib_os.specs.declared.numbers.TheConstants.{FD_DEVICE, FD_FILE, FD_MODE, FD_OFFSET, MAXOPEN, REQUEST_COUNT, REQUEST_FILE}
+use Rattle.lib_os.specs.declared.numbers.TheConstants.{FD_DEVICE, FD_FILE, FD_MODE, FD_OFFSET, FD_SIZE, MAXOPEN, REQUEST_COUNT}
+use Rattle.lib_os.specs.declared.numbers.TheConstants.{REQUEST_FILE}
 use Rattle.lib_os.specs.declared.progress.Progress.TheVariants as progress
 use Rattle.lib_os.specs.declared.request.RequestKind.{RequestKind}
 use Rattle.lib_os.specs.declared.request.RequestKind.TheVariants as kind
@@ -31,8 +32,8 @@ use Rattle.lib_os.specs.FileServer.{act_done, after_act, is_count, is_file_open,
 use Rattle.fs_requests.specs.declared.state.ServerStep.TheVariants as step
 use Rattle.fs_requests.specs.ServerPlans.{next_for, shown}
 use Rattle.fs_serving.specs.ServerRuns.{AsksFor, Follows, HasFile, HasFiles, IsMoving, IsOpenAs, IsReplying, IsStoring, IsTold}
-use Rattle.fs_serving.specs.ServerRuns.{PlaceStands, StandsServing, TableStands, client_of, moved, opened, opens, reads, removes, seeks, sizes}
-use Rattle.fs_serving.specs.ServerRuns.{sought}
+use Rattle.fs_serving.specs.ServerRuns.{PlaceStands, StandsServing, TableStands, client_of, moved, opened, opens, reads, reads_at, removes}
+use Rattle.fs_serving.specs.ServerRuns.{seeks, sizes, sought}
 use Rattle.fs_serving.specs.ServerRuns.{stats, syncs, writes}
 use Rattle.fs_serving.specs.ServerViews.{Serving, View, gone_on, page_word, with_page_word, with_word, word_of}
 use Rattle.fs_serving.proofs.Pieces.{ActIsDone, ActsAreDone, StepFollows}
@@ -101,6 +102,7 @@ module _ (disk : ℕ → ℕ) (a : AbstractState) (v : View) (number name offset
             ap (λ (p : Option (ℕ → ℕ)). word_of p FD_OFFSET) here
             ∙ word-told (v.pages number) FD_OFFSET offset old_file.there (omega arith);
         mode = left FD_MODE (inr (omega arith)) ∙ old_file.mode ∙ ap (λ (g : OpenFile). g.mode) same;
+        size = left FD_SIZE (inr (omega arith)) ∙ old_file.size ∙ ap (λ (g : OpenFile). g.size) same;
         number_is = left FD_FILE (inr (omega arith)) ∙ old_file.number_is;
         small = short;
       }
@@ -118,6 +120,7 @@ module _ (disk : ℕ → ℕ) (a : AbstractState) (v : View) (number name offset
         device = read FD_DEVICE ∙ has.device;
         offset = read FD_OFFSET ∙ has.offset;
         mode = read FD_MODE ∙ has.mode;
+        size = read FD_SIZE ∙ has.size;
         number_is = read FD_FILE ∙ has.number_is;
         small = has.small;
       }
@@ -404,6 +407,8 @@ unfolding ActedBy
 by_move acts_done count a it before files table _ _ (opens path mode has mode_is) moves server kind_is number has_acted many at_is =
     absurd (false≢true moves)
 by_move acts_done count a it before files table _ _ (removes path has) moves server kind_is number has_acted many at_is = absurd (false≢true moves)
+by_move acts_done count a it before files table _ _ (reads_at name f so near) moves server kind_is number has_acted many at_is =
+    absurd (false≢true moves)
 by_move acts_done count a it before files table _ _ (sizes name f so) moves server kind_is number has_acted many at_is = absurd (false≢true moves)
 by_move acts_done count a it before files table _ _ (stats name f so) moves server kind_is number has_acted many at_is = absurd (false≢true moves)
 by_move acts_done count a it before files table _ _ (seeks name f so small) moves server kind_is number has_acted many at_is =
@@ -433,6 +438,7 @@ unfolding SoughtBy
 sought_in a page _ _ (opens path mode has mode_is) = tt
 sought_in a page _ _ (removes path has) = tt
 sought_in a page _ _ (reads name f so) = tt
+sought_in a page _ _ (reads_at name f so near) = tt
 sought_in a page _ _ (writes name f so within) = tt
 sought_in a page _ _ (sizes name f so) = tt
 sought_in a page _ _ (stats name f so) = tt
@@ -442,7 +448,7 @@ sought_in a page _ _ syncs = tt
 -- the store that opens a file
 abbrev pub OpenedFollows : Type 0
 OpenedFollows = (count : ℕ) (a : AbstractState) (it : Serving) (before : Memory) → HasFiles count before a.files → TableStands before.disk a it.view →
-    IsTold a it before 5 → (v : View) → v ≡ with_page_word it.view it.state.number FD_OFFSET it.state.at → (word : ℕ) →
+    IsTold a it before 7 → (v : View) → v ≡ with_page_word it.view it.state.number FD_OFFSET it.state.at → (word : ℕ) →
     let next = next_for it.state step.StoringOffset word in Follows count a next.seen (gone_on it next v)
 
 pub storing_offset : ActsAreDone → OpenedFollows → StepFollows step.StoringOffset

@@ -8,7 +8,7 @@ use Rattle.fs_layout.specs.DiskImage.{is_directory_at}
 use Rattle.fs_layout.specs.FileTree.{FileSystem}
 use Rattle.fs_acts.specs.BlockActs.{put_word}
 use Rattle.fs_acts.proofs.Stored.{stored-word, stored-word_left}
-use Rattle.lib_os.specs.declared.numbers.TheConstants.{FD_DEVICE, FD_FILE, FD_MODE, FD_OFFSET, MAXOPEN}
+use Rattle.lib_os.specs.declared.numbers.TheConstants.{FD_DEVICE, FD_FILE, FD_MODE, FD_OFFSET, FD_SIZE, MAXOPEN}
 use Rattle.lib_os.specs.AbstractState.{AbstractState, Object, OpenFile, Server, TablePlace, file}
 use Rattle.lib_os.specs.Descriptors.{is_held}
 use Rattle.lib_os.specs.FileServer.{is_held_by}
@@ -46,6 +46,7 @@ file-kept disk a objects opened next files server v w number name home page obje
       device = ap (λ (p : Option (ℕ → ℕ)). word_of p FD_DEVICE) page ∙ has.device;
       offset = ap (λ (p : Option (ℕ → ℕ)). word_of p FD_OFFSET) page ∙ has.offset;
       mode = ap (λ (p : Option (ℕ → ℕ)). word_of p FD_MODE) page ∙ has.mode;
+      size = ap (λ (p : Option (ℕ → ℕ)). word_of p FD_SIZE) page ∙ has.size;
       number_is = ap (λ (p : Option (ℕ → ℕ)). word_of p FD_FILE) page ∙ has.number_is;
       small = has.small;
     }

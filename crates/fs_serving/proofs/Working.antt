@@ -32,7 +32,7 @@ use Rattle.fs_requests.specs.declared.state.ServerStep.{ServerStep}
 use Rattle.fs_requests.specs.declared.state.ServerStep.TheVariants as step
 use Rattle.fs_requests.specs.ServerPlans as plans
 use Rattle.fs_serving.specs.ServerRuns.{AsksFor, Follows, HasFiles, HasPage, IsBusy, IsClosed, IsMoving, IsOpening, IsWorking, OpenAlike, StandsAtStep}
-use Rattle.fs_serving.specs.ServerRuns.{TableStands, client_of, memory_worked, opened, opens, reads, removes, sizes, stats, syncs}
+use Rattle.fs_serving.specs.ServerRuns.{TableStands, client_of, memory_worked, opened, opens, reads, reads_at, removes, sizes, stats, syncs}
 use Rattle.fs_serving.specs.ServerRuns.{worked, writes}
 use Rattle.fs_serving.specs.ServerViews.{Serving, gone_on}
 use Rattle.fs_serving.proofs.ActsDone.{acts_are_done}
@@ -320,6 +320,9 @@ module _ (count : ℕ) (a : AbstractState) (it : Serving) (before : Memory) (fil
   by-asks word _ _ _ place kind_is server (reads name f so) acted closed opening moving no_place =
       has-moved word kind.Read _ name place (record { server = server; kind_is = kind_is; asks = reads name f so }) (λ e. cc) acted tt refl (moving refl)
       (no_place refl)
+  by-asks word _ _ _ place kind_is server (reads_at name f so near) acted closed opening moving no_place =
+      is-done word kind.ReadAt _ None place (record { server = server; kind_is = kind_is; asks = reads_at name f so near }) acted tt (inl refl)
+      (λ e. cc)
   by-asks word _ _ _ place kind_is server (writes name f so within) acted closed opening moving no_place =
       has-moved word kind.Write _ name place (record { server = server; kind_is = kind_is; asks = writes name f so within }) (λ e. cc) acted tt refl
       (moving refl) (no_place refl)

@@ -11,17 +11,17 @@ use Rattle.fs_layout.specs.declared.numbers.TheConstants.{BLKSIZE}
 use Rattle.fs_layout.specs.DiskFiles.{IsDiskImage, file_system_of}
 use Rattle.fs_layout.specs.DiskImage.{block_count, is_directory_at}
 use Rattle.fs_layout.specs.FileActs.{file_named}
-use Rattle.fs_layout.specs.FileTree.{FileAct, FileSystem, open_path, read_file, remove_path, set_file_size, stat_file, sync_files, write_file}
+use Rattle.fs_layout.specs.FileTree.{FileAct, FileSystem, file_size, open_path, read_file, remove_path, set_file_size, stat_file, sync_files, write_file}
 use Rattle.fs_acts.specs.BlockActs.{a_record, led_to, place_at}
 use Rattle.fs_jobs.specs.declared.asks.TreeNext.TheVariants.{Answer, GoOn}
 use Rattle.fs_jobs.specs.declared.place.TreeState.{TreeState}
 use Rattle.fs_jobs.specs.TreeBounds.{is_bounded}
-use Rattle.fs_runs.specs.JobCalls.{find_calls_max, job_steps_max}
+use Rattle.fs_runs.specs.JobCalls.{find_calls_max, job_steps_max, size_calls_max}
 use Rattle.fs_runs.specs.TreePlans as tree
 use Rattle.fs_runs.specs.TreeRuns.{AreSmall, FewerCalls, HasActed, HasPath, IsInside, IsOnItsWay, IsRunning, Memory, bytes_given, calls_of}
 use Rattle.fs_runs.specs.TreeRuns.{found_place, memory_after, reply_of}
-use Rattle.lib_os.specs.declared.numbers.TheConstants.{DEVICE_FILE, FD_DEVICE, FD_FILE, FD_MODE, FD_OFFSET, MAXOPEN}
-use Rattle.lib_os.specs.declared.numbers.TheConstants.{REQUEST_COUNT, REQUEST_FILE, REQUEST_MODE}
+use Rattle.lib_os.specs.declared.numbers.TheConstants.{DEVICE_FILE, FD_DEVICE, FD_FILE, FD_MODE, FD_OFFSET, FD_SIZE, MAXOPEN}
+use Rattle.lib_os.specs.declared.numbers.TheConstants.{REQUEST_COUNT, REQUEST_FILE, REQUEST_MODE, REQUEST_PLACE}
 use Rattle.lib_os.specs.declared.progress.Progress.{Progress}
 use Rattle.lib_os.specs.declared.progress.Progress.TheVariants as progress
 use Rattle.lib_os.specs.declared.request.RequestKind.{RequestKind}
@@ -39,7 +39,7 @@ use Rattle.fs_requests.specs.declared.state.ServerState.{ServerState}
 use Rattle.fs_requests.specs.declared.state.ServerStep.{ServerStep}
 use Rattle.fs_requests.specs.declared.state.ServerStep.TheVariants as step
 use Rattle.fs_requests.specs.ServerPlans.{ask_at, next_at}
-use Rattle.fs_serving.specs.ServerViews.{Calls, Serving, View, gone_on, page_word, request_word}
+use Rattle.fs_serving.specs.ServerViews.{Calls, Serving, View, gone_on, page_word, place_told, request_word}
 
 -- ---- the files
 
@@ -61,6 +61,7 @@ pub record HasFile (disk : ℕ → ℕ) (a : AbstractState) (v : View) (number n
   pub device : page_word v number FD_DEVICE ≡ DEVICE_FILE
   pub offset : page_word v number FD_OFFSET ≡ f.offset
   pub mode : page_word v number FD_MODE ≡ f.mode
+  pub size : page_word v number FD_SIZE ≡ f.size
   pub number_is : page_word v number FD_FILE ≡ number
   pub small : f.offset < 2 ^ 31
 
@@ -98,6 +99,8 @@ pub data AsksFor (a : AbstractState) (page : ℕ → ℕ) : RequestKind → Requ
   removes : (path : List ℕ) → HasPath page path → AsksFor a page kind.Remove (act (remove_path path) None)
   reads : (name : ℕ) (f : OpenFile) → IsOpenAs a page name f →
       AsksFor a page kind.Read (act (read_file f.way f.offset (word_at page REQUEST_COUNT)) (Some name))
+  reads_at : (name : ℕ) (f : OpenFile) → IsOpenAs a page name f → word_at page REQUEST_PLACE < 2 ^ 31 →
+      AsksFor a page kind.ReadAt (act (read_file f.way (word_at page REQUEST_PLACE) (word_at page REQUEST_COUNT)) None)
   writes : (name : ℕ) (f : OpenFile) → IsOpenAs a page name f → word_at page REQUEST_COUNT + 8 ≤ PGSIZE →
       AsksFor a page kind.Write (act (write_file f.way f.offset (bytes_given page (word_at page REQUEST_COUNT))) (Some name))
   sizes : (name : ℕ) (f : OpenFile) → IsOpenAs a page name f →
@@ -145,7 +148,7 @@ abbrev pub HasNumber : Serving → Type 0
 HasNumber it = it.state.number ≡ request_word it.view REQUEST_FILE
 
 abbrev pub HasOffset : Serving → Type 0
-HasOffset it = it.state.at ≡ page_word it.view it.state.number FD_OFFSET
+HasOffset it = it.state.at ≡ place_told it.state.kind it.view it.state.number
 
 -- ---- opening
 
@@ -181,17 +184,25 @@ pub record IsOpened (a : AbstractState) (it : Serving) (before : Memory) (path :
   pub regular : is_directory_at it.view.memory.disk home ≡ false
   pub named : file_named (file_system_of it.view.memory.disk) path ≡ Some way
 
--- so much of the place's page is told
+-- the size that what is opened has
+abbrev pub size_opened : {a : AbstractState} {it : Serving} {before : Memory} {path : List ℕ} {mode home : ℕ} → IsOpened a it before path mode home → ℕ
+size_opened {it = it} opened = file_size (file_system_of it.view.memory.disk) opened.way
+
+-- So much of the place's page is told. Where the record stands is kept up to where the table has it.
 pub record IsTold (a : AbstractState) (it : Serving) (before : Memory) (told : ℕ) : Type 0 where
   pub path : List ℕ
   pub mode : ℕ
-  pub opened : IsOpened a it before path mode it.state.home
-  pub home : 1 ≤ told → it.view.homes it.state.number ≡ it.state.home
+  pub home : ℕ
+  pub opened : IsOpened a it before path mode home
+  pub kept : told ≡ 0 → it.state.home ≡ home
+  pub home_is : 1 ≤ told → it.view.homes it.state.number ≡ home
   pub device : 2 ≤ told → page_word it.view it.state.number FD_DEVICE ≡ DEVICE_FILE
   pub read : told ≡ 3 → it.state.count ≡ mode
   pub mode_is : 4 ≤ told → page_word it.view it.state.number FD_MODE ≡ low_mode mode
   pub number_is : 5 ≤ told → page_word it.view it.state.number FD_FILE ≡ it.state.number
-  pub offset : 5 ≤ told → (it.state.at ≡ 0) × (it.state.count ≡ 0)
+  pub sized : told ≡ 6 → it.state.count ≡ size_opened opened
+  pub size : 7 ≤ told → page_word it.view it.state.number FD_SIZE ≡ size_opened opened
+  pub offset : 7 ≤ told → (it.state.at ≡ 0) × (it.state.count ≡ 0)
 
 -- ---- acts on files
 
@@ -255,7 +266,7 @@ pub record IsDone (a : AbstractState) (it : Serving) (before : Memory) : Type 0 
 
 -- an offset is about to be stored: of what was opened, where bytes were moved, or where it was sought
 pub data IsStoring (a : AbstractState) (it : Serving) (before : Memory) : Type 0 where
-  opened : IsTold a it before 5 → IsStoring a it before
+  opened : IsTold a it before 7 → IsStoring a it before
   moved : (so : HasMoved a it before) → it.state.at ≡ (page_word it.view it.state.number FD_OFFSET + it.state.count) % 2 ^ 32 →
       IsStoring a it before
   sought : (name : ℕ) → IsBusy a it before None kind.Seek (seek name it.state.at) → it.state.number ≡ word_at before.page REQUEST_FILE →
@@ -268,7 +279,7 @@ pub record IsFinding (count : ℕ) (a : AbstractState) (it : Serving) (before : 
   pub path : List ℕ
   pub is_busy : IsBusy a it before None kind.Remove (act (remove_path path) None)
   pub first : it.state.number ≡ 0
-  pub running : IsRunning count (found_place before.disk (led_to before.disk path)) before it.job it.view.memory
+  pub running : IsRunning (find_calls_max count) count (found_place before.disk (led_to before.disk path)) before it.job it.view.memory
 
 -- The file is not open at a place below that at hand.
 pub record IsChecking (a : AbstractState) (it : Serving) (before : Memory) : Type 0 where
@@ -289,8 +300,14 @@ over it m = record it { view = record it.view { memory = m } }
 -- What was opened is looked up, or what is to be removed. The run leaves the memory over which what is opened was told.
 pub data IsFound (count : ℕ) (a : AbstractState) (it : Serving) (before : Memory) : Type 0 where
   opened : (path : List ℕ) (mode home : ℕ) {m : Memory} → IsOpened a (over it m) before path mode home →
-      IsRunning count home m it.job it.view.memory → IsFound count a it before
+      IsRunning (find_calls_max count) count home m it.job it.view.memory → IsFound count a it before
   removed : IsFinding count a it before → IsFound count a it before
+
+-- How many bytes that has which is opened is asked for. The run leaves the memory over which all else was told.
+pub record IsSizing (count : ℕ) (a : AbstractState) (it : Serving) (before : Memory) : Type 0 where
+  pub left_as : Memory
+  pub so_far : IsTold a (over it left_as) before 5
+  pub running : IsRunning size_calls_max count (size_opened so_far.opened) left_as it.job it.view.memory
 
 -- ---- replying
 
@@ -345,6 +362,9 @@ StandsAtStep step.StoringDevice count a it before = IsTold a it before 1
 StandsAtStep step.ReadingModeAgain count a it before = IsTold a it before 2
 StandsAtStep step.StoringMode count a it before = IsTold a it before 3
 StandsAtStep step.StoringFile count a it before = IsTold a it before 4
+StandsAtStep step.ReadingRecordAgain count a it before = IsTold a it before 5
+StandsAtStep step.Sizing count a it before = IsSizing count a it before
+StandsAtStep step.StoringSize count a it before = IsTold a it before 6
 StandsAtStep step.Advancing count a it before = HasMoved a it before
 StandsAtStep step.StoringOffset count a it before = IsStoring a it before
 StandsAtStep step.CheckingRecord count a it before = IsChecking a it before
@@ -420,6 +440,7 @@ ServersServe = (count : ℕ) (a : AbstractState) (it : Serving) → is_serving i
 abbrev pub has_job : ServerStep → Bool
 has_job step.Working = true
 has_job step.Finding = true
+has_job step.Sizing = true
 has_job _ = false
 
 -- how many steps it has left
@@ -430,6 +451,7 @@ found_left count a it before (removed is) = is.running.left
 abbrev pub left_at : (at : ServerStep) (count : ℕ) (a : AbstractState) (it : Serving) (before : Memory) → StandsAtStep at count a it before → ℕ
 left_at step.Working count a it before is = is.on_its_way.left
 left_at step.Finding count a it before is = found_left count a it before is
+left_at step.Sizing count a it before is = is.running.left
 left_at _ count a it before is = 0
 
 abbrev pub job_left : (count : ℕ) (a : AbstractState) (it : Serving) → StandsServing count a it → ℕ
@@ -444,6 +466,7 @@ abbrev pub calls_at : (at : ServerStep) (count : ℕ) (a : AbstractState) (it : 
     Option ℕ → ℕ
 calls_at step.Working count a it before is found = calls_of found is.on_its_way.ends
 calls_at step.Finding count a it before is found = found_calls count a it before is found
+calls_at step.Sizing count a it before is found = calls_of found is.running.ends
 calls_at _ count a it before is found = 0
 
 abbrev pub job_calls : (count : ℕ) (a : AbstractState) (it : Serving) → StandsServing count a it → Option ℕ → ℕ
@@ -457,6 +480,7 @@ work_calls_max other count = 2 ^ 13 * count + 65000
 
 abbrev pub job_calls_max : ServerStep → Option RequestKind → ℕ → ℕ
 job_calls_max step.Finding k count = find_calls_max count
+job_calls_max step.Sizing k count = size_calls_max
 job_calls_max _ k count = work_calls_max k count
 
 -- A job that goes on.

@@ -7,8 +7,10 @@ use Rattle.fs_acts.specs.BlockActs.{put_word, stored}
 use Rattle.fs_jobs.specs.declared.place.Job.{Job}
 use Rattle.fs_jobs.specs.declared.place.TreeState.{TreeState}
 use Rattle.fs_runs.specs.TreeRuns.{Memory, begun_with}
-use Rattle.lib_os.specs.declared.numbers.TheConstants.{DEVICE_FILE, FD_DEVICE, FD_FILE, FD_MODE, FD_OFFSET, MAXOPEN}
-use Rattle.lib_os.specs.declared.numbers.TheConstants.{REQUEST_COUNT, REQUEST_FILE, REQUEST_MODE}
+use Rattle.lib_os.specs.declared.numbers.TheConstants.{DEVICE_FILE, FD_DEVICE, FD_FILE, FD_MODE, FD_OFFSET, FD_SIZE, MAXOPEN}
+use Rattle.lib_os.specs.declared.numbers.TheConstants.{REQUEST_COUNT, REQUEST_FILE, REQUEST_MODE, REQUEST_PLACE}
+use Rattle.lib_os.specs.declared.request.RequestKind.{RequestKind}
+use Rattle.lib_os.specs.declared.request.RequestKind.TheVariants as kind
 use Rattle.fs_requests.specs.declared.plan.ServerNext.{ServerNext}
 use Rattle.fs_requests.specs.declared.state.ServerState.{ServerState}
 use Rattle.fs_requests.specs.declared.state.ServerStep.{ServerStep}
@@ -50,12 +52,17 @@ word_of (Some page) at = word_at page at
 abbrev pub page_word : View → ℕ → ℕ → ℕ
 page_word v number at = word_of (v.pages number) at
 
+-- the place of the next byte, which the file's page tells, or the request
+abbrev pub place_told : Option RequestKind → View → ℕ → ℕ
+place_told (Some kind.ReadAt) v number = request_word v REQUEST_PLACE
+place_told _ v number = page_word v number FD_OFFSET
+
 -- The word that comes of a step's call, where that is told by what is seen. An entry has the frame of the place's page.
 abbrev pub IsReplyFor : ServerStep → ServerState → View → ℕ → Type 0
 IsReplyFor step.ReadingKind st v word = word ≡ v.value
 IsReplyFor step.ReadingClient st v word = word ≡ v.sender
 IsReplyFor step.ReadingFile st v word = word ≡ request_word v REQUEST_FILE
-IsReplyFor step.ReadingOffset st v word = word ≡ page_word v st.number FD_OFFSET
+IsReplyFor step.ReadingOffset st v word = word ≡ place_told st.kind v st.number
 IsReplyFor step.ReadingCount st v word = word ≡ request_word v REQUEST_COUNT
 IsReplyFor step.ReadingRecord st v word = word ≡ v.homes st.number
 IsReplyFor step.LookingRecord st v word = word ≡ v.homes st.number
@@ -64,6 +71,7 @@ IsReplyFor step.LookingHolders st v word = word ≡ v.holders (st.at / PGSIZE)
 IsReplyFor step.TakingPage st v word = word ≡ 0
 IsReplyFor step.ReadingMode st v word = word ≡ request_word v REQUEST_MODE
 IsReplyFor step.ReadingModeAgain st v word = word ≡ request_word v REQUEST_MODE
+IsReplyFor step.ReadingRecordAgain st v word = word ≡ v.homes st.number
 IsReplyFor step.Advancing st v word = word ≡ page_word v st.number FD_OFFSET
 IsReplyFor step.CheckingRecord st v word = word ≡ v.homes st.number
 IsReplyFor step.CheckingEntry st v word = word / PGSIZE ≡ v.frames st.number
@@ -90,6 +98,7 @@ IsSeenBehind step.StoringRecord st v w = w ≡ record v { homes = upd v.homes st
 IsSeenBehind step.StoringDevice st v w = w ≡ with_page_word v st.number FD_DEVICE DEVICE_FILE
 IsSeenBehind step.StoringMode st v w = w ≡ with_page_word v st.number FD_MODE (st.count % 4)
 IsSeenBehind step.StoringFile st v w = w ≡ with_page_word v st.number FD_FILE st.number
+IsSeenBehind step.StoringSize st v w = w ≡ with_page_word v st.number FD_SIZE st.count
 IsSeenBehind step.StoringOffset st v w = w ≡ with_page_word v st.number FD_OFFSET st.at
 IsSeenBehind step.TakingPage st v w = (frame : ℕ) × (holders : ℕ → ℕ) × (w ≡ with_new_page v st.number frame holders) × (holders frame ≡ 1)
     × ((k : ℕ) → k < MAXOPEN → k ≢ st.number → v.homes k ≢ 0 → holders (v.frames k) ≡ v.holders (v.frames k))

@@ -112,6 +112,7 @@ begun state (job.Write home at count) = begun_at state home
 begun state (job.Create directory slot from) = begun_at state directory
 begun state (job.SetSize home size) = begun_at state home
 begun state (job.Stat home) = begun_at state home
+begun state (job.Size home) = begun_at state home
 
 -- a file is opened, or found: then its record's place is told
 abbrev pub opened : TreeState → Job → ℕ → TreeNext

@@ -196,6 +196,7 @@ fn begun(state: TreeState) -> TreeNext
         | Job::Write { home, .. }
         | Job::SetSize { home, .. }
         | Job::Stat { home }
+        | Job::Size { home }
         | Job::Create {
             directory: home,
             ..

@@ -20,7 +20,7 @@ use Rattle.lib_os.specs.FileServer.{act_done, after_act, file_opened, is_count, 
 use Rattle.lib_os.specs.FileServer.{with_offset, with_offset_of}
 use Rattle.lib_os.proofs.ServerActs.{LooksBelow, LooksBelowBy, MovesNoOffset, MovesNoOffsetBy, OpensFree, OpensFreeBy, blocks_stay}
 use Rattle.fs_serving.specs.ServerRuns.{AsksFor, HasFiles, HasMoved, IsBusy, IsChecking, IsDone, IsLooking, IsMoving, IsOpenAs, IsTold}
-use Rattle.fs_serving.specs.ServerRuns.{TableStands, client_of, opens, reads, removes, seeks, sizes, stats, syncs, writes}
+use Rattle.fs_serving.specs.ServerRuns.{TableStands, client_of, opens, reads, reads_at, removes, seeks, sizes, stats, syncs, writes}
 use Rattle.fs_serving.specs.ServerViews.{Serving, page_word}
 use Rattle.fs_serving.proofs.Acting.{asked-string}
 use Rattle.fs_serving.proofs.ActsDone.{acts_are_done}
@@ -146,6 +146,7 @@ unfolding SoughtBy
 sought_in a page _ _ (opens path mode has mode_is) = tt
 sought_in a page _ _ (removes path has) = tt
 sought_in a page _ _ (reads name f so) = tt
+sought_in a page _ _ (reads_at name f so small) = tt
 sought_in a page _ _ (writes name f so within) = tt
 sought_in a page _ _ (sizes name f so) = tt
 sought_in a page _ _ (stats name f so) = tt
@@ -206,7 +207,7 @@ module _ (count : ℕ) (a : AbstractState) (it : Serving) (m : Memory) (files : 
 
   -- ---- what was opened is told
 
-  pub opened_shows : IsTold a it m 5 → Shows a
+  pub opened_shows : IsTold a it m 7 → Shows a
   opened_shows told =
       let so = told.opened in
       let is = so.opening in
@@ -291,6 +292,7 @@ module _ (count : ℕ) (a : AbstractState) (it : Serving) (m : Memory) (files : 
   unfolding ActedBy
   moved_by _ _ (opens path mode has mode_is) moves server number has_acted many at_is = absurd (false≢true moves)
   moved_by _ _ (removes path has) moves server number has_acted many at_is = absurd (false≢true moves)
+  moved_by _ _ (reads_at name f so small) moves server number has_acted many at_is = absurd (false≢true moves)
   moved_by _ _ (sizes name f so) moves server number has_acted many at_is = absurd (false≢true moves)
   moved_by _ _ (stats name f so) moves server number has_acted many at_is = absurd (false≢true moves)
   moved_by _ _ (seeks name f so small) moves server number has_acted many at_is = absurd (false≢true moves)

@@ -44,6 +44,7 @@ module _ (k : Slot) where
   asked_by (Some kind.Remove) word j same meets told = same ∙ told refl
   asked_by (Some kind.Sync) word j same meets told = same ∙ told refl
   asked_by (Some kind.Seek) word j same meets told = same ∙ told refl
+  asked_by (Some kind.ReadAt) word j same meets told = same ∙ told refl
 
   counted_by : (o : Option RequestKind) (word : ℕ) → KeepsClient step.ReadingCount word (count_by o st word)
   counted_by None word j same meets told = same
@@ -55,6 +56,7 @@ module _ (k : Slot) where
   counted_by (Some kind.Remove) word j same meets told = same
   counted_by (Some kind.Sync) word j same meets told = same
   counted_by (Some kind.Seek) word j same meets told = same
+  counted_by (Some kind.ReadAt) word j same meets told = same
 
   held_by : (word : ℕ) → KeepsClient step.LookingHolders word (next_holders st word)
   held_by word =
@@ -91,6 +93,8 @@ module _ (k : Slot) where
   keeps_client step.ReadingModeAgain word is = λ j same meets told. same
   keeps_client step.StoringMode word is = λ j same meets told. same
   keeps_client step.StoringFile word is = λ j same meets told. same
+  keeps_client step.ReadingRecordAgain word is = λ j same meets told. same
+  keeps_client step.StoringSize word is = λ j same meets told. same
   keeps_client step.Advancing word is = λ j same meets told. same
   keeps_client step.StoringOffset word is = λ j same meets told. same
   keeps_client step.CheckingRecord word is =
@@ -105,6 +109,7 @@ module _ (k : Slot) where
   keeps_client step.Receiving word is = absurd (let contradiction : false ≡ true = is in cc)
   keeps_client step.Working word is = absurd (let contradiction : false ≡ true = is in cc)
   keeps_client step.Finding word is = absurd (let contradiction : false ≡ true = is in cc)
+  keeps_client step.Sizing word is = absurd (let contradiction : false ≡ true = is in cc)
   keeps_client step.Flushing word is = absurd (let contradiction : false ≡ true = is in cc)
   keeps_client step.Replying word is = absurd (let contradiction : false ≡ true = is in cc)
   keeps_client step.Pausing word is = absurd (let contradiction : false ≡ true = is in cc)
@@ -128,6 +133,8 @@ calls_it st step.StoringDevice is = refl
 calls_it st step.ReadingModeAgain is = refl
 calls_it st step.StoringMode is = refl
 calls_it st step.StoringFile is = refl
+calls_it st step.ReadingRecordAgain is = refl
+calls_it st step.StoringSize is = refl
 calls_it st step.Advancing is = refl
 calls_it st step.StoringOffset is = refl
 calls_it st step.CheckingRecord is = refl
@@ -138,6 +145,7 @@ calls_it st step.Releasing is = refl
 calls_it st step.Receiving is = refl
 calls_it st step.Working is = absurd (let contradiction : false ≡ true = is in cc)
 calls_it st step.Finding is = absurd (let contradiction : false ≡ true = is in cc)
+calls_it st step.Sizing is = absurd (let contradiction : false ≡ true = is in cc)
 calls_it st step.Flushing is = absurd (let contradiction : false ≡ true = is in cc)
 calls_it st step.Replying is = refl
 calls_it st step.Pausing is = refl
@@ -161,6 +169,7 @@ module _ (st : ServerState) where
       by_kind (Some kind.Remove) = refl
       by_kind (Some kind.Sync) = refl
       by_kind (Some kind.Seek) = refl
+      by_kind (Some kind.ReadAt) = refl
 
   pub counted_unseen : (word : ℕ) → NobodySees (next_for st step.ReadingCount word)
   counted_unseen word = by_kind st.kind
@@ -175,6 +184,7 @@ module _ (st : ServerState) where
       by_kind (Some kind.Remove) = refl
       by_kind (Some kind.Sync) = refl
       by_kind (Some kind.Seek) = refl
+      by_kind (Some kind.ReadAt) = refl
 
   pub taken_unseen : (word : ℕ) → NobodySees (next_for st step.TakingPage word)
   taken_unseen word = by_test (word == 0)

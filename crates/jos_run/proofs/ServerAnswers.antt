@@ -22,7 +22,7 @@ use Rattle.jos_base.specs.SpacesState.{SpacesState, inserted}
 use Rattle.jos_base.specs.SystemCalls.{has_write}
 use Rattle.jos_base.specs.Words.{negated, word_at}
 use Rattle.jos_base.proofs.Maps.{upd-alike}
-use Rattle.lib_os.specs.declared.numbers.TheConstants.{FD_DEVICE, FD_FILE, FD_MODE, FD_OFFSET, MAXOPEN, REQUEST, SHORT_QUANTUM}
+use Rattle.lib_os.specs.declared.numbers.TheConstants.{FD_DEVICE, FD_FILE, FD_MODE, FD_OFFSET, FD_SIZE, MAXOPEN, REQUEST, SHORT_QUANTUM}
 use Rattle.lib_os.specs.declared.progress.Progress.{Progress}
 use Rattle.lib_os.specs.declared.progress.Progress.TheVariants as progress
 use Rattle.lib_os.specs.declared.service.Service.{Service}
@@ -173,6 +173,7 @@ module _ (d : Disk) (s : KernelState) (number : ℕ) (e : Entry) (below : number
         device = sym (told_word FD_DEVICE) ∙ f.device;
         offset = sym (told_word FD_OFFSET) ∙ f.offset;
         mode = sym (told_word FD_MODE) ∙ f.mode;
+        size = sym (told_word FD_SIZE) ∙ f.size;
         below = subst (λ (n : ℕ). n < MAXOPEN) (sym number_is) below;
         held = ap (λ (n : ℕ). (a.opened n).held_by) number_is ∙ held_by;
         entry = lasting e;

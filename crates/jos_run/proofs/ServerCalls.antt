@@ -1,6 +1,6 @@
 -- Each step of the file server that makes a call of its own for a request, from where the request is read up to its act: what the call does is seen by
 -- nobody, or it is the step of the abstract server. A store to the page of a place which clients have is that of the file's offset, and moves that.
-use Rattle.std.proofs.Common.{◌≡◌, ◌≢◌, ◌∙◌, ◌⊎◌, inl, inr, ◌+◌, ◌*◌, ◌%◌, ◌<◌, ℕ, true, false, List, [], ◌∷◌, length, Option, Some, Ok, Err, refl}
+use Rattle.std.proofs.Common.{◌≡◌, ◌≢◌, ◌∙◌, ◌⊎◌, inl, inr, ◌+◌, ◌*◌, ◌%◌, ◌<◌, ℕ, true, false, List, [], ◌∷◌, length, Option, Some, None, Ok, Err, refl}
 use Rattle.std.proofs.Common.{sym, ap, subst, arith}
 use Rattle.std.specs.Option.{option_map}
 use Rattle.std.proofs.lemmas.Option.{same_Some}
@@ -11,9 +11,11 @@ use Rattle.jos_base.specs.Environments.{Environments, Slot}
 use Rattle.jos_base.specs.KernelState.{KernelState, slot_at}
 use Rattle.jos_base.specs.Reach.{Entry}
 use Rattle.jos_base.specs.Words.{page_number}
-use Rattle.lib_os.specs.declared.numbers.TheConstants.{DEVICE_FILE, FD_DEVICE, FD_FILE, FD_MODE, FD_OFFSET, MAXOPEN, OPEN_RECORDS}
+use Rattle.lib_os.specs.declared.numbers.TheConstants.{DEVICE_FILE, FD_DEVICE, FD_FILE, FD_MODE, FD_OFFSET, FD_SIZE, MAXOPEN, OPEN_RECORDS}
 use Rattle.lib_os.specs.declared.progress.Progress.{Progress}
 use Rattle.lib_os.specs.declared.progress.Progress.TheVariants as progress
+use Rattle.lib_os.specs.declared.request.RequestKind.{RequestKind}
+use Rattle.lib_os.specs.declared.request.RequestKind.TheVariants as kind
 use Rattle.lib_os.specs.declared.user_os.Stop.{Stop}
 use Rattle.lib_os.specs.AbstractLaws.{client_served}
 use Rattle.lib_os.specs.AbstractState.{AbstractSlot, AbstractState, idle, slot_id}
@@ -41,7 +43,7 @@ use Rattle.fs_requests.specs.declared.plan.ServerNext.{ServerNext}
 use Rattle.fs_requests.specs.declared.state.ServerState.{ServerState}
 use Rattle.fs_requests.specs.declared.state.ServerStep.{ServerStep}
 use Rattle.fs_requests.specs.declared.state.ServerStep.TheVariants as step
-use Rattle.fs_requests.specs.ServerPlans.{call_at, call_for, next_at, next_for, open_page, open_perm, open_record}
+use Rattle.fs_requests.specs.ServerPlans.{call_at, call_for, next_at, next_for, open_page, open_perm, open_record, place_va}
 use Rattle.fs_runs.specs.TreeRuns.{Memory}
 use Rattle.fs_server.specs.ServerSteps.{IsReply, by_word, gone_on, server_at, was_stopped}
 use Rattle.fs_server.proofs.ServerMade.{server_sets}
@@ -67,6 +69,19 @@ use Rattle.jos_run.proofs.ServerGoes.{CallBehind, ServesClient, behind_stands, g
 use Rattle.jos_run.proofs.ServerRows.{Gives, LeavesRequestBy, RowsStay, quietly_by, rows_by, status_stays}
 use Rattle.jos_run.proofs.ServerStepped.{Stepped, acting_not_idle, acting_not_leaving, all_stand, below, its_step, lent_acts, lent_still, reads_sender}
 use Rattle.jos_run.proofs.ServerStepped.{stands_serving, still_asked, still_fits}
+
+-- where the place of the next byte is told is a word of its own
+place_aligned : (kind : Option RequestKind) (number : ℕ) → place_va kind number % 4 ≡ 0
+place_aligned None number = omega arith
+place_aligned (Some kind.Open) number = omega arith
+place_aligned (Some kind.SetSize) number = omega arith
+place_aligned (Some kind.Read) number = omega arith
+place_aligned (Some kind.Write) number = omega arith
+place_aligned (Some kind.Stat) number = omega arith
+place_aligned (Some kind.Remove) number = omega arith
+place_aligned (Some kind.Sync) number = omega arith
+place_aligned (Some kind.Seek) number = omega arith
+place_aligned (Some kind.ReadAt) number = refl
 
 -- how what is seen of a step may come about
 data Way (a : AbstractState) (seen : Progress) : Type 0 where
@@ -236,7 +251,7 @@ module _ (disk : DiskFile) (before after : KernelState) (files : Around (Option 
     made_at step.ReadingKind at makes h reply = loads_made _ (unseen refl) refl reply
     made_at step.ReadingClient at makes h reply = loads_made _ (unseen (asked_unseen state word)) refl reply
     made_at step.ReadingFile at makes h reply = loads_made _ (unseen refl) refl reply
-    made_at step.ReadingOffset at makes h reply = loads_made _ (unseen refl) (omega arith) reply
+    made_at step.ReadingOffset at makes h reply = loads_made _ (unseen refl) (place_aligned state.kind state.number) reply
     made_at step.ReadingCount at makes h reply = loads_made _ (unseen (counted_unseen state word)) refl reply
     made_at step.ReadingRecord at makes h reply = loads_made _ (unseen refl) (omega arith) reply
     made_at step.LookingRecord at makes h reply = loads_made _ (looks_so h) (omega arith) reply
@@ -252,6 +267,9 @@ module _ (disk : DiskFile) (before after : KernelState) (files : Around (Option 
         places_made FD_MODE (state.count % 4) (unseen refl) (omega arith) refl (opening_private h.opened.opening) reply
     made_at step.StoringFile at makes h reply =
         places_made FD_FILE state.number (unseen refl) (omega arith) refl (opening_private h.opened.opening) reply
+    made_at step.ReadingRecordAgain at makes h reply = loads_made _ (unseen refl) (omega arith) reply
+    made_at step.StoringSize at makes h reply =
+        places_made FD_SIZE state.count (unseen refl) (omega arith) refl (opening_private h.opened.opening) reply
     made_at step.Advancing at makes h reply = loads_made _ (unseen refl) (omega arith) reply
     made_at step.StoringOffset at makes h reply = store_made at h reply
     made_at step.CheckingRecord at makes h reply = loads_made _ (checks_so h) (omega arith) reply
@@ -263,6 +281,7 @@ module _ (disk : DiskFile) (before after : KernelState) (files : Around (Option 
     made_at step.Receiving at makes h reply = absurd (let contradiction : false ≡ true = makes in cc)
     made_at step.Working at makes h reply = absurd (let contradiction : false ≡ true = makes in cc)
     made_at step.Finding at makes h reply = absurd (let contradiction : false ≡ true = makes in cc)
+    made_at step.Sizing at makes h reply = absurd (let contradiction : false ≡ true = makes in cc)
     made_at step.Flushing at makes h reply = absurd (let contradiction : false ≡ true = makes in cc)
     made_at step.Replying at makes h reply = absurd (let contradiction : false ≡ true = makes in cc)
     made_at step.Pausing at makes h reply = absurd (let contradiction : false ≡ true = makes in cc)

@@ -95,6 +95,9 @@ module _ (s : KernelState) (a : AbstractState) (d : Disk) (before : Memory) wher
   now_at step.ReadingModeAgain is h = call_now step.ReadingModeAgain is h refl refl
   now_at step.StoringMode is h = call_now step.StoringMode is h refl refl
   now_at step.StoringFile is h = call_now step.StoringFile is h refl refl
+  now_at step.ReadingRecordAgain is h = call_now step.ReadingRecordAgain is h refl refl
+  now_at step.Sizing is h = work_now step.Sizing is h refl refl
+  now_at step.StoringSize is h = call_now step.StoringSize is h refl refl
   now_at step.Advancing is h = call_now step.Advancing is h refl refl
   now_at step.StoringOffset is h = call_now step.StoringOffset is h refl refl
   now_at step.CheckingRecord is h = call_now step.CheckingRecord is h refl refl

@@ -98,6 +98,7 @@ module _ (disk : DiskFile) (before after : KernelState) (files : Around (Option 
         WorksWhereTold state (Ok done) disk 0 (from_to before after) files × WorksQuietly (Ok done) disk 0 before files.before output
     work_asked step.Working works serves = serves
     work_asked step.Finding works serves = serves
+    work_asked step.Sizing works serves = serves
     work_asked _ works serves = absurd (let contradiction : false ≡ true = works in cc)
 
     comes_sooner : StandsNow before a → is_serving (step_of (slot_at before 0)) ≡ true → Serves (Ok done) disk 0 (from_to before after) files output →

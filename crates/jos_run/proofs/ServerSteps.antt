@@ -76,6 +76,7 @@ module _ (disk : DiskFile) (before after : KernelState) (files : Around (Option 
         WorksWhereTold state result disk 0 (from_to before after) files × WorksQuietly result disk 0 before files.before output
     work_asked result step.Working on serves = serves
     work_asked result step.Finding on serves = serves
+    work_asked result step.Sizing on serves = serves
     work_asked result _ on serves = absurd (let contradiction : false ≡ true = on in cc)
 
     comes_to : (done : Progress) → StandsNow before a → Serves (Ok done) disk 0 (from_to before after) files output →

@@ -127,6 +127,7 @@ acts_idle server acts is = let contradiction : false ≡ true = sym (ap is_actin
 works_for : (x : ServerStep) → is_working x ≡ true → (j : Slot) → client_id x j ≡ (serving_at j).client
 works_for step.Working on j = refl
 works_for step.Finding on j = refl
+works_for step.Sizing on j = refl
 works_for _ on j = absurd (let contradiction : false ≡ true = on in cc)
 
 -- ---- where it goes by the answer
@@ -159,6 +160,7 @@ module _ (state : ServerState) where
   worked_so (Some kind.Remove) word = about_acts word
   worked_so (Some kind.Sync) word = about_acts word
   worked_so (Some kind.Seek) word = about_acts word
+  worked_so (Some kind.ReadAt) word = about_acts word
   worked_so None word = about_acts word
 
   found_so : (o : Option RequestKind) (word : ℕ) → Answers (found_by o state word)
@@ -174,11 +176,15 @@ module _ (state : ServerState) where
   found_so (Some kind.Stat) word = about_acts word
   found_so (Some kind.Sync) word = about_acts word
   found_so (Some kind.Seek) word = about_acts word
+  found_so (Some kind.ReadAt) word = about_acts word
   found_so None word = about_acts word
 
   answers_by : (x : ServerStep) → is_working x ≡ true → (word : ℕ) → Answers (next_for state x word)
   answers_by step.Working on word = worked_so state.kind word
   answers_by step.Finding on word = found_so state.kind word
+  answers_by step.Sizing on word =
+      by_test (is_count word) (hidden (record state { count = word }) step.StoringSize) (about_to_act state word) (refl, refl, (λ j. refl))
+      (about_acts word)
   answers_by _ on word = absurd (let contradiction : false ≡ true = on in cc)
 
 module _ (disk : DiskFile) (before : KernelState) (files : Around (Option Files)) (output : Output) (f : Files) (told : files.before ≡ Some f)

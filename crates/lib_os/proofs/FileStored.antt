@@ -27,6 +27,7 @@ use Rattle.lib_os.specs.StandsFor.{view_of}
 use Rattle.lib_os.specs.UserCalls.{giving, store}
 use Rattle.lib_os.proofs.BytesKept.{PutsBytes, rewritten_devices, store_puts, unseen_rewritten, working_below}
 use Rattle.lib_os.proofs.BytesPut.{bytes_put, put_before, put_behind, put_there, put_whole}
+use Rattle.lib_os.proofs.DescriptorWords.{told_device, told_mode, told_number}
 use Rattle.lib_os.proofs.FileAsks.{asks_of_file, count_storing, file_given, keeps_asked, number_storing, of_file_holds, of_file_with_page}
 use Rattle.lib_os.proofs.FileAsks.{storing_count, storing_number, tells_identifying}
 use Rattle.lib_os.proofs.GoingOn.{words_stand}
@@ -199,17 +200,17 @@ module _ {names : Names} {s : KernelState} {a : AbstractState} (h : StandsFor na
         file = record {
           entry = it.of_file.file.entry;
           stands = ap (λ (r : EntryRow). r (descriptor_page (file_given call))) row_same ∙ it.of_file.file.stands;
-          device = ap (λ (told : ℕ × ℕ × ℕ). told.0) (sym (told_still it)) ∙ it.of_file.file.device;
+          device = ap told_device (sym (told_still it)) ∙ it.of_file.file.device;
         };
       };
-      allowed = subst (λ (told : ℕ × ℕ × ℕ). MayAskOf call told.1) (told_still it) it.allowed;
+      allowed = subst (λ (mode : ℕ). MayAskOf call mode) (ap told_mode (told_still it)) it.allowed;
       has = request_still call it.stage _ it.allowed it.has;
     }
 
     number_still : (it : AsksOfFile seen (slot_at s n) at_step.b call (file_given call)) →
         HasWordAt after REQUEST_FILE (number_in (s.spaces.pages it.of_file.file.entry.frame)) →
         HasWordAt after REQUEST_FILE (number_in (sp.pages it.of_file.file.entry.frame))
-    number_still it had = subst (λ (told : ℕ × ℕ × ℕ). HasWordAt after REQUEST_FILE told.2) (told_still it) had
+    number_still it had = subst (λ (number : ℕ). HasWordAt after REQUEST_FILE number) (ap told_number (told_still it)) had
 
     -- at the next step of the service
     store_goes_on : s.last ≡ Some n → is_calm_step from ≡ true → (so : StandsAtStep after (slot_at s n) at_step.b call from) (to : Step) →
@@ -265,7 +266,7 @@ module _ {names : Names} {s : KernelState} {a : AbstractState} (h : StandsFor na
             store_goes_on h n call is from stands refl REQUEST_FILE number (omega arith) order last refl
             (number_storing seen_after (slot_at s n) v.b call is number (record {
               asks = asks (slot_at s n).extra it.asks;
-              number_is = it.number_is ∙ ap (λ (words : ℕ × ℕ × ℕ). words.2) told;
+              number_is = it.number_is ∙ ap told_number told;
             })) step.StoringCount refl refl
             (count_storing seen_after (record (slot_at s n) { extra = then_words }) v.b call is (record {
               asks = asks then_words it.asks;

@@ -2,6 +2,7 @@ pub mod Effects
 pub mod SharedCount
 pub mod SlotsSet
 pub mod WordsTell
+pub mod DescriptorWords
 pub mod BuiltServices
 pub mod Serving
 pub mod Answering

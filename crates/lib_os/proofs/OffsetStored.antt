@@ -15,7 +15,7 @@ use Rattle.jos_base.specs.Reach.{Entry}
 use Rattle.jos_base.specs.SpacesState.{SpacesState}
 use Rattle.jos_base.specs.Words.{page_number, upd, word_at}
 use Rattle.jos_base.proofs.Maps.{upd-at, upd-other}
-use Rattle.lib_os.specs.declared.numbers.TheConstants.{FD_DEVICE, FD_FILE, FD_MODE, FD_OFFSET, MAXOPEN, REQUEST}
+use Rattle.lib_os.specs.declared.numbers.TheConstants.{FD_DEVICE, FD_FILE, FD_MODE, FD_OFFSET, FD_SIZE, MAXOPEN, REQUEST}
 use Rattle.lib_os.specs.AbstractState.{AbstractSlot, AbstractState, Object, OpenFile, born, file, free, is_live, read_end, serving, terminal, unborn}
 use Rattle.lib_os.specs.AbstractState.{write_end}
 use Rattle.lib_os.specs.AbstractRun.{pipe_of}
@@ -31,6 +31,7 @@ use Rattle.lib_os.specs.UserCalls.{CallStep, IsStep, Output, store}
 use Rattle.lib_os.proofs.BytesPut.{bytes_put, put_behind, put_whole}
 use Rattle.lib_os.proofs.Children.{BearsNone, children_kept}
 use Rattle.lib_os.proofs.CopiesStored.{IsRewritten}
+use Rattle.lib_os.proofs.DescriptorWords.{told_device, file_beside, told_mode, told_number, told_size}
 use Rattle.lib_os.proofs.EntriesCount.{entry_counts}
 use Rattle.lib_os.proofs.FileStored.{put_word_at, put_word_before}
 use Rattle.lib_os.proofs.HandedBack.{word_comes}
@@ -59,7 +60,8 @@ told_still page offset =
     let device = put_word_before page FD_OFFSET offset FD_DEVICE (omega arith) in
     let mode = put_word_behind page FD_OFFSET offset FD_MODE (omega arith) in
     let number = put_word_behind page FD_OFFSET offset FD_FILE (omega arith) in
-    λ i. (device i, mode i, number i)
+    let size = put_word_behind page FD_OFFSET offset FD_SIZE (omega arith) in
+    λ i. (device i, mode i, number i, size i)
 
 place_below : (number : ℕ) → number < MAXOPEN → place_page number < page_limit
 unfolding page_limit
@@ -251,11 +253,12 @@ module _ {names : Names} {s : KernelState} {a : AbstractState} (h : StandsFor na
           let found = its_file n p x counts shared_page same (a.objects its) refl shows in
           let is = found.1 in
           let long : length (s.spaces.pages e.frame) ≡ PGSIZE = ap (λ (g : ℕ). length (s.spaces.pages g)) (sym same) ∙ (h.whole n p x counts).long in
-          let its_number = ap (λ (words : ℕ × ℕ × ℕ). words.2) (told x.frame) in
+          let its_number = ap told_number (told x.frame) in
           let file_is : IsOpenFile things its x.frame moved (sp.pages x.frame) = record {
-            device = ap (λ (words : ℕ × ℕ × ℕ). words.0) (told x.frame) ∙ is.device;
+            device = ap told_device (told x.frame) ∙ is.device;
             offset = ap offset_of (bytes_are x.frame same) ∙ put_word_at (s.spaces.pages e.frame) FD_OFFSET offset small (omega (arith, long));
-            mode = ap (λ (words : ℕ × ℕ × ℕ). words.1) (told x.frame) ∙ is.mode;
+            mode = ap told_mode (told x.frame) ∙ is.mode;
+            size = ap told_size (told x.frame) ∙ is.size;
             below = subst (λ (k : ℕ). k < MAXOPEN) (sym its_number) is.below;
             held = ap (λ (k : ℕ). (a.opened k).held_by) its_number ∙ is.held;
             entry = is.entry;
@@ -285,16 +288,7 @@ module _ {names : Names} {s : KernelState} {a : AbstractState} (h : StandsFor na
 
           by_object : (o : Object) → HasObject (things_in s a) its x.frame o had → HasObject things its x.frame o had
           by_object terminal is = record { device = is.device; apart = λ q y at. is.apart q y (sym (row_kept home q) ∙ at) }
-          by_object (file g) is = record {
-            device = is.device;
-            offset = is.offset;
-            mode = is.mode;
-            below = is.below;
-            held = is.held;
-            entry = is.entry;
-            stands = row_kept home _ ∙ is.stands;
-            same = is.same;
-          }
+          by_object (file g) is = file_beside is is.held is.entry (row_kept home _ ∙ is.stands) is.same
           by_object (read_end pipe) is = by_end pipe 0 is
           by_object (write_end pipe) is = by_end pipe 1 is
 

@@ -9,7 +9,8 @@ use Rattle.jos_base.specs.Below.{some_below}
 use Rattle.jos_base.specs.Words.{upd}
 use Rattle.jos_base.proofs.Below.{some_below-at}
 use Rattle.jos_base.proofs.Maps.{upd-all, upd-at, upd-other}
-use Rattle.fs_layout.specs.FileTree.{FileAct, FileSystem, open_path, read_file, remove_path, set_file_size, stat_file, sync_files, write_file}
+use Rattle.fs_layout.specs.FileTree.{FileAct, FileSystem, file_size, open_path, read_file, remove_path, set_file_size, stat_file}
+use Rattle.fs_layout.specs.FileTree.{sync_files, write_file}
 use Rattle.fs_layout.specs.FileActs.{Acted}
 use Rattle.lib_os.specs.declared.numbers.TheConstants.{DESCRIPTORS}
 use Rattle.lib_os.specs.declared.service.Service.{Service}
@@ -168,7 +169,7 @@ module _ (a : AbstractState) (h : OpensNobodys a) where
     opened_kept files answer (Some k) (Some way) mode = record {
       slots_are = refl;
       shared_are = refl;
-      ends_are = file_at a.objects (λ end pipe is. is) a.next_name (record { way = way; offset = 0; mode = mode });
+      ends_are = file_at a.objects (λ end pipe is. is) a.next_name (record { way = way; offset = 0; mode = mode; size = file_size files way });
       names = inr (refl, refl);
     }
 

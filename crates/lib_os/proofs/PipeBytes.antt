@@ -25,6 +25,7 @@ use Rattle.lib_os.specs.DescriptorPages.{HasObject, HasPipe, Things, held_of, lo
 use Rattle.lib_os.specs.Rows.{IsPage}
 use Rattle.lib_os.specs.StandsAtPipe.{stage_put, stage_taken}
 use Rattle.lib_os.proofs.BytesPut.{bytes_put, put_before, put_behind, put_there, put_whole}
+use Rattle.lib_os.proofs.DescriptorWords.{file_beside}
 use Rattle.lib_os.proofs.PageBytes.{bytes_more, bytes_none, word_bytes}
 
 -- ---- a word or a byte that is stored in a page
@@ -475,16 +476,7 @@ pub object_stands : (things : Things) (pipe : ℕ) (rest : List ℕ) (name frame
 object_stands things pipe rest name frame terminal bytes is = record { device = is.device; apart = is.apart }
 object_stands things pipe rest name frame (read_end other) bytes is = record { numbered = is.numbered; device = is.device; mode_is = is.mode_is; apart = is.apart }
 object_stands things pipe rest name frame (write_end other) bytes is = record { numbered = is.numbered; device = is.device; mode_is = is.mode_is; apart = is.apart }
-object_stands things pipe rest name frame (file f) bytes is = record {
-  device = is.device;
-  offset = is.offset;
-  mode = is.mode;
-  below = is.below;
-  held = is.held;
-  entry = is.entry;
-  stands = is.stands;
-  same = is.same;
-}
+object_stands things pipe rest name frame (file f) bytes is = file_beside is is.held is.entry is.stands is.same
 
 -- ---- reading from a pipe and writing to it, as the program sees it
 

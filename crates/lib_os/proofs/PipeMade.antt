@@ -50,6 +50,7 @@ use Rattle.lib_os.specs.StandsAtPipe.{IsMakingPipe, TellsEnd}
 use Rattle.lib_os.specs.StandsFor.{IsStatusFor, NamesAreOld, StandsAt, StandsFor, StandsForBorn, StandsForSlot, borne_in, seen_unless, things_in, view_of}
 use Rattle.lib_os.specs.UserCalls.{CallStep, giving}
 use Rattle.lib_os.proofs.DescriptorLooks.{descriptor_user, is_descriptors, page_region, table_region}
+use Rattle.lib_os.proofs.DescriptorWords.{file_beside}
 use Rattle.lib_os.proofs.Effects.{Given}
 use Rattle.lib_os.proofs.EndsDropped.{MapsPipe, is_descriptors_pipe, maps_pipe, pipe_map_asked, pipe_region}
 use Rattle.lib_os.proofs.EntriesCount.{entry_counts}
@@ -86,16 +87,7 @@ is_named names pages shared things next p f name is home kind of_pipe shows old 
 object_turned : (things : Things) (objects : ℕ → Object) (pipes : ℕ → List ℕ) (name frame : ℕ) (object : Object) (bytes : List ℕ) →
     HasObject things name frame object bytes → HasObject (record things { objects = objects; pipes = pipes }) name frame object bytes
 object_turned things objects pipes name frame terminal bytes it = record { device = it.device; apart = it.apart }
-object_turned things objects pipes name frame (file f) bytes it = record {
-  device = it.device;
-  offset = it.offset;
-  mode = it.mode;
-  below = it.below;
-  held = it.held;
-  entry = it.entry;
-  stands = it.stands;
-  same = it.same;
-}
+object_turned things objects pipes name frame (file f) bytes it = file_beside it it.held it.entry it.stands it.same
 object_turned things objects pipes name frame (read_end pipe) bytes it =
     record { numbered = it.numbered; device = it.device; mode_is = it.mode_is; apart = it.apart }
 object_turned things objects pipes name frame (write_end pipe) bytes it =

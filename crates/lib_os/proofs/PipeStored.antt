@@ -28,6 +28,7 @@ use Rattle.lib_os.specs.StandsAtPipe.{end_given, most_moved}
 use Rattle.lib_os.specs.StandsFor.{StandsAtStep, StandsFor, things_in, view_of}
 use Rattle.lib_os.specs.StandsInHandler.{HasBytes, IsEndOpen, StandsDelivering}
 use Rattle.lib_os.specs.UserCalls.{store, store_byte}
+use Rattle.lib_os.proofs.DescriptorWords.{told_device, told_mode}
 use Rattle.lib_os.proofs.GoingOn.{in_with_words}
 use Rattle.lib_os.proofs.Numbered.{number_of}
 use Rattle.lib_os.proofs.PipeBytes.{byte_stored, lock_stored, lock_there, same_held, same_stands, with_byte, with_byte_whole, with_word, with_word_whole}
@@ -45,8 +46,8 @@ module _ {v w : View} (alike : ViewAlike v w) where
       record {
         entry = h.entry;
         stands = (λ i. alike.row i (descriptor_page fd)) ∙ h.stands;
-        device = ap (λ (words : ℕ × ℕ × ℕ). words.0) told ∙ h.device;
-        mode_is = ap (λ (words : ℕ × ℕ × ℕ). words.1) told ∙ h.mode_is;
+        device = ap told_device told ∙ h.device;
+        mode_is = ap told_mode told ∙ h.mode_is;
         page = h.page;
         lies = (λ i. alike.row i (pipe_page fd)) ∙ h.lies;
       }

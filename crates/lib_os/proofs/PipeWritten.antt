@@ -43,6 +43,7 @@ use Rattle.lib_os.specs.UserCalls.{CallStep, giving, store, store_byte}
 use Rattle.lib_os.proofs.BytesKept.{PutsBytes, store_byte_puts, store_puts}
 use Rattle.lib_os.proofs.Children.{born_bears_none, children_stay}
 use Rattle.lib_os.proofs.CopiesStored.{IsRewritten}
+use Rattle.lib_os.proofs.DescriptorWords.{file_beside}
 use Rattle.lib_os.proofs.EntriesCount.{Counts, entry_counts}
 use Rattle.lib_os.proofs.EntriesStand.{RowsStand, rows_turned, same_sharing}
 use Rattle.lib_os.proofs.Logical.{counted_made, counted_plain, is_making_pipe, is_plain, is_remapped, logical_live, logical_plain, plain_unborne}
@@ -304,16 +305,7 @@ shows_still things pipes name frame true false page bytes same shows = by_object
   where
     by_object : (o : Object) → HasObject things name frame o bytes → HasObject (record things { pipes = pipes }) name frame o bytes
     by_object terminal is = record { device = is.device; apart = is.apart }
-    by_object (file f) is = record {
-      device = is.device;
-      offset = is.offset;
-      mode = is.mode;
-      below = is.below;
-      held = is.held;
-      entry = is.entry;
-      stands = is.stands;
-      same = is.same;
-    }
+    by_object (file f) is = file_beside is is.held is.entry is.stands is.same
     by_object (read_end pipe) is = record { numbered = is.numbered; device = is.device; mode_is = is.mode_is; apart = is.apart }
     by_object (write_end pipe) is = record { numbered = is.numbered; device = is.device; mode_is = is.mode_is; apart = is.apart }
 

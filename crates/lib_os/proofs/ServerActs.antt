@@ -18,7 +18,7 @@ use Rattle.fs_layout.specs.FileActs.{Acted, Looked, bad_path, create_in, file_ac
 use Rattle.fs_layout.specs.FileActs.{open_looked, open_there, read_act, remove_act, remove_looked, set_size_act, set_size_to, stat_act, stat_of}
 use Rattle.fs_layout.specs.FileActs.{there, with_new_file, write_act, write_to}
 use Rattle.fs_layout.specs.FileTree.{FileAct, FileSystem, NamedNode, Node, a_directory, a_file, named_at, node_at, open_path, read_file, remove_path}
-use Rattle.fs_layout.specs.FileTree.{directory_size, listed, set_file_size, stat_file, sync_files, write_file}
+use Rattle.fs_layout.specs.FileTree.{directory_size, file_size, listed, set_file_size, stat_file, sync_files, write_file}
 use Rattle.lib_os.specs.declared.numbers.TheConstants.{DESCRIPTORS, DISKMAP, MAXOPEN, OPEN_RECORDS, REQUEST}
 use Rattle.lib_os.specs.declared.place.Place.{Place}
 use Rattle.lib_os.specs.AbstractState.{AbstractSlot, AbstractState, Born, Object, OpenFile, Request, Server, TablePlace, act, acted, born, busy, file}
@@ -33,6 +33,7 @@ use Rattle.lib_os.specs.StandsFor.{IsServerStatus, StandsFor, StandsForSlot, is_
 use Rattle.lib_os.specs.PipeEnds.{EndsStandAt, is_made}
 use Rattle.lib_os.specs.Places.{place_of}
 use Rattle.lib_os.specs.AbstractRun.{pipe_of}
+use Rattle.lib_os.proofs.DescriptorWords.{file_beside}
 use Rattle.lib_os.proofs.Holders.{logical_unmade, second_so, stands_named}
 use Rattle.lib_os.proofs.PipesStand.{ends_moved, same_places}
 use Rattle.lib_os.proofs.FilesLeft.{name-same}
@@ -184,16 +185,7 @@ module _ {names : Names} {s : KernelState} {a : AbstractState} (h : StandsFor na
 
       by_object : is_held a name ≡ true → (o : Object) → HasObject (things_in s a) name x.frame o bytes → HasObject things name x.frame o bytes
       by_object by terminal is = record { device = is.device; apart = is.apart }
-      by_object by (file f) is = record {
-        device = is.device;
-        offset = is.offset;
-        mode = is.mode;
-        below = is.below;
-        held = held (number_of bytes) name by is.held;
-        entry = is.entry;
-        stands = is.stands;
-        same = is.same;
-      }
+      by_object by (file f) is = file_beside is (held (number_of bytes) name by is.held) is.entry is.stands is.same
       by_object by (read_end pipe) is =
           record { numbered = is.numbered; device = is.device; mode_is = is.mode_is; apart = is.apart }
       by_object by (write_end pipe) is =
@@ -335,7 +327,7 @@ module _ {names : Names} {s : KernelState} {a : AbstractState} (h : StandsFor na
       blocks (status_at h (busy client request (Some place)) is)
     where
       opened : OpenFile
-      opened = record { way = way; offset = 0; mode = mode }
+      opened = record { way = way; offset = 0; mode = mode; size = file_size files way }
 
       taken : TablePlace
       taken = record { held_by = Some a.next_name; used = true }

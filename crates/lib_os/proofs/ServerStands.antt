@@ -32,6 +32,7 @@ use Rattle.lib_os.specs.Rows.{descriptor_page, is_of_descriptor, is_pipe_page, p
 use Rattle.lib_os.specs.StandsFor.{HasServer, IsServerStatus, StandsFor, StandsForBorn, StandsForServer, StandsForSlot, StandsForUnborn, IsStatusFor}
 use Rattle.lib_os.specs.StandsFor.{is_servers_page, is_servers_region, things_in, view_of}
 use Rattle.lib_os.proofs.Children.{BearsNone, children_kept}
+use Rattle.lib_os.proofs.DescriptorWords.{file_beside}
 use Rattle.lib_os.proofs.Effects.{Placed, Removed}
 use Rattle.lib_os.proofs.EntriesStand.{rows_bytes, rows_same, rows_stand}
 use Rattle.lib_os.proofs.Logical.{clients_are, logical_alike, logical_of}
@@ -623,16 +624,7 @@ module _ {names : Names} {s : KernelState} {a : AbstractState} (h : StandsFor na
             ⊎ StandsIn sp (slot_at s 0).directory (place_page (number_of bytes)) is.entry.frame →
             IsOpenFile (things_in (with_spaces s sp) a) name x.frame f bytes
         by_place f is (inl private) = absurd (private n p x counts (sym is.same))
-        by_place f is (inr stands) = record {
-          device = is.device;
-          offset = is.offset;
-          mode = is.mode;
-          below = is.below;
-          held = is.held;
-          entry = stands.0;
-          stands = stands.1;
-          same = stands.2 ∙ is.same;
-        }
+        by_place f is (inr stands) = file_beside is is.held stands.0 stands.1 (stands.2 ∙ is.same)
 
         by_end : (pipe mode : ℕ) → IsEnd (things_in s a) name pipe x.frame mode bytes → IsEnd (things_in (with_spaces s sp) a) name pipe x.frame mode bytes
         by_end pipe mode its = record {

@@ -56,6 +56,7 @@ use Rattle.lib_os.specs.StandsFor.{IsLookingForFree, TellsOpen, awaits_file, has
 use Rattle.lib_os.specs.StandsFor.{descriptor_given, refuses_next}
 use Rattle.lib_os.specs.StandsFor.{borne_in, IsMapping, IsRemapping}
 use Rattle.lib_os.specs.StandsFor.{IsTrying, IsWaiting, IsLooking, IsAboutToWait, IsReceiving, HasReceived, WaitsOrHas, waits, has}
+use Rattle.lib_os.proofs.DescriptorWords.{told_device, told_mode, told_number}
 use Rattle.lib_os.proofs.Logical.{is_making_pipe, is_plain, programs_beside, programs_no_descriptor}
 use Rattle.lib_os.proofs.WordsTell.{is_in_handler}
 use Rattle.jos_base.proofs.Maps.{upd-all}
@@ -340,7 +341,7 @@ module _ (v w : View) (row : w.row ≡ v.row) (devices : SameDevices v w) where
     console = record {
       entry = h.console.entry;
       stands = ap (λ (r : EntryRow). r (descriptor_page fd)) row ∙ h.console.stands;
-      device = ap (λ (told : ℕ × ℕ × ℕ). told.0) (told_kept fd h.below h.console.entry h.console.stands) ∙ h.console.device;
+      device = ap told_device (told_kept fd h.below h.console.entry h.console.stands) ∙ h.console.device;
     };
     buffer = h.buffer;
   }
@@ -349,7 +350,7 @@ module _ (v w : View) (row : w.row ≡ v.row) (devices : SameDevices v w) where
   console_kept fd below h = record {
     entry = h.entry;
     stands = ap (λ (r : EntryRow). r (descriptor_page fd)) row ∙ h.stands;
-    device = ap (λ (told : ℕ × ℕ × ℕ). told.0) (told_kept fd below h.entry h.stands) ∙ h.device;
+    device = ap told_device (told_kept fd below h.entry h.stands) ∙ h.device;
   }
 
   -- a file
@@ -357,7 +358,7 @@ module _ (v w : View) (row : w.row ≡ v.row) (devices : SameDevices v w) where
   file_kept fd below h = record {
     entry = h.entry;
     stands = ap (λ (r : EntryRow). r (descriptor_page fd)) row ∙ h.stands;
-    device = ap (λ (told : ℕ × ℕ × ℕ). told.0) (told_kept fd below h.entry h.stands) ∙ h.device;
+    device = ap told_device (told_kept fd below h.entry h.stands) ∙ h.device;
   }
 
   -- an end of a pipe
@@ -365,8 +366,8 @@ module _ (v w : View) (row : w.row ≡ v.row) (devices : SameDevices v w) where
   end_kept fd mode below h = record {
     entry = h.entry;
     stands = ap (λ (r : EntryRow). r (descriptor_page fd)) row ∙ h.stands;
-    device = ap (λ (told : ℕ × ℕ × ℕ). told.0) (told_kept fd below h.entry h.stands) ∙ h.device;
-    mode_is = ap (λ (told : ℕ × ℕ × ℕ). told.1) (told_kept fd below h.entry h.stands) ∙ h.mode_is;
+    device = ap told_device (told_kept fd below h.entry h.stands) ∙ h.device;
+    mode_is = ap told_mode (told_kept fd below h.entry h.stands) ∙ h.mode_is;
     page = h.page;
     lies = ap (λ (r : EntryRow). r (pipe_page fd)) row ∙ h.lies;
   }
@@ -375,7 +376,7 @@ module _ (v w : View) (row : w.row ≡ v.row) (devices : SameDevices v w) where
   begins_kept fd start below (on_console is console) = on_console is (console_kept fd below console)
   begins_kept fd start below (in_file is it) = in_file is (record {
     file = file_kept fd below it.file;
-    writable = subst (λ (told : ℕ × ℕ × ℕ). told.1 ≢ 0) (sym (told_kept fd below it.file.entry it.file.stands)) it.writable;
+    writable = subst (λ (mode : ℕ). mode ≢ 0) (sym (ap told_mode (told_kept fd below it.file.entry it.file.stands))) it.writable;
   })
   begins_kept fd start below (in_pipe is it) = in_pipe is (end_kept fd 1 below it)
 
@@ -699,7 +700,7 @@ module _ (v w : View) (k : Slot) (b : Born) (status : Status) (runs : ℕ) (memo
   asks_of_file_kept s fd row page h = record {
     stage = h.stage;
     of_file = of_file_kept s h.stage fd row page h.of_file;
-    allowed = subst (λ (told : ℕ × ℕ × ℕ). MayAskOf s told.1) (told_of fd row page h.of_file) h.allowed;
+    allowed = subst (λ (mode : ℕ). MayAskOf s mode) (ap told_mode (told_of fd row page h.of_file)) h.allowed;
     has = for_request_kept s h.stage _ row page h.allowed h.has;
   }
 
@@ -707,13 +708,13 @@ module _ (v w : View) (k : Slot) (b : Born) (status : Status) (runs : ℕ) (memo
       HasFileNumber w kernel_slot environment s fd number
   has_number_kept s fd number row page h = record {
     asks = asks_of_file_kept s fd row page h.asks;
-    number_is = h.number_is ∙ ap (λ (told : ℕ × ℕ × ℕ). told.2) (told_of fd row page h.asks.of_file);
+    number_is = h.number_is ∙ ap told_number (told_of fd row page h.asks.of_file);
   }
 
   number_told_kept : {s : Service} {stage : Stage} (fd : ℕ) → w.row ≡ v.row → SamePages v w → (h : IsOfFileAt v k b s stage fd) →
       HasWordAt v REQUEST_FILE (number_of (v.bytes h.file.entry.frame)) → HasWordAt w REQUEST_FILE (number_of (w.bytes h.file.entry.frame))
   number_told_kept fd row page h told =
-      subst (λ (words : ℕ × ℕ × ℕ). HasWordAt w REQUEST_FILE words.2) (told_of fd row page h) (word_at_kept REQUEST_FILE _ row page told)
+      subst (λ (number : ℕ). HasWordAt w REQUEST_FILE number) (ap told_number (told_of fd row page h)) (word_at_kept REQUEST_FILE _ row page told)
 
   tells_number_kept : (s : Service) (fd : ℕ) → w.row ≡ v.row → SamePages v w → TellsNumber v k b s fd → TellsNumber w kernel_slot environment s fd
   tells_number_kept s fd row page h = record {
@@ -1067,8 +1068,8 @@ module _ (v w : View) (k : Slot) (b : Born) (status : Status) (runs : ℕ) (memo
   tells_end_kept fd device mode below row page h = record {
     entry = h.entry;
     stands = ap (λ (r : EntryRow). r (descriptor_page fd)) row ∙ h.stands;
-    device_is = ap (λ (told : ℕ × ℕ × ℕ). told.0) (told_kept v w row page.1 fd below h.entry h.stands) ∙ h.device_is;
-    mode_is = ap (λ (told : ℕ × ℕ × ℕ). told.1) (told_kept v w row page.1 fd below h.entry h.stands) ∙ h.mode_is;
+    device_is = ap told_device (told_kept v w row page.1 fd below h.entry h.stands) ∙ h.device_is;
+    mode_is = ap told_mode (told_kept v w row page.1 fd below h.entry h.stands) ∙ h.mode_is;
   }
 
   abbrev maps_pipe : PipeStep → Bool

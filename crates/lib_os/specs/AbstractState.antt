@@ -26,6 +26,8 @@ pub record OpenFile : Type 0 where
   pub offset : ℕ
   -- 0 for reading, 1 for writing, 2 for both
   pub mode : ℕ
+  -- how many bytes it had when it was opened
+  pub size : ℕ
 
 pub data Object : Type 0 where
   file : OpenFile → Object

@@ -5,11 +5,11 @@ use Rattle.jos_base.specs.declared.numbers.TheConstants.{FDTABLE}
 use Rattle.jos_base.specs.Below.{values_below}
 use Rattle.jos_base.specs.Reach.{Entry}
 use Rattle.jos_base.specs.Words.{page_number, word_at}
-use Rattle.lib_os.specs.declared.numbers.TheConstants.{DEVICE_CONSOLE, DEVICE_FILE, DEVICE_PIPE, FD_DEVICE, FD_FILE, FD_MODE, FD_OFFSET, MAXOPEN}
+use Rattle.lib_os.specs.declared.numbers.TheConstants.{DEVICE_CONSOLE, DEVICE_FILE, DEVICE_PIPE, FD_DEVICE, FD_FILE, FD_MODE, FD_OFFSET, FD_SIZE, MAXOPEN}
 use Rattle.lib_os.specs.declared.numbers.TheConstants.{PIPEBUFSIZ, PIPE_BYTES, PIPE_LOCK, PIPE_READ, PIPE_WRITE}
 use Rattle.lib_os.specs.AbstractState.{Object, OpenFile, TablePlace, file, read_end, terminal, write_end}
 
--- the word that tells what it is, and for a file its offset, its mode and its number, which is that of its place in the table of open files
+-- the word that tells what it is, and for a file its offset, its mode, its number, which is that of its place in the table of open files, and its size when it was opened
 abbrev pub device_of : List ℕ → ℕ
 device_of bytes = word_at (slice_index bytes) FD_DEVICE
 
@@ -22,9 +22,12 @@ mode_of bytes = word_at (slice_index bytes) FD_MODE
 abbrev pub number_of : List ℕ → ℕ
 number_of bytes = word_at (slice_index bytes) FD_FILE
 
+abbrev pub size_of : List ℕ → ℕ
+size_of bytes = word_at (slice_index bytes) FD_SIZE
+
 -- what it tells that stays as long as it is open, which is all but a file's offset
-abbrev pub lasting_words : List ℕ → ℕ × ℕ × ℕ
-lasting_words bytes = (device_of bytes, mode_of bytes, number_of bytes)
+abbrev pub lasting_words : List ℕ → ℕ × ℕ × ℕ × ℕ
+lasting_words bytes = (device_of bytes, mode_of bytes, number_of bytes, size_of bytes)
 
 -- the page of a place of the table of open files
 abbrev pub place_page : ℕ → ℕ
@@ -62,6 +65,7 @@ pub record IsOpenFile (things : Things) (name frame : ℕ) (f : OpenFile) (bytes
   pub device : device_of bytes ≡ DEVICE_FILE
   pub offset : offset_of bytes ≡ f.offset
   pub mode : mode_of bytes ≡ f.mode
+  pub size : size_of bytes ≡ f.size
   pub below : number_of bytes < MAXOPEN
   pub held : (things.opened (number_of bytes)).held_by ≡ Some name
   pub entry : Entry

@@ -6,7 +6,7 @@ use Rattle.jos_base.specs.Words.{negated, upd}
 use Rattle.jos_base.specs.declared.numbers.TheConstants.{E_MAX_OPEN}
 use Rattle.lib_os.specs.declared.numbers.TheConstants.{MAXOPEN}
 use Rattle.lib_os.specs.declared.service.Service.{Service}
-use Rattle.fs_layout.specs.FileTree.{FileAct, open_path}
+use Rattle.fs_layout.specs.FileTree.{FileAct, file_size, open_path}
 use Rattle.fs_layout.specs.FileActs.{Acted, file_act, file_named}
 use Rattle.lib_os.specs.AbstractState.{AbstractState, Born, Object, file, Request, act, seek}
 use Rattle.lib_os.specs.AbstractState.{Server, leaving, idle, looking, busy, acted, asked, awaiting, replied, Phase, in_service}
@@ -89,7 +89,7 @@ file_opened a client answer None (Some way) mode = record a { server = acted cli
 file_opened a client answer (Some k) (Some way) mode =
     let name = a.next_name in
     record a {
-      objects = upd a.objects name (file (record { way = way; offset = 0; mode = mode }));
+      objects = upd a.objects name (file (record { way = way; offset = 0; mode = mode; size = file_size a.files way }));
       opened = upd a.opened k (record { held_by = Some name; used = true });
       next_name = name + 1;
       server = acted client answer [] (Some name);

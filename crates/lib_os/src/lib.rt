@@ -29,27 +29,106 @@ mod request;
 mod service;
 mod user_os;
 
-pub use answers::{answer, answer_of, go_back, go_on, stopped};
-pub use fence::{in_fence, is_buffer, is_page_inside, is_resident};
-pub use laws::{
-    clients_leave_files, counts_tell_closed, fork_copies, guest_memory_is_lawful, need_is_reached,
-    pages_are_own_or_shared, pipes_are_bounded, served_clients_stay, some_state_stands,
-    steps_leave_others, words_tell_the_place,
-};
-pub use numbers::{
-    CACHE_BLOCKS, DESCRIPTORS, DEVICE_CONSOLE, DEVICE_FILE, DEVICE_PIPE, DISKMAP, ENV_RUNS,
-    FD_DEVICE, FD_FILE, FD_MODE, FD_OFFSET, FDTABLE_END, FSREQ_OPEN, FSREQ_REMOVE, FSREQ_SEEK,
-    FSREQ_SET_SIZE, FSREQ_SYNC, FSREQ_WRITE, MAXOPEN, MODE_BITS, O_RDWR, OFFSET_MAX, OPEN_RECORDS,
-    PAGE_WORDS, PFTEMP, PGFAULT_UPCALL, PIPE_BYTES, PIPE_LOCK, PIPE_READ, PIPE_WRITE, PIPEBUFSIZ,
-    PTE_COW, PTE_SHARE, REQUEST, REQUEST_BYTES, REQUEST_COUNT, REQUEST_FILE, REQUEST_MODE,
-    RESIDENT, SERVICE_CLOSE, SERVICE_CPUTS, SERVICE_DUP, SERVICE_EXIT, SERVICE_FORK, SERVICE_GETID,
-    SERVICE_OPEN_FILE, SERVICE_PAGE_DROP, SERVICE_PAGE_NEW, SERVICE_PIPE, SERVICE_READ,
-    SERVICE_RECEIVE, SERVICE_REMOVE, SERVICE_SEEK, SERVICE_SEND, SERVICE_SET_SIZE, SERVICE_STAT,
-    SERVICE_SYNC, SERVICE_WAIT, SERVICE_WRITE, SERVICE_YIELD, SERVICES, STAT_SIZE, TRANSFER_MAX,
-    UVPD, UXSTACK,
-};
-pub use place::{HandlerStep, PipeStep, Place, Step, find_place, handler_registers, words_at};
+pub use answers::answer;
+pub use answers::answer_of;
+pub use answers::go_back;
+pub use answers::go_on;
+pub use answers::stopped;
+pub use fence::in_fence;
+pub use fence::is_buffer;
+pub use fence::is_page_inside;
+pub use fence::is_resident;
+pub use laws::clients_leave_files;
+pub use laws::counts_tell_closed;
+pub use laws::fork_copies;
+pub use laws::guest_memory_is_lawful;
+pub use laws::need_is_reached;
+pub use laws::pages_are_own_or_shared;
+pub use laws::pipes_are_bounded;
+pub use laws::served_clients_stay;
+pub use laws::some_state_stands;
+pub use laws::steps_leave_others;
+pub use laws::words_tell_the_place;
+pub use numbers::CACHE_BLOCKS;
+pub use numbers::DESCRIPTORS;
+pub use numbers::DEVICE_CONSOLE;
+pub use numbers::DEVICE_FILE;
+pub use numbers::DEVICE_PIPE;
+pub use numbers::DISKMAP;
+pub use numbers::ENV_RUNS;
+pub use numbers::FD_DEVICE;
+pub use numbers::FD_FILE;
+pub use numbers::FD_MODE;
+pub use numbers::FD_OFFSET;
+pub use numbers::FD_SIZE;
+pub use numbers::FDTABLE_END;
+pub use numbers::FSREQ_OPEN;
+pub use numbers::FSREQ_READ_AT;
+pub use numbers::FSREQ_REMOVE;
+pub use numbers::FSREQ_SEEK;
+pub use numbers::FSREQ_SET_SIZE;
+pub use numbers::FSREQ_SYNC;
+pub use numbers::FSREQ_WRITE;
+pub use numbers::MAXOPEN;
+pub use numbers::MODE_BITS;
+pub use numbers::O_RDWR;
+pub use numbers::OFFSET_MAX;
+pub use numbers::OPEN_RECORDS;
+pub use numbers::PAGE_WORDS;
+pub use numbers::PFTEMP;
+pub use numbers::PGFAULT_UPCALL;
+pub use numbers::PIPE_BYTES;
+pub use numbers::PIPE_LOCK;
+pub use numbers::PIPE_READ;
+pub use numbers::PIPE_WRITE;
+pub use numbers::PIPEBUFSIZ;
+pub use numbers::PTE_COW;
+pub use numbers::PTE_SHARE;
+pub use numbers::REQUEST;
+pub use numbers::REQUEST_BYTES;
+pub use numbers::REQUEST_COUNT;
+pub use numbers::REQUEST_FILE;
+pub use numbers::REQUEST_MODE;
+pub use numbers::REQUEST_PLACE;
+pub use numbers::RESIDENT;
+pub use numbers::SERVICE_CLOSE;
+pub use numbers::SERVICE_CPUTS;
+pub use numbers::SERVICE_DUP;
+pub use numbers::SERVICE_EXIT;
+pub use numbers::SERVICE_FORK;
+pub use numbers::SERVICE_GETID;
+pub use numbers::SERVICE_OPEN_FILE;
+pub use numbers::SERVICE_PAGE_DROP;
+pub use numbers::SERVICE_PAGE_NEW;
+pub use numbers::SERVICE_PIPE;
+pub use numbers::SERVICE_READ;
+pub use numbers::SERVICE_RECEIVE;
+pub use numbers::SERVICE_REMOVE;
+pub use numbers::SERVICE_SEEK;
+pub use numbers::SERVICE_SEND;
+pub use numbers::SERVICE_SET_SIZE;
+pub use numbers::SERVICE_STAT;
+pub use numbers::SERVICE_SYNC;
+pub use numbers::SERVICE_WAIT;
+pub use numbers::SERVICE_WRITE;
+pub use numbers::SERVICE_YIELD;
+pub use numbers::SERVICES;
+pub use numbers::STAT_SIZE;
+pub use numbers::TRANSFER_MAX;
+pub use numbers::UVPD;
+pub use numbers::UXSTACK;
+pub use place::HandlerStep;
+pub use place::PipeStep;
+pub use place::Place;
+pub use place::Step;
+pub use place::find_place;
+pub use place::handler_registers;
+pub use place::words_at;
 pub use progress::Progress;
-pub use request::{RequestKind, request_kind, request_word};
-pub use service::{Service, service_of};
-pub use user_os::{Stop, UserOs};
+pub use request::RequestKind;
+pub use request::request_kind;
+pub use request::request_word;
+pub use service::Service;
+pub use service::service_of;
+pub use user_os::Stop;
+pub use user_os::UserOs;

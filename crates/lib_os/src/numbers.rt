@@ -25,6 +25,9 @@ pub const FD_MODE: u32 = 8;
 /// Where it has the file's number at the file server. (MIT 6.828, inc/fd.h: `fd_file.id`)
 pub const FD_FILE: u32 = 12;
 
+/// How many bytes the file had when it was opened.
+pub const FD_SIZE: u32 = 16;
+
 /// The mode of what may be read and written. (MIT 6.828, inc/lib.h)
 pub const O_RDWR: u32 = 2;
 
@@ -123,6 +126,9 @@ pub const FSREQ_SYNC: u32 = 8;
 /// The place of the next byte is set. (MIT's clients set it themselves.)
 pub const FSREQ_SEEK: u32 = 9;
 
+/// Bytes are read from a place on that the request tells; no offset goes on by them.
+pub const FSREQ_READ_AT: u32 = 10;
+
 /// Where the page of a request has the number of its file.
 pub const REQUEST_FILE: u32 = 0;
 
@@ -131,6 +137,9 @@ pub const REQUEST_COUNT: u32 = 4;
 
 /// From here on it has the bytes that are written.
 pub const REQUEST_BYTES: u32 = 8;
+
+/// The place of the first byte that is read, in the page of a request that tells it.
+pub const REQUEST_PLACE: u32 = 8;
 
 /// Where it has the mode in which a file is to be opened, behind the path.
 pub const REQUEST_MODE: u32 = 1024;

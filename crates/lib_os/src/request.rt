@@ -4,14 +4,14 @@ ghost use Rattle.std.specs.Prelude.{◌≡◌};
 ghost use Rattle.lib_os.specs.Requests as requests;
 
 use crate::numbers::{
-    FSREQ_OPEN, FSREQ_READ, FSREQ_REMOVE, FSREQ_SEEK, FSREQ_SET_SIZE, FSREQ_STAT, FSREQ_SYNC,
-    FSREQ_WRITE,
+    FSREQ_OPEN, FSREQ_READ, FSREQ_READ_AT, FSREQ_REMOVE, FSREQ_SEEK, FSREQ_SET_SIZE, FSREQ_STAT,
+    FSREQ_SYNC, FSREQ_WRITE,
 };
 
 /// What is asked for. The page that goes with the message has what is given: the path from byte 0 on, with a NUL behind it, and
 /// for `Open` the mode (`REQUEST_MODE`); or the number of the file (`REQUEST_FILE`), then a count, a size or an offset
-/// (`REQUEST_COUNT`), and for `Write` the bytes (`REQUEST_BYTES`). What is read or told stands in it from byte 0 on when the reply
-/// comes. (MIT 6.828, lab 5: inc/fs.h, `union Fsipc`)
+/// (`REQUEST_COUNT`), and for `Write` the bytes (`REQUEST_BYTES`), for `ReadAt` the place of the first byte (`REQUEST_PLACE`). What is
+/// read or told stands in it from byte 0 on when the reply comes. (MIT 6.828, lab 5: inc/fs.h, `union Fsipc`)
 #[derive(Clone, Copy, Debug, PartialEq, Eq)]
 pub enum RequestKind {
     Open,
@@ -22,6 +22,7 @@ pub enum RequestKind {
     Remove,
     Sync,
     Seek,
+    ReadAt,
 }
 
 /// The word of the message.
@@ -37,6 +38,7 @@ pub fn request_word(kind: RequestKind) -> u32
         RequestKind::Remove => FSREQ_REMOVE,
         RequestKind::Sync => FSREQ_SYNC,
         RequestKind::Seek => FSREQ_SEEK,
+        RequestKind::ReadAt => FSREQ_READ_AT,
     }
 }
 
@@ -53,6 +55,7 @@ pub fn request_kind(word: u32) -> Option<RequestKind>
         FSREQ_REMOVE => Some(RequestKind::Remove),
         FSREQ_SYNC => Some(RequestKind::Sync),
         FSREQ_SEEK => Some(RequestKind::Seek),
+        FSREQ_READ_AT => Some(RequestKind::ReadAt),
         _ => None,
     }
 }

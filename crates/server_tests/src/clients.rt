@@ -10,7 +10,7 @@ use jos_base::{
 };
 use lib_os::{
     FD_FILE, MAXOPEN, PTE_SHARE, REQUEST_BYTES, REQUEST_COUNT, REQUEST_FILE, REQUEST_MODE,
-    RequestKind, STAT_SIZE, request_word,
+    REQUEST_PLACE, RequestKind, STAT_SIZE, request_word,
 };
 use server_bench::{OWN_PERM, Unanswered, tell_bytes, tell_word};
 use std::alloc::{AllocError, Global};
@@ -180,7 +180,7 @@ impl ServerBench {
         format!(in alloc; "{answer:x} {digits}")
     }
 
-    /// A request about a descriptor's file, with a count, a size or an offset, and bytes.
+    /// A request about a descriptor's file, with a count, a size or an offset, and bytes: those that are written, or of the place that is told.
     pub(crate) fn of_file(
         &mut self,
         alloc: Global,
@@ -191,9 +191,13 @@ impl ServerBench {
         bytes: &[u8],
     ) -> Result<String, AllocError> {
         let handed = match kind {
-            RequestKind::Read => None,
+            RequestKind::Read | RequestKind::ReadAt => None,
             RequestKind::Stat => Some(STAT_SIZE),
             _ => Some(0),
+        };
+        let rest = match kind {
+            RequestKind::ReadAt => REQUEST_PLACE,
+            _ => REQUEST_BYTES,
         };
         match self.descriptor_word(client, fd, FD_FILE) {
             Ok(Some(file)) => {
@@ -202,7 +206,7 @@ impl ServerBench {
                 let parts: [(u32, &[u8]); 3] = [
                     (REQUEST_FILE, &file),
                     (REQUEST_COUNT, &count),
-                    (REQUEST_BYTES, bytes),
+                    (rest, bytes),
                 ];
                 self.request(alloc, client, request_word(kind), UTOP, &parts, handed)
             }

@@ -13,6 +13,7 @@
 //! | `open C FD MODE PATH`, `remove C PATH` | what the server answers. What is opened becomes this descriptor |
 //! | `opens C FD COUNT MODE PATH` | the last answer, where a path is opened so often, as this descriptor and those behind it |
 //! | `read C FD COUNT` | what it answers, and the bytes |
+//! | `read_at C FD COUNT PLACE` | the same, from a place on that the request tells |
 //! | `write C FD DIGITS`, `fill C FD COUNT BYTE` | what it answers, given these bytes, or so many equal ones |
 //! | `seek C FD OFFSET`, `size C FD SIZE`, `sync C` | what it answers |
 //! | `ask C WORD` | what it answers to a request with this word and an empty page |
@@ -26,7 +27,7 @@
 //! | `close C FD` | what page_unmap answers |
 //! | `share C FD D FD` | what page_map answers: the second descriptor, of client D, becomes one of what the first names |
 //! | `offset C FD` | the place of the next byte |
-//! | `object C FD` | what the page of the descriptor names, the place of the next byte, the mode and the number of the file |
+//! | `object C FD` | what the page of the descriptor names, the next byte's place, the mode, the file's number, and its size at the open |
 //! | `file PLACE COUNT` | bytes of the host's file |
 //! | `hold PAGES` | how many of so many pages the file server could take for itself |
 //! | `give PAGES` | that it has given the first of them back |
@@ -40,7 +41,7 @@ mod clients;
 use crate::bench::{Between, ServerBench};
 use crate::clients::{STEPS_MAX, descriptor_page};
 use jos_base::{SYS_ENV_DESTROY, UTOP};
-use lib_os::{FD_DEVICE, FD_FILE, FD_MODE, FD_OFFSET, RequestKind, request_word};
+use lib_os::{FD_DEVICE, FD_FILE, FD_MODE, FD_OFFSET, FD_SIZE, RequestKind, request_word};
 use server_bench::{given_bytes, rest_of, tell_done, tell_word};
 use std::alloc::{AllocError, Global};
 use test_cases::{tell_lines, twelve_numbers};
@@ -57,6 +58,15 @@ fn equal_bytes(alloc: Global, count: u32, byte: u32) -> Result<Vec<u8>, AllocErr
     Ok(bytes)
 }
 
+/// The bytes of a word.
+fn word_bytes(alloc: Global, word: u32) -> Result<Vec<u8>, AllocError> {
+    let mut bytes = Vec::new(alloc);
+    for byte in word.to_le_bytes() {
+        bytes.push(byte)?;
+    }
+    Ok(bytes)
+}
+
 /// What is told for a line that asks the server about a descriptor's file.
 fn file_request(
     alloc: Global,
@@ -67,6 +77,7 @@ fn file_request(
     let [client, fd, third, fourth, ..] = twelve_numbers(given);
     let kind = match case {
         "read" => RequestKind::Read,
+        "read_at" => RequestKind::ReadAt,
         "write" | "fill" => RequestKind::Write,
         "seek" => RequestKind::Seek,
         "size" => RequestKind::SetSize,
@@ -76,6 +87,7 @@ fn file_request(
     let bytes = match case {
         "write" => given_bytes(alloc, rest_of(rest_of(given)))?,
         "fill" => equal_bytes(alloc, third, fourth)?,
+        "read_at" => word_bytes(alloc, fourth)?,
         _ => Vec::new(alloc),
     };
     let count = match kind {
@@ -152,7 +164,7 @@ fn answer(
         "share" => tell_word(alloc, server.share([first, second], [third, fourth])),
         "offset" => server.words(alloc, first, second, &[FD_OFFSET]),
         "object" => {
-            let places = [FD_DEVICE, FD_OFFSET, FD_MODE, FD_FILE];
+            let places = [FD_DEVICE, FD_OFFSET, FD_MODE, FD_FILE, FD_SIZE];
             server.words(alloc, first, second, &places)
         }
         "file" => server.machine.file(alloc, given),

@@ -8,7 +8,7 @@
 //! | `disk FRAMES BLOCKS CALL` | a file server begins in so many frames, with a page for requests, over a disk of so many blocks, whose file has zeros. The host's call of this number fails, unless it is 0 |
 //! | `bytes PLACE DIGITS` | that bytes were put into the host's file |
 //! | `path TEXT`, `page DIGITS` | that a path, or bytes, were put into the page of the request, with a NUL behind them |
-//! | `open MODE`, `find`, `remove HOME`, `read HOME AT COUNT`, `write HOME AT COUNT`, `size HOME SIZE`, `stat HOME` | what the job answers. HOME is the place of the file's record on the disk |
+//! | `open MODE`, `find`, `remove HOME`, `read HOME AT COUNT`, `write HOME AT COUNT`, `size HOME SIZE`, `stat HOME`, `length HOME` | what the job answers. HOME is the place of the file's record on the disk |
 //! | `calls` | how many calls the last job was |
 //! | `reply COUNT` | the first bytes of the page of the request |
 //! | `flush` | that no page is dirty any more |
@@ -40,6 +40,7 @@ fn job_named(case: &str, given: &str) -> Option<Job> {
         "write" => Some(Job::Write { home, at, count }),
         "size" => Some(Job::SetSize { home, size: at }),
         "stat" => Some(Job::Stat { home }),
+        "length" => Some(Job::Size { home }),
         _ => None,
     }
 }
