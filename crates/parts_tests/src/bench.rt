@@ -5,6 +5,7 @@ use crate::frames::tell_frames;
 use crate::lines::tell_lines;
 use crate::messages::tell_messages;
 use crate::schedules::tell_schedules;
+use crate::scripts::tell_scripts;
 use anyhow::{Context, bail};
 use jos_envs::Table;
 use jos_ipc::Rendezvous;
@@ -24,6 +25,8 @@ pub(crate) enum PartBench {
     Environments(Table),
     /// `jos_shell`.
     Lines,
+    /// `jos_script`.
+    Scripts,
 }
 
 impl Bench for PartBench {
@@ -37,6 +40,7 @@ impl Bench for PartBench {
                 Ok(PartBench::Environments(table))
             }
             "lines" => Ok(PartBench::Lines),
+            "scripts" => Ok(PartBench::Scripts),
             _ => bail!("{line} is not tried"),
         }
     }
@@ -48,6 +52,7 @@ impl Bench for PartBench {
             PartBench::Messages(rendezvous) => tell_messages(rendezvous, alloc, what, words),
             PartBench::Environments(table) => tell_environments(table, alloc, what, words),
             PartBench::Lines => tell_lines(alloc, what, words),
+            PartBench::Scripts => tell_scripts(alloc, what, words),
         }
     }
 }

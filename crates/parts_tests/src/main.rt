@@ -1,5 +1,5 @@
 //! What is tested of the kernel's parts: schedules, trap frames, messages and the table of environments; and of lines of
-//! the shell. Each line of
+//! the shell, with their scripts. Each line of
 //! `stdin` is a case (`test_cases`), and `stdout` has what is wanted, worked out by hand.
 //!
 //! | Case of `schedules` | What is told |
@@ -33,6 +33,11 @@
 //! |---|---|
 //! | `read "TEXT"` | what is read of a line: of each command its words, its files, and `|` where it is piped, else `;` |
 //! | `repeat TIMES "TEXT"` | the same of a line that has the text so often |
+//!
+//! | Case of `scripts` | What is told |
+//! |---|---|
+//! | `typed ANSWER .. "TEXT"` | the calls of the shell for an input, without those that read it: the first are answered so, all others 0. `next line` tells that a line is done. Where a fork is answered 0 the calls behind it are the child's |
+//! | `repeat TIMES "TEXT"` | the same of a line that has the text so often, and a line with no command behind it |
 #![tactic(auto)]
 
 mod bench;
@@ -41,6 +46,7 @@ mod frames;
 mod lines;
 mod messages;
 mod schedules;
+mod scripts;
 mod texts;
 
 use crate::bench::PartBench;

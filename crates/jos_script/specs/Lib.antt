@@ -1,0 +1,2 @@
+pub mod ShellScript
+pub mod ScriptPlaces
