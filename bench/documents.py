@@ -1,7 +1,7 @@
 #!/usr/bin/env python3
 """Runs the command lines of documents as they stand there, and compares what they print.
 
-    bench/documents.py [--write] [FILE..]     without a FILE: README.md and those of docs/, examples/ and release/
+    bench/documents.py [--write] [FILE..]     without a FILE: README.md and those of docs/, examples/, examples/disk/ and release/
 
 A line that is indented by four spaces and begins with `$ ` is a command, which goes on in the next lines as long as bash
 would ask for more; the indented lines behind it are what it prints, on both streams. A line `..` stands for any lines. The
@@ -131,7 +131,7 @@ def main():
     given = parser.parse_args()
     names = [os.path.relpath(name, TOP) for name in given.files]
     if not names:
-        found = [f"{folder}/{name}" for folder in ("docs", "examples", "release") for name in os.listdir(f"{TOP}/{folder}")]
+        found = [f"{folder}/{name}" for folder in ("docs", "examples", "examples/disk", "release") for name in os.listdir(f"{TOP}/{folder}")]
         names = ["README.md"] + sorted(name for name in found if name.endswith(".md"))
     counts = [check(name, given.write) for name in names]
     failed = sum(more for _, more in counts)

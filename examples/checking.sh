@@ -1,5 +1,5 @@
-# What the checks of this folder, of library/ and of commands/ have in common: they make the runs of their table. Those of this
-# folder and of library/ build their images again, too. One who sources this has set
+# What the checks of this folder, of library/, of disk/ and of commands/ have in common: they make the runs of their table. All but
+# the last build their images again, too. One who sources this has set
 #
 #     examples   this folder
 #     here       the folder of the check, with table, and where it has images consoles, programs, bin and Makefile
@@ -128,6 +128,23 @@ check_images() {
             passed=$((passed + 1))
         else
             fail "$folder/bin/${image##*/} is not what make -C $folder builds of programs/${image##*/}.c"
+        fi
+    done
+}
+
+# bytes of instructions that the machine has not (docs/programs.md)
+outside='66 (?!90)|2[6e] |3[6e] |6[457] |9b |d[89a-f] |f0 |f[23] 0f|0f (?!8|9|a[45cdf]|b[67ef])'
+
+check_instructions() {
+    if ! command -v objdump >/dev/null; then
+        say 'the instructions were not looked at: there is no objdump'
+        return
+    fi
+    for image in "$here"/bin/*; do
+        if objdump -d "$image" | grep -P "\t($outside)"; then
+            fail "$folder/bin/${image##*/} has the instructions above, which the machine has not"
+        else
+            passed=$((passed + 1))
         fi
     done
 }
