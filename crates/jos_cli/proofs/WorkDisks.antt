@@ -22,7 +22,8 @@ use Rattle.jos_demo.specs.declared.workloads.Workload.{Workload}
 use Rattle.jos_demo.specs.Code.{image}
 use Rattle.jos_demo.specs.Workloads.{work_file, workload_of}
 use Rattle.jos_demo.proofs.WorkCode.{work_is_image}
-use Rattle.jos_kernel.specs.Boot.{Loadable, any_touches}
+use Rattle.jos_kernel.specs.Boot.{Loadable}
+use Rattle.jos_elf.specs.Pages.{any_touches}
 use Rattle.fs_layout.specs.DiskFiles.{IsDiskImage}
 use Rattle.fs_layout.specs.FileTree.{listed, records_from}
 use Rattle.fs_layout.specs.FileActs.{names_in, is_good_path, find_name, look_from, look_up}
@@ -35,7 +36,7 @@ use Rattle.fs_make.specs.MakeFaults.{make_fault, is_file_name, first_taken, root
 use Rattle.fs_make.specs.MadeImage.{made_image, made_files}
 use Rattle.fs_make.proofs.MadeDisks.{made_is_disk}
 use Rattle.fs_make.proofs.MadeTrees.{made_has_files}
-use Rattle.lib_spawn.specs.StackPage.{fits_stack, stack_size, strings_of}
+use Rattle.jos_elf.specs.StackPage.{fits_stack, stack_size, strings_of}
 use Rattle.jos_run.specs.Boot.{boot_frames, booted_within, pages_touched, regions_touched, touches_region}
 use Rattle.jos_run.proofs.EnoughFrames.{programs_boot}
 use Rattle.jos_words.specs.Arguments.{Word}

@@ -5,7 +5,7 @@ use Rattle.jos_base.specs.declared.numbers.TheConstants.{FRAMES, FRAMES_MIN, FRA
 use Rattle.fs_layout.specs.declared.numbers.TheConstants.{MINBLOCKS, MAXBLOCKS}
 use Rattle.jos_words.specs.declared.values.NumberAt.{NumberAt}
 use Rattle.jos_words.specs.Commands.{Exo, Run}
-use Rattle.lib_spawn.specs.StackPage.{fits_stack}
+use Rattle.jos_elf.specs.StackPage.{fits_stack}
 use Rattle.jos_cli.specs.declared.outcome.Which.{Which}
 use Rattle.jos_cli.specs.declared.outcome.Which.TheVariants.{Frames, Steps, Trace, Images, Blocks, Args, Seed}
 use Rattle.jos_cli.specs.declared.limits.Numbers.{Numbers}

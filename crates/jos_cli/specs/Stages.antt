@@ -10,7 +10,7 @@ use Rattle.jos_kernel.specs.Boot.{loadables}
 use Rattle.jos_kernel.specs.Reports.{CutOff}
 use Rattle.jos_kernel.specs.declared.kernel.BootFault.{BootFault}
 use Rattle.jos_kernel.specs.declared.kernel.BootFault.TheVariants as boot_fault
-use Rattle.lib_spawn.specs.StackPage.{fits_stack}
+use Rattle.jos_elf.specs.StackPage.{fits_stack}
 use Rattle.jos_cli.specs.declared.outcome.Outcome.{Outcome}
 use Rattle.jos_cli.specs.declared.outcome.Outcome.TheVariants.{Ran, Usage, Absent, Limit, BadSchedule, BadImage, HostFault, NoMemory, Made}
 use Rattle.jos_cli.specs.declared.outcome.Outcome.TheVariants.{BadDisk, NotThere}

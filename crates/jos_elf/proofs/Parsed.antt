@@ -8,6 +8,7 @@ use Rattle.std.specs.Prelude.{if◌then◌else◌, nat_le}
 use Rattle.std.proofs.lemmas.Bool.{leb-true}
 use Rattle.jos_elf.specs.declared.fault.ElfFault.{ElfFault}
 use Rattle.jos_elf.specs.declared.fault.ElfFault.TheVariants.{Truncated, SegmentRange, Overlap}
+use Rattle.jos_elf.specs.declared.header.ProgramHeader.{ProgramHeader}
 use Rattle.jos_elf.specs.declared.image.Segment.{Segment}
 use Rattle.jos_elf.specs.Headers.{entry_point_of, entry_count_of, header_of}
 use Rattle.jos_elf.specs.Tests.{first_failed, is_loaded, is_placed, leaves_free, header_tests, overlap_tests}
@@ -26,90 +27,90 @@ failed f = Err f
 
 pub parsed-header_failed : (total : ℕ) (byte : ℕ → ℕ) (f : ElfFault) → first_failed (header_tests total byte) ≡ Some f → failed f ≡ parsed_bytes total byte
 unfolding parsed_bytes tests
-parsed-header_failed total byte f e = rw (failed-append (header_tests total byte) (table_tests total byte (entry_count_of byte)) f e) refl
+parsed-header_failed total byte f e = rw (failed-append (header_tests total byte) (table_tests total (header_of byte) (entry_count_of byte)) f e) refl
 
-pub parsed-table_failed : (total : ℕ) (byte : ℕ → ℕ) (f : ElfFault) → first_failed (header_tests total byte) ≡ none → first_failed (table_tests total byte (entry_count_of byte)) ≡ Some f → failed f ≡ parsed_bytes total byte
+pub parsed-table_failed : (total : ℕ) (byte : ℕ → ℕ) (f : ElfFault) → first_failed (header_tests total byte) ≡ none → first_failed (table_tests total (header_of byte) (entry_count_of byte)) ≡ Some f → failed f ≡ parsed_bytes total byte
 unfolding parsed_bytes tests
-parsed-table_failed total byte f e t = rw (passed-append (header_tests total byte) (table_tests total byte (entry_count_of byte)) e, t) refl
+parsed-table_failed total byte f e t = rw (passed-append (header_tests total byte) (table_tests total (header_of byte) (entry_count_of byte)) e, t) refl
 
-pub parsed-passed : (total : ℕ) (byte : ℕ → ℕ) (entry : ℕ) (segments : List Segment) → first_failed (header_tests total byte) ≡ none → first_failed (table_tests total byte (entry_count_of byte)) ≡ none
-    → entry ≡ entry_point_of byte → segments ≡ segments_of byte (entry_count_of byte) → Ok (record { entry = entry; segments = segments }) ≡ parsed_bytes total byte
+pub parsed-passed : (total : ℕ) (byte : ℕ → ℕ) (entry : ℕ) (segments : List Segment) → first_failed (header_tests total byte) ≡ none → first_failed (table_tests total (header_of byte) (entry_count_of byte)) ≡ none
+    → entry ≡ entry_point_of byte → segments ≡ segments_of (header_of byte) (entry_count_of byte) → Ok (record { entry = entry; segments = segments }) ≡ parsed_bytes total byte
 unfolding parsed_bytes tests
-parsed-passed total byte entry segments e t p q = rw (passed-append (header_tests total byte) (table_tests total byte (entry_count_of byte)) e, t, p, q) refl
+parsed-passed total byte entry segments e t p q = rw (passed-append (header_tests total byte) (table_tests total (header_of byte) (entry_count_of byte)) e, t, p, q) refl
 
 -- ---- the segments
 
-pub segments-none : (byte : ℕ → ℕ) → segments_of byte 0 ≡ []
+pub segments-none : (headers : ℕ → ProgramHeader) → segments_of headers 0 ≡ []
 unfolding segments_of
-segments-none byte = refl
+segments-none headers = refl
 
-pub segments-passed_over : (byte : ℕ → ℕ) (n : ℕ) (segments : List Segment) → segments ≡ segments_of byte n → is_loaded (header_of byte n) ≡ false → segments ≡ segments_of byte (n + 1)
+pub segments-passed_over : (headers : ℕ → ProgramHeader) (n : ℕ) (segments : List Segment) → segments ≡ segments_of headers n → is_loaded (headers n) ≡ false → segments ≡ segments_of headers (n + 1)
 unfolding segments_of
-segments-passed_over byte n segments e h =
+segments-passed_over headers n segments e h =
     let q : n + 1 ≡ suc n = omega arith in
-    rw (q, h) (e ∙ sym (append-nil (segments_of byte n)))
+    rw (q, h) (e ∙ sym (append-nil (segments_of headers n)))
 
-pub segments-more : (byte : ℕ → ℕ) (n : ℕ) (segments : List Segment) → segments ≡ segments_of byte n → is_loaded (header_of byte n) ≡ true
-    → segments ++ segment_of (header_of byte n) ∷ [] ≡ segments_of byte (n + 1)
+pub segments-more : (headers : ℕ → ProgramHeader) (n : ℕ) (segments : List Segment) → segments ≡ segments_of headers n → is_loaded (headers n) ≡ true
+    → segments ++ segment_of (headers n) ∷ [] ≡ segments_of headers (n + 1)
 unfolding segments_of
-segments-more byte n segments e h =
+segments-more headers n segments e h =
     let q : n + 1 ≡ suc n = omega arith in
     rw (q, h, e) refl
 
 -- ---- where they lie
 
-pub tests-lie : (total : ℕ) (byte : ℕ → ℕ) (n : ℕ) → is_loaded (header_of byte n) ≡ true → first_failed (segment_tests total byte n) ≡ none → Lies total (segment_of (header_of byte n))
+pub tests-lie : (total : ℕ) (headers : ℕ → ProgramHeader) (n : ℕ) → is_loaded (headers n) ≡ true → first_failed (segment_tests total headers n) ≡ none → Lies total (segment_of (headers n))
 unfolding segment_tests
-tests-lie total byte n h e =
-    let header = header_of byte n in
-    let one = cons-passed (nat_le (header.file_at + header.file_len) total) (Truncated total) ((is_placed header, SegmentRange n) ∷ overlap_tests byte n n) e in
-    let two = cons-passed (is_placed header) (SegmentRange n) (overlap_tests byte n n) one.1 in
+tests-lie total headers n h e =
+    let header = headers n in
+    let one = cons-passed (nat_le (header.file_at + header.file_len) total) (Truncated total) ((is_placed header, SegmentRange n) ∷ overlap_tests headers n n) e in
+    let two = cons-passed (is_placed header) (SegmentRange n) (overlap_tests headers n n) one.1 in
     let place = (placed header).0 two.0 in
     record { file = leb-true _ _ one.0; room = place.0; some = ((loaded header).0 h).1; range = place.1 }
 
-lie-step : (total : ℕ) (byte : ℕ → ℕ) (n : ℕ) (b : Bool) → is_loaded (header_of byte n) ≡ b → first_failed (if b then segment_tests total byte n else []) ≡ none
-    → All (Lies total) (segments_of byte n) → All (Lies total) (segments_of byte n ++ (if b then segment_of (header_of byte n) ∷ [] else []))
-lie-step total byte n true h e all = All-push (Lies total) (segments_of byte n) (segment_of (header_of byte n)) all (tests-lie total byte n h e)
-lie-step total byte n false h e all = rw (append-nil (segments_of byte n)) all
+lie-step : (total : ℕ) (headers : ℕ → ProgramHeader) (n : ℕ) (b : Bool) → is_loaded (headers n) ≡ b → first_failed (if b then segment_tests total headers n else []) ≡ none
+    → All (Lies total) (segments_of headers n) → All (Lies total) (segments_of headers n ++ (if b then segment_of (headers n) ∷ [] else []))
+lie-step total headers n true h e all = All-push (Lies total) (segments_of headers n) (segment_of (headers n)) all (tests-lie total headers n h e)
+lie-step total headers n false h e all = rw (append-nil (segments_of headers n)) all
 
-pub segments-lie : (total : ℕ) (byte : ℕ → ℕ) (n : ℕ) → first_failed (table_tests total byte n) ≡ none → All (Lies total) (segments_of byte n)
+pub segments-lie : (total : ℕ) (headers : ℕ → ProgramHeader) (n : ℕ) → first_failed (table_tests total headers n) ≡ none → All (Lies total) (segments_of headers n)
 unfolding table_tests segments_of
-segments-lie total byte zero e = λ k d lt. absurd (omega arith)
-segments-lie total byte (suc n) e =
-    let both = append-passed (table_tests total byte n) (if is_loaded (header_of byte n) then segment_tests total byte n else []) e in
-    lie-step total byte n (is_loaded (header_of byte n)) refl both.1 (segments-lie total byte n both.0)
+segments-lie total headers zero e = λ k d lt. absurd (omega arith)
+segments-lie total headers (suc n) e =
+    let both = append-passed (table_tests total headers n) (if is_loaded (headers n) then segment_tests total headers n else []) e in
+    lie-step total headers n (is_loaded (headers n)) refl both.1 (segments-lie total headers n both.0)
 
 -- ---- no two share a byte
 
-free-step : (byte : ℕ → ℕ) (place n : ℕ) (b : Bool) → is_loaded (header_of byte n) ≡ b → leaves_free (header_of byte n) (header_of byte place) ≡ true
-    → All (λ s. Apart s (segment_of (header_of byte place))) (segments_of byte n)
-    → All (λ s. Apart s (segment_of (header_of byte place))) (segments_of byte n ++ (if b then segment_of (header_of byte n) ∷ [] else []))
-free-step byte place n true h e all = All-push (λ s. Apart s (segment_of (header_of byte place))) (segments_of byte n) (segment_of (header_of byte n)) all (free (header_of byte n) (header_of byte place) e h)
-free-step byte place n false h e all = rw (append-nil (segments_of byte n)) all
+free-step : (headers : ℕ → ProgramHeader) (place n : ℕ) (b : Bool) → is_loaded (headers n) ≡ b → leaves_free (headers n) (headers place) ≡ true
+    → All (λ s. Apart s (segment_of (headers place))) (segments_of headers n)
+    → All (λ s. Apart s (segment_of (headers place))) (segments_of headers n ++ (if b then segment_of (headers n) ∷ [] else []))
+free-step headers place n true h e all = All-push (λ s. Apart s (segment_of (headers place))) (segments_of headers n) (segment_of (headers n)) all (free (headers n) (headers place) e h)
+free-step headers place n false h e all = rw (append-nil (segments_of headers n)) all
 
-earlier-apart : (byte : ℕ → ℕ) (place n : ℕ) → first_failed (overlap_tests byte place n) ≡ none → All (λ s. Apart s (segment_of (header_of byte place))) (segments_of byte n)
+earlier-apart : (headers : ℕ → ProgramHeader) (place n : ℕ) → first_failed (overlap_tests headers place n) ≡ none → All (λ s. Apart s (segment_of (headers place))) (segments_of headers n)
 unfolding overlap_tests segments_of
-earlier-apart byte place zero e = λ k d lt. absurd (omega arith)
-earlier-apart byte place (suc n) e =
-    let both = append-passed (overlap_tests byte place n) ((leaves_free (header_of byte n) (header_of byte place), Overlap place n) ∷ []) e in
-    free-step byte place n (is_loaded (header_of byte n)) refl (cons-passed _ (Overlap place n) [] both.1).0 (earlier-apart byte place n both.0)
+earlier-apart headers place zero e = λ k d lt. absurd (omega arith)
+earlier-apart headers place (suc n) e =
+    let both = append-passed (overlap_tests headers place n) ((leaves_free (headers n) (headers place), Overlap place n) ∷ []) e in
+    free-step headers place n (is_loaded (headers n)) refl (cons-passed _ (Overlap place n) [] both.1).0 (earlier-apart headers place n both.0)
 
-tests-apart : (total : ℕ) (byte : ℕ → ℕ) (n : ℕ) → first_failed (segment_tests total byte n) ≡ none → All (λ s. Apart s (segment_of (header_of byte n))) (segments_of byte n)
+tests-apart : (total : ℕ) (headers : ℕ → ProgramHeader) (n : ℕ) → first_failed (segment_tests total headers n) ≡ none → All (λ s. Apart s (segment_of (headers n))) (segments_of headers n)
 unfolding segment_tests
-tests-apart total byte n e =
-    let header = header_of byte n in
-    let one = cons-passed (nat_le (header.file_at + header.file_len) total) (Truncated total) ((is_placed header, SegmentRange n) ∷ overlap_tests byte n n) e in
-    let two = cons-passed (is_placed header) (SegmentRange n) (overlap_tests byte n n) one.1 in
-    earlier-apart byte n n two.1
+tests-apart total headers n e =
+    let header = headers n in
+    let one = cons-passed (nat_le (header.file_at + header.file_len) total) (Truncated total) ((is_placed header, SegmentRange n) ∷ overlap_tests headers n n) e in
+    let two = cons-passed (is_placed header) (SegmentRange n) (overlap_tests headers n n) one.1 in
+    earlier-apart headers n n two.1
 
-apart-step : (total : ℕ) (byte : ℕ → ℕ) (n : ℕ) (b : Bool) → first_failed (if b then segment_tests total byte n else []) ≡ none
-    → AllPairs Apart (segments_of byte n) → AllPairs Apart (segments_of byte n ++ (if b then segment_of (header_of byte n) ∷ [] else []))
-apart-step total byte n true e all = all_pairs_push Apart (segments_of byte n) (segment_of (header_of byte n)) all (tests-apart total byte n e)
-apart-step total byte n false e all = rw (append-nil (segments_of byte n)) all
+apart-step : (total : ℕ) (headers : ℕ → ProgramHeader) (n : ℕ) (b : Bool) → first_failed (if b then segment_tests total headers n else []) ≡ none
+    → AllPairs Apart (segments_of headers n) → AllPairs Apart (segments_of headers n ++ (if b then segment_of (headers n) ∷ [] else []))
+apart-step total headers n true e all = all_pairs_push Apart (segments_of headers n) (segment_of (headers n)) all (tests-apart total headers n e)
+apart-step total headers n false e all = rw (append-nil (segments_of headers n)) all
 
-pub segments-apart : (total : ℕ) (byte : ℕ → ℕ) (n : ℕ) → first_failed (table_tests total byte n) ≡ none → AllPairs Apart (segments_of byte n)
+pub segments-apart : (total : ℕ) (headers : ℕ → ProgramHeader) (n : ℕ) → first_failed (table_tests total headers n) ≡ none → AllPairs Apart (segments_of headers n)
 unfolding table_tests segments_of
-segments-apart total byte zero e = λ i j d lt within. absurd (omega arith)
-segments-apart total byte (suc n) e =
-    let both = append-passed (table_tests total byte n) (if is_loaded (header_of byte n) then segment_tests total byte n else []) e in
-    apart-step total byte n (is_loaded (header_of byte n)) both.1 (segments-apart total byte n both.0)
+segments-apart total headers zero e = λ i j d lt within. absurd (omega arith)
+segments-apart total headers (suc n) e =
+    let both = append-passed (table_tests total headers n) (if is_loaded (headers n) then segment_tests total headers n else []) e in
+    apart-step total headers n (is_loaded (headers n)) both.1 (segments-apart total headers n both.0)

@@ -3,7 +3,7 @@ use Rattle.std.proofs.Common.{◌≡◌, ℕ, zero, suc, ◌+◌, ◌-◌, ◌<�
 use Rattle.std.proofs.Common.{None, refl, ◌∙◌, arith}
 use Rattle.jos_elf.specs.declared.fault.ElfFault.{ElfFault}
 use Rattle.jos_elf.specs.declared.fault.ElfFault.TheVariants.{Overlap}
-use Rattle.jos_elf.specs.Headers.{header_of}
+use Rattle.jos_elf.specs.declared.header.ProgramHeader.{ProgramHeader}
 use Rattle.jos_elf.specs.Tests.{FaultTest, first_failed, is_loaded, leaves_free, overlap_tests, segment_tests, table_tests}
 
 abbrev none : Option ElfFault
@@ -29,68 +29,68 @@ one-failed false f e = refl
 
 -- ---- those of overlap
 
-pub overlap-none : (byte : ℕ → ℕ) (place : ℕ) → first_failed (overlap_tests byte place 0) ≡ none
+pub overlap-none : (headers : ℕ → ProgramHeader) (place : ℕ) → first_failed (overlap_tests headers place 0) ≡ none
 unfolding overlap_tests
-overlap-none byte place = refl
+overlap-none headers place = refl
 
-pub overlap-passed : (byte : ℕ → ℕ) (place n : ℕ) → first_failed (overlap_tests byte place n) ≡ none
-    → leaves_free (header_of byte n) (header_of byte place) ≡ true
-    → first_failed (overlap_tests byte place (n + 1)) ≡ none
+pub overlap-passed : (headers : ℕ → ProgramHeader) (place n : ℕ) → first_failed (overlap_tests headers place n) ≡ none
+    → leaves_free (headers n) (headers place) ≡ true
+    → first_failed (overlap_tests headers place (n + 1)) ≡ none
 unfolding overlap_tests
-overlap-passed byte place n e h =
+overlap-passed headers place n e h =
     let q : n + 1 ≡ suc n = omega arith in
-    rw q (passed-append (overlap_tests byte place n) _ e ∙ one-passed _ (Overlap place n) h)
+    rw q (passed-append (overlap_tests headers place n) _ e ∙ one-passed _ (Overlap place n) h)
 
-overlap-keeps : (byte : ℕ → ℕ) (place n k : ℕ) (f : ElfFault) → first_failed (overlap_tests byte place n) ≡ Some f → first_failed (overlap_tests byte place (k + n)) ≡ Some f
+overlap-keeps : (headers : ℕ → ProgramHeader) (place n k : ℕ) (f : ElfFault) → first_failed (overlap_tests headers place n) ≡ Some f → first_failed (overlap_tests headers place (k + n)) ≡ Some f
 unfolding overlap_tests
-overlap-keeps byte place n zero f e = let q : 0 + n ≡ n = omega arith in rw q e
-overlap-keeps byte place n (suc k) f e =
+overlap-keeps headers place n zero f e = let q : 0 + n ≡ n = omega arith in rw q e
+overlap-keeps headers place n (suc k) f e =
     let q : suc k + n ≡ suc (k + n) = omega arith in
-    rw q (failed-append (overlap_tests byte place (k + n)) _ f (overlap-keeps byte place n k f e))
+    rw q (failed-append (overlap_tests headers place (k + n)) _ f (overlap-keeps headers place n k f e))
 
-pub overlap-failed : (byte : ℕ → ℕ) (place n m : ℕ) → n < m → first_failed (overlap_tests byte place n) ≡ none
-    → leaves_free (header_of byte n) (header_of byte place) ≡ false
-    → first_failed (overlap_tests byte place m) ≡ Some (Overlap place n)
+pub overlap-failed : (headers : ℕ → ProgramHeader) (place n m : ℕ) → n < m → first_failed (overlap_tests headers place n) ≡ none
+    → leaves_free (headers n) (headers place) ≡ false
+    → first_failed (overlap_tests headers place m) ≡ Some (Overlap place n)
 unfolding overlap_tests
-overlap-failed byte place n m lt e h =
+overlap-failed headers place n m lt e h =
     let q : m ≡ (m - suc n) + suc n = omega arith in
-    let here : first_failed (overlap_tests byte place (suc n)) ≡ Some (Overlap place n) = passed-append (overlap_tests byte place n) _ e ∙ one-failed _ (Overlap place n) h in
-    let more = overlap-keeps byte place (suc n) (m - suc n) (Overlap place n) here in
+    let here : first_failed (overlap_tests headers place (suc n)) ≡ Some (Overlap place n) = passed-append (overlap_tests headers place n) _ e ∙ one-failed _ (Overlap place n) h in
+    let more = overlap-keeps headers place (suc n) (m - suc n) (Overlap place n) here in
     rw (← q) at more
 
 -- ---- those of the table
 
-pub table-none : (total : ℕ) (byte : ℕ → ℕ) → first_failed (table_tests total byte 0) ≡ none
+pub table-none : (total : ℕ) (headers : ℕ → ProgramHeader) → first_failed (table_tests total headers 0) ≡ none
 unfolding table_tests
-table-none total byte = refl
+table-none total headers = refl
 
-pub table-passed_over : (total : ℕ) (byte : ℕ → ℕ) (n : ℕ) → first_failed (table_tests total byte n) ≡ none → is_loaded (header_of byte n) ≡ false → first_failed (table_tests total byte (n + 1)) ≡ none
+pub table-passed_over : (total : ℕ) (headers : ℕ → ProgramHeader) (n : ℕ) → first_failed (table_tests total headers n) ≡ none → is_loaded (headers n) ≡ false → first_failed (table_tests total headers (n + 1)) ≡ none
 unfolding table_tests
-table-passed_over total byte n e h =
+table-passed_over total headers n e h =
     let q : n + 1 ≡ suc n = omega arith in
-    rw (q, h) (passed-append (table_tests total byte n) [] e)
+    rw (q, h) (passed-append (table_tests total headers n) [] e)
 
-pub table-passed : (total : ℕ) (byte : ℕ → ℕ) (n : ℕ) → first_failed (table_tests total byte n) ≡ none → is_loaded (header_of byte n) ≡ true → first_failed (segment_tests total byte n) ≡ none
-    → first_failed (table_tests total byte (n + 1)) ≡ none
+pub table-passed : (total : ℕ) (headers : ℕ → ProgramHeader) (n : ℕ) → first_failed (table_tests total headers n) ≡ none → is_loaded (headers n) ≡ true → first_failed (segment_tests total headers n) ≡ none
+    → first_failed (table_tests total headers (n + 1)) ≡ none
 unfolding table_tests
-table-passed total byte n e h s =
+table-passed total headers n e h s =
     let q : n + 1 ≡ suc n = omega arith in
-    rw (q, h) (passed-append (table_tests total byte n) (segment_tests total byte n) e ∙ s)
+    rw (q, h) (passed-append (table_tests total headers n) (segment_tests total headers n) e ∙ s)
 
-table-keeps : (total : ℕ) (byte : ℕ → ℕ) (n k : ℕ) (f : ElfFault) → first_failed (table_tests total byte n) ≡ Some f → first_failed (table_tests total byte (k + n)) ≡ Some f
+table-keeps : (total : ℕ) (headers : ℕ → ProgramHeader) (n k : ℕ) (f : ElfFault) → first_failed (table_tests total headers n) ≡ Some f → first_failed (table_tests total headers (k + n)) ≡ Some f
 unfolding table_tests
-table-keeps total byte n zero f e = let q : 0 + n ≡ n = omega arith in rw q e
-table-keeps total byte n (suc k) f e =
+table-keeps total headers n zero f e = let q : 0 + n ≡ n = omega arith in rw q e
+table-keeps total headers n (suc k) f e =
     let q : suc k + n ≡ suc (k + n) = omega arith in
-    rw q (failed-append (table_tests total byte (k + n)) _ f (table-keeps total byte n k f e))
+    rw q (failed-append (table_tests total headers (k + n)) _ f (table-keeps total headers n k f e))
 
-pub table-failed : (total : ℕ) (byte : ℕ → ℕ) (n m : ℕ) (f : ElfFault) → n < m → first_failed (table_tests total byte n) ≡ none → is_loaded (header_of byte n) ≡ true
-    → first_failed (segment_tests total byte n) ≡ Some f → first_failed (table_tests total byte m) ≡ Some f
+pub table-failed : (total : ℕ) (headers : ℕ → ProgramHeader) (n m : ℕ) (f : ElfFault) → n < m → first_failed (table_tests total headers n) ≡ none → is_loaded (headers n) ≡ true
+    → first_failed (segment_tests total headers n) ≡ Some f → first_failed (table_tests total headers m) ≡ Some f
 unfolding table_tests
-table-failed total byte n m f lt e h s =
+table-failed total headers n m f lt e h s =
     let q : m ≡ (m - suc n) + suc n = omega arith in
-    let here : first_failed (table_tests total byte (suc n)) ≡ Some f = rw h (passed-append (table_tests total byte n) (segment_tests total byte n) e ∙ s) in
-    let more = table-keeps total byte (suc n) (m - suc n) f here in
+    let here : first_failed (table_tests total headers (suc n)) ≡ Some f = rw h (passed-append (table_tests total headers n) (segment_tests total headers n) e ∙ s) in
+    let more = table-keeps total headers (suc n) (m - suc n) f here in
     rw (← q) at more
 
 -- ---- all of them

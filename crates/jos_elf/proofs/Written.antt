@@ -208,8 +208,8 @@ said-loaded file segments n within h =
     let lies = h.lie n blank within in
     rw (h.headers n blank within) ((loaded (saying (get_or segments n blank))).1 (refl, lies.some))
 
-said-overlaps : (file : List ℕ) (segments : List Segment) (place n : ℕ) → place < length segments → n ≤ place → Says file segments → first_failed (overlap_tests (slice_index file) place n) ≡ none
-said-overlaps file segments place zero within le h = overlap-none (slice_index file) place
+said-overlaps : (file : List ℕ) (segments : List Segment) (place n : ℕ) → place < length segments → n ≤ place → Says file segments → first_failed (overlap_tests (header_of (slice_index file)) place n) ≡ none
+said-overlaps file segments place zero within le h = overlap-none (header_of (slice_index file)) place
 said-overlaps file segments place (suc n) within le h =
     let a = get_or segments n blank in
     let b = get_or segments place blank in
@@ -217,37 +217,37 @@ said-overlaps file segments place (suc n) within le h =
     let free : leaves_free (header_of (slice_index file) n) (header_of (slice_index file) place) ≡ true =
     rw (h.headers n blank lt, h.headers place blank within) (free_from (saying a) (saying b) (h.apart n place blank (omega arith) within)) in
     let q : n + 1 ≡ suc n = omega arith in
-    let next = overlap-passed (slice_index file) place n (said-overlaps file segments place n within (omega arith) h) free in
+    let next = overlap-passed (header_of (slice_index file)) place n (said-overlaps file segments place n within (omega arith) h) free in
     rw q at next
 
-said-tests : (file : List ℕ) (segments : List Segment) (n : ℕ) → n < length segments → Says file segments → first_failed (segment_tests (length file) (slice_index file) n) ≡ none
+said-tests : (file : List ℕ) (segments : List Segment) (n : ℕ) → n < length segments → Says file segments → first_failed (segment_tests (length file) (header_of (slice_index file)) n) ≡ none
 unfolding segment_tests
 said-tests file segments n within h =
     let s = get_or segments n blank in
     let lies = h.lie n blank within in
     let header = header_of (slice_index file) n in
     let is : header ≡ saying s = h.headers n blank within in
-    passed-cons (nat_le (header.file_at + header.file_len) (length file)) (Truncated (length file)) ((is_placed header, SegmentRange n) ∷ overlap_tests (slice_index file) n n)
+    passed-cons (nat_le (header.file_at + header.file_len) (length file)) (Truncated (length file)) ((is_placed header, SegmentRange n) ∷ overlap_tests (header_of (slice_index file)) n n)
     (ap (λ (p : ProgramHeader). nat_le (p.file_at + p.file_len) (length file)) is ∙ le-leb (s.file_at + s.file_len) (length file) lies.file)
-    (passed-cons (is_placed header) (SegmentRange n) (overlap_tests (slice_index file) n n)
+    (passed-cons (is_placed header) (SegmentRange n) (overlap_tests (header_of (slice_index file)) n n)
     (ap (λ (p : ProgramHeader). is_placed p) is ∙ (placed (saying s)).1 (lies.room, lies.range))
     (said-overlaps file segments n n within (omega arith) h))
 
-pub passes : (file : List ℕ) (segments : List Segment) (n : ℕ) → n ≤ length segments → Says file segments → first_failed (table_tests (length file) (slice_index file) n) ≡ none
-passes file segments zero le h = table-none (length file) (slice_index file)
+pub passes : (file : List ℕ) (segments : List Segment) (n : ℕ) → n ≤ length segments → Says file segments → first_failed (table_tests (length file) (header_of (slice_index file)) n) ≡ none
+passes file segments zero le h = table-none (length file) (header_of (slice_index file))
 passes file segments (suc n) le h =
     let q : n + 1 ≡ suc n = omega arith in
     let lt : n < length segments = omega arith in
-    let next = table-passed (length file) (slice_index file) n (passes file segments n (omega arith) h) (said-loaded file segments n lt h) (said-tests file segments n lt h) in
+    let next = table-passed (length file) (header_of (slice_index file)) n (passes file segments n (omega arith) h) (said-loaded file segments n lt h) (said-tests file segments n lt h) in
     rw q at next
 
-pub segments-said : (file : List ℕ) (segments : List Segment) (n : ℕ) → n ≤ length segments → Says file segments → take n segments ≡ segments_of (slice_index file) n
-segments-said file segments zero le h = sym (segments-none (slice_index file))
+pub segments-said : (file : List ℕ) (segments : List Segment) (n : ℕ) → n ≤ length segments → Says file segments → take n segments ≡ segments_of (header_of (slice_index file)) n
+segments-said file segments zero le h = sym (segments-none (header_of (slice_index file)))
 segments-said file segments (suc n) le h =
     let q : n + 1 ≡ suc n = omega arith in
     let lt : n < length segments = omega arith in
     let same : segment_of (header_of (slice_index file) n) ≡ get_or segments n blank = ap (λ (p : ProgramHeader). segment_of p) (h.headers n blank lt) ∙ segment-said (get_or segments n blank) in
-    let next = segments-more (slice_index file) n (take n segments) (segments-said file segments n (omega arith) h) (said-loaded file segments n lt h) in
+    let next = segments-more (header_of (slice_index file)) n (take n segments) (segments-said file segments n (omega arith) h) (said-loaded file segments n lt h) in
     take-suc segments n blank lt ∙ ap (λ (s : Segment). take n segments ++ s ∷ []) (sym same) ∙ rw q at next
 
 -- ---- the whole
@@ -304,7 +304,7 @@ reads-back entry parts bytes lt fit small =
     let long : length segments ≡ count = length-map parts (part_segment (headers_len parts)) in
     let table : PHDR_LEN * count ≤ length rest = omega (arith, length-append (flat_map program_header segments) bytes, length-headers segments) in
     let counted : entry_count_of (slice_index file) ≡ count = elf-count entry count rest (omega arith) in
-    let whole : segments ≡ segments_of (slice_index file) count = sym (take_all count segments (omega arith)) ∙ segments-said file segments count (omega arith) said in
+    let whole : segments ≡ segments_of (header_of (slice_index file)) count = sym (take_all count segments (omega arith)) ∙ segments-said file segments count (omega arith) said in
     let answer : Ok (record { entry = entry; segments = segments }) ≡ parsed file =
     parsed-passed (length file) (slice_index file) entry segments (elf-passes entry count rest few table) (rw counted (passes file segments count (omega arith) said))
     (sym (elf-entry entry count rest lt)) (rw counted whole) in

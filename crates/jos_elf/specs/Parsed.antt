@@ -24,9 +24,9 @@ segment_of header = record {
 }
 
 -- the segments that the first so many program headers say of, in their order
-unfoldable pub segments_of : (ℕ → ℕ) → ℕ → List Segment
-segments_of byte zero = []
-segments_of byte (suc n) = segments_of byte n ++ (if is_loaded (header_of byte n) then segment_of (header_of byte n) ∷ [] else [])
+unfoldable pub segments_of : (ℕ → ProgramHeader) → ℕ → List Segment
+segments_of headers zero = []
+segments_of headers (suc n) = segments_of headers n ++ (if is_loaded (headers n) then segment_of (headers n) ∷ [] else [])
 
 abbrev pub unless_failed : Option ElfFault → Layout → Result Layout ElfFault
 unless_failed None image = Ok image
@@ -35,7 +35,7 @@ unless_failed (Some fault) image = Err fault
 -- A file of so many bytes that passes each of the tests is an image.
 unfoldable pub parsed_bytes : ℕ → (ℕ → ℕ) → Result Layout ElfFault
 parsed_bytes total byte =
-    unless_failed (first_failed (tests total byte)) (record { entry = entry_point_of byte; segments = segments_of byte (entry_count_of byte) })
+    unless_failed (first_failed (tests total byte)) (record { entry = entry_point_of byte; segments = segments_of (header_of byte) (entry_count_of byte) })
 
 unfoldable pub parsed : List ℕ → Result Layout ElfFault
 parsed file = parsed_bytes (length file) (slice_index file)

@@ -60,26 +60,27 @@ are_apart a b = nat_le (a.va + a.mem_len) b.va || nat_le (b.va + b.mem_len) a.va
 unfoldable pub leaves_free : ProgramHeader → ProgramHeader → Bool
 leaves_free header other = not (is_loaded header) || are_apart header other
 
--- that the segment at a place of the table shares no byte with those at the first so many places, the least first
-unfoldable pub overlap_tests : (ℕ → ℕ) → ℕ → ℕ → List FaultTest
-overlap_tests byte place zero = []
-overlap_tests byte place (suc n) =
-    overlap_tests byte place n
-    ++ (leaves_free (header_of byte n) (header_of byte place), Overlap place n) ∷ []
+-- Of program headers by their places in the table: that the segment at a place shares no byte with those at the first so many
+-- places, the least first.
+unfoldable pub overlap_tests : (ℕ → ProgramHeader) → ℕ → ℕ → List FaultTest
+overlap_tests headers place zero = []
+overlap_tests headers place (suc n) =
+    overlap_tests headers place n
+    ++ (leaves_free (headers n) (headers place), Overlap place n) ∷ []
 
 -- of the segment at a place of the table
-unfoldable pub segment_tests : ℕ → (ℕ → ℕ) → ℕ → List FaultTest
-segment_tests total byte place =
-    (nat_le ((header_of byte place).file_at + (header_of byte place).file_len) total, Truncated total)
-    ∷ (is_placed (header_of byte place), SegmentRange place)
-    ∷ overlap_tests byte place place
+unfoldable pub segment_tests : ℕ → (ℕ → ProgramHeader) → ℕ → List FaultTest
+segment_tests total headers place =
+    (nat_le ((headers place).file_at + (headers place).file_len) total, Truncated total)
+    ∷ (is_placed (headers place), SegmentRange place)
+    ∷ overlap_tests headers place place
 
 -- of the first so many program headers
-unfoldable pub table_tests : ℕ → (ℕ → ℕ) → ℕ → List FaultTest
-table_tests total byte zero = []
-table_tests total byte (suc n) =
-    table_tests total byte n ++ (if is_loaded (header_of byte n) then segment_tests total byte n else [])
+unfoldable pub table_tests : ℕ → (ℕ → ProgramHeader) → ℕ → List FaultTest
+table_tests total headers zero = []
+table_tests total headers (suc n) =
+    table_tests total headers n ++ (if is_loaded (headers n) then segment_tests total headers n else [])
 
 -- all of them
 unfoldable pub tests : ℕ → (ℕ → ℕ) → List FaultTest
-tests total byte = header_tests total byte ++ table_tests total byte (entry_count_of byte)
+tests total byte = header_tests total byte ++ table_tests total (header_of byte) (entry_count_of byte)

@@ -11,19 +11,19 @@ use jos_base::{FDTABLE, USTABDATA, UTEMP, UTEXT};
 
 /// What a program header says. (System V ABI, edition 4.1, chapter 5)
 #[derive(Clone, Copy)]
-pub(crate) struct ProgramHeader {
+pub struct ProgramHeader {
     /// p_type: what it says of.
-    pub(crate) kind: u32,
+    pub kind: u32,
     /// p_offset: the place of the segment's bytes in the file.
-    pub(crate) file_at: u32,
+    pub file_at: u32,
     /// p_vaddr: the segment's first address.
-    pub(crate) va: u32,
+    pub va: u32,
     /// p_filesz: how many bytes of the file it has.
-    pub(crate) file_len: u32,
+    pub file_len: u32,
     /// p_memsz: how many bytes of memory it has.
-    pub(crate) mem_len: u32,
+    pub mem_len: u32,
     /// p_flags: what may be done with its memory.
-    pub(crate) flags: u32,
+    pub flags: u32,
 }
 
 /// The number in the two bytes at a place.

@@ -13,6 +13,11 @@ mod parser;
 mod writer;
 
 pub use fault::{ElfFault, FaultText};
+pub use header::ProgramHeader;
 pub use image::{Image, Segment};
+pub use numbers::{
+    ARGS_MAX, E_NOT_EXEC, EHDR_LEN, P_FILESZ, P_FLAGS, P_MEMSZ, P_OFFSET, P_TYPE, P_VADDR, PF_W,
+    PHDR_LEN, PT_LOAD,
+};
 pub use parser::parse;
 pub use writer::{Part, write};

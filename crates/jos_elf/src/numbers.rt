@@ -4,78 +4,86 @@
 // ---- the ELF header
 
 /// The bytes of the ELF header.
-pub(crate) const EHDR_LEN: usize = 52;
+pub const EHDR_LEN: usize = 52;
 
 /// How wide the file's words are.
-pub(crate) const EI_CLASS: usize = 4;
+pub const EI_CLASS: usize = 4;
 
 /// Which byte of a number comes first.
-pub(crate) const EI_DATA: usize = 5;
+pub const EI_DATA: usize = 5;
 
 /// The kind of the file.
-pub(crate) const E_TYPE: usize = 16;
+pub const E_TYPE: usize = 16;
 
 /// The machine that the file is for.
-pub(crate) const E_MACHINE: usize = 18;
+pub const E_MACHINE: usize = 18;
 
 /// The address of the first instruction.
-pub(crate) const E_ENTRY: usize = 24;
+pub const E_ENTRY: usize = 24;
 
 /// The place of the program headers in the file.
-pub(crate) const E_PHOFF: usize = 28;
+pub const E_PHOFF: usize = 28;
 
 /// The bytes of a program header.
-pub(crate) const E_PHENTSIZE: usize = 42;
+pub const E_PHENTSIZE: usize = 42;
 
 /// The number of program headers.
-pub(crate) const E_PHNUM: usize = 44;
+pub const E_PHNUM: usize = 44;
 
 /// Words of 32 bits.
-pub(crate) const ELFCLASS32: u8 = 1;
+pub const ELFCLASS32: u8 = 1;
 
 /// The lowest byte of a number comes first.
-pub(crate) const ELFDATA2LSB: u8 = 1;
+pub const ELFDATA2LSB: u8 = 1;
 
 /// The version of the format.
-pub(crate) const EV_CURRENT: u8 = 1;
+pub const EV_CURRENT: u8 = 1;
 
 /// An executable.
-pub(crate) const ET_EXEC: u16 = 2;
+pub const ET_EXEC: u16 = 2;
 
 /// The 80386.
-pub(crate) const EM_386: u16 = 3;
+pub const EM_386: u16 = 3;
 
 // ---- a program header
 
 /// The bytes of a program header.
-pub(crate) const PHDR_LEN: usize = 32;
+pub const PHDR_LEN: usize = 32;
 
 /// What the program header says of.
-pub(crate) const P_TYPE: usize = 0;
+pub const P_TYPE: usize = 0;
 
 /// The place of the segment's bytes in the file.
-pub(crate) const P_OFFSET: usize = 4;
+pub const P_OFFSET: usize = 4;
 
 /// The segment's first address.
-pub(crate) const P_VADDR: usize = 8;
+pub const P_VADDR: usize = 8;
 
 /// How many bytes of the file the segment has.
-pub(crate) const P_FILESZ: usize = 16;
+pub const P_FILESZ: usize = 16;
 
 /// How many bytes of memory the segment has.
-pub(crate) const P_MEMSZ: usize = 20;
+pub const P_MEMSZ: usize = 20;
 
 /// What may be done with the segment's memory.
-pub(crate) const P_FLAGS: usize = 24;
+pub const P_FLAGS: usize = 24;
 
 /// A segment that is loaded.
-pub(crate) const PT_LOAD: u32 = 1;
+pub const PT_LOAD: u32 = 1;
 
 /// The memory may be run.
-pub(crate) const PF_X: u32 = 1;
+pub const PF_X: u32 = 1;
 
 /// The memory may be written.
-pub(crate) const PF_W: u32 = 2;
+pub const PF_W: u32 = 2;
 
 /// The memory may be read.
-pub(crate) const PF_R: u32 = 4;
+pub const PF_R: u32 = 4;
+
+// ---- a program
+
+/// How many words a program may be given. (This system's own.)
+pub const ARGS_MAX: usize = 16;
+
+/// The error of a file that is no image. (inc/error.h)
+pub const E_NOT_EXEC: u32 = 14;

@@ -68,7 +68,7 @@ fn first_failed_overlap_test(file: &[u8], place: u32) -> Option<ElfFault>
     requires table { table_of (slice_index file.now) + PHDR_LEN * entry_count_of (slice_index file.now)
         ≤ length file.now }
     requires within { place < entry_count_of (slice_index file.now) }
-    ensures { result ≡ first_failed (overlap_tests (slice_index file.now) place place) }
+    ensures { result ≡ first_failed (overlap_tests (header_of (slice_index file.now)) place place) }
 {
     let header = header_of(file, place);
     for earlier in 0..place {
@@ -87,7 +87,7 @@ fn first_failed_segment_test(file: &[u8], place: u32) -> Option<ElfFault>
     requires table { table_of (slice_index file.now) + PHDR_LEN * entry_count_of (slice_index file.now)
         ≤ length file.now }
     requires within { place < entry_count_of (slice_index file.now) }
-    ensures { result ≡ first_failed (segment_tests (length file.now) (slice_index file.now) place) }
+    ensures { result ≡ first_failed (segment_tests (length file.now) (header_of (slice_index file.now)) place) }
 {
     let header = header_of(file, place);
     if header.file_at as u64 + header.file_len as u64 > file.len() as u64 {

@@ -12,7 +12,8 @@ use Rattle.jos_base.specs.KernelState.{KernelState, slot_at, with_registers, wit
 use Rattle.jos_base.specs.SystemCalls.{environment_made}
 use Rattle.jos_elf.specs.declared.image.Segment.{Segment}
 use Rattle.jos_elf.specs.Parsed.{Layout, parsed}
-use Rattle.jos_kernel.specs.Boot.{image_loaded, first_registers, started, image_booted_in, image_booted}
+use Rattle.jos_kernel.specs.Boot.{image_loaded, started, image_booted_in, image_booted}
+use Rattle.jos_elf.specs.Started.{first_registers}
 use Rattle.jos_kernel.specs.Boot.{loadables, all_booted}
 use Rattle.jos_kernel.specs.Loading.{IsRead, Loads}
 

@@ -9,7 +9,7 @@ use Rattle.std.proofs.lemmas.List.{take_more, take_all}
 use Rattle.jos_base.specs.SpacesState.{overlaid}
 use Rattle.jos_base.specs.KernelState.{KernelState, with_spaces}
 use Rattle.jos_elf.specs.declared.image.Segment.{Segment}
-use Rattle.jos_kernel.specs.Boot.{file_part, laid_between, laid, laid_all}
+use Rattle.jos_elf.specs.Pages.{file_part, laid_between, laid, laid_all}
 use Rattle.jos_kernel.specs.Loading.{with_bytes_in}
 use Rattle.jos_base.proofs.Maps.{upd-at, upd-twice, upd-stays}
 

@@ -8,8 +8,10 @@ use Rattle.jos_base.specs.declared.numbers.TheConstants.{PGSIZE, FDTABLE}
 use Rattle.jos_base.specs.SpacesState.{SpacesState, allocated, zero_page, with_page_bytes}
 use Rattle.jos_base.specs.KernelState.{KernelState, slot_at, with_spaces}
 use Rattle.jos_elf.specs.declared.image.Segment.{Segment}
-use Rattle.jos_kernel.specs.Boot.{any_touches, any_writes, perm_of, laid_all, page_bytes, filled, page_loaded}
-use Rattle.jos_kernel.specs.Boot.{pages_loaded, image_loaded, only_state, stack_page}
+use Rattle.jos_kernel.specs.Boot.{perm_of, filled, page_loaded}
+use Rattle.jos_elf.specs.Pages.{any_touches, any_writes, laid_all, page_bytes}
+use Rattle.jos_kernel.specs.Boot.{pages_loaded, image_loaded, only_state}
+use Rattle.jos_elf.specs.Pages.{stack_page}
 use Rattle.jos_kernel.specs.Loading.{IsFirstAt, Loads, with_bytes_in}
 
 -- ---- one page

@@ -9,7 +9,7 @@ use Rattle.std.proofs.lemmas.List.Elements.{All-head, All-tail}
 use Rattle.std.proofs.lemmas.Bool.{cases_lt, ltb-true}
 use Rattle.jos_elf.specs.declared.image.Segment.{Segment}
 use Rattle.jos_elf.specs.Parsed.{Lies}
-use Rattle.jos_kernel.specs.Boot.{touches, any_touches}
+use Rattle.jos_elf.specs.Pages.{touches, any_touches}
 use Rattle.jos_kernel.specs.Loading.{IsFirst, IsFirstAt, earlier}
 
 -- ---- the first that passes either of two tests

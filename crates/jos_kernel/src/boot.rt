@@ -5,8 +5,10 @@ ghost use Rattle.jos_base.specs.declared.numbers.TheConstants.{PGSIZE, PTE_P, PT
 ghost use Rattle.jos_base.specs.SpacesState.{page};
 ghost use Rattle.jos_elf.specs.Parsed.{Lies};
 ghost use Rattle.jos_sys.specs.System.{state_of, spaces_of, Keeps, is_live_in};
-ghost use Rattle.jos_kernel.specs.Boot.{touches, any_touches, any_writes, perm_of, laid, laid_all, page_loaded};
-ghost use Rattle.jos_kernel.specs.Boot.{pages_loaded, image_loaded, first_registers, image_booted, loadables, all_booted};
+ghost use Rattle.jos_kernel.specs.Boot.{perm_of, page_loaded};
+ghost use Rattle.jos_elf.specs.Pages.{touches, any_touches, any_writes, laid, laid_all};
+ghost use Rattle.jos_kernel.specs.Boot.{pages_loaded, image_loaded, image_booted, loadables, all_booted};
+ghost use Rattle.jos_elf.specs.Started.{first_registers};
 ghost use Rattle.jos_kernel.specs.Loading.{IsFirst, earlier, directory_of, IsRead, Loads, with_bytes_in};
 
 use jos_base::{

@@ -20,6 +20,7 @@ use Rattle.lib_os.specs.declared.progress.Progress.{Progress}
 use Rattle.lib_os.specs.declared.progress.Progress.TheVariants as progress
 use Rattle.lib_os.specs.declared.service.Service.{Service}
 use Rattle.lib_os.specs.declared.service.Service.TheVariants as service
+use Rattle.lib_os.specs.declared.spawn_steps.SpawnStep.{SpawnStep}
 use Rattle.lib_os.specs.AbstractState.{AbstractSlot, AbstractState, Born, Server, acted, serving}
 use Rattle.lib_os.specs.LibrarySteps.{Stands, NothingRefused, KeepsTurn, MayGiveUp}
 use Rattle.lib_os.specs.Places.{place_of}
@@ -30,6 +31,7 @@ use Rattle.lib_os.specs.StandsFor.{AwaitsOrHas, StandsFor, StandsAt, StandsAtSte
 use Rattle.lib_os.specs.StandsFor.{AwaitsFileOrHas, AwaitsOrHasBytes, awaits_bytes, awaits_file, has_bytes, has_opened}
 use Rattle.lib_os.specs.StandsFor.{IsGatheringPath, StandsAtDevice, StandsBefore, descriptor_given}
 use Rattle.lib_os.proofs.SlotsStand.{born_at}
+use Rattle.lib_os.proofs.SpawnWaits.{SpawnCalls, asked_so, expected_so, expects_reply, has_asked, spawn_calls, unasked}
 use Rattle.jos_run.specs.AbstractTurns.{turn_begun, is_yielding, may_end, stands_waiting, waits_to_reply}
 use Rattle.jos_run.specs.LibraryRuns.{IsBetween, IsInTurn, visible_steps}
 use Rattle.jos_run.specs.ServerStands.{KeepsWhole, MayGiveUpServing, ServerLeaves, WaitsToReply}
@@ -62,6 +64,7 @@ silent_before so v k b (service.Stat fd va) done word h = h.0.silent
 silent_before so v k b (service.Write fd va len) done word h = h.0.silent
 silent_before so v k b (service.Remove path) done word h = h.0.silent
 silent_before so v k b (service.OpenFile path mode) done word h = h.0.silent
+silent_before so v k b (service.Spawn path argv) done word h = h.0.silent
 silent_before so v k b _ done word h = absurd h
 
 silent_beneath : (v : View) (k : Slot) (b : Born) → StandsBeneath v k b → k.rendezvous.receiving ≡ false
@@ -88,6 +91,13 @@ silent_opened v k b s fd (has_opened so) awake = so.silent
 silent_bytes : (v : View) (k : Slot) (b : Born) (s : Service) → AwaitsOrHasBytes v k b s → b.blocked ≡ false → k.rendezvous.receiving ≡ false
 silent_bytes v k b s (awaits_bytes so) awake = absurd (let contradiction : true ≡ false = sym so.blocked ∙ awake in cc)
 silent_bytes v k b s (has_bytes so) awake = so.silent
+
+silent_spawn : (v : View) (k : Slot) (b : Born) (path argv : ℕ) (at : SpawnStep) → SpawnCalls v k b path argv at → b.blocked ≡ false →
+    k.rendezvous.receiving ≡ false
+silent_spawn v k b path argv at (unasked so) awake = so.is_in.silent
+silent_spawn v k b path argv at (has_asked so) awake = (asked_so so).silent
+silent_spawn v k b path argv at (expects_reply so) awake =
+    absurd (let contradiction : true ≡ false = sym (expected_so so).1.blocked ∙ awake in cc)
 
 silent_step : (v : View) (k : Slot) (b : Born) (s : Service) (stands : Step) → StandsAtStep v k b s stands → b.blocked ≡ false →
     k.rendezvous.receiving ≡ false
@@ -227,6 +237,11 @@ silent_step v k b (service.Remove path) (step.Pausing id) h awake = h.1.is_in.si
 silent_step v k b (service.Remove path) (step.Awaiting id) h awake = h.1.silent
 silent_step v k b (service.Remove path) (step.Clearing id) h awake = silent_reply k b (service.Remove path) h.1 awake
 silent_step v k b (service.Remove path) (step.ReadingReply id) h awake = h.1.silent
+silent_step v k b (service.Spawn path argv) step.TakingPage h awake = h.0.silent
+silent_step v k b (service.Spawn path argv) (step.Gathering done) h awake =
+    silent_gathering (may_follow path done) v k b (service.Spawn path argv) done h
+silent_step v k b (service.Spawn path argv) (step.Keeping done word left) h awake = h.is_in.silent
+silent_step v k b (service.Spawn path argv) (step.Spawning at) h awake = silent_spawn v k b path argv at (spawn_calls v k b path argv at h) awake
 silent_step v k b _ _ h awake = absurd h
 
 silent_at : (v : View) (k : Slot) (b : Born) (p : Place) → StandsAt p v k b → b.blocked ≡ false → k.rendezvous.receiving ≡ false

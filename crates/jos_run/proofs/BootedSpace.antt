@@ -17,18 +17,20 @@ use Rattle.jos_base.specs.TrapFrames.{user_flags}
 use Rattle.jos_base.specs.Words.{upd}
 use Rattle.jos_elf.specs.declared.image.Segment.{Segment}
 use Rattle.jos_elf.specs.Parsed.{Layout, Lies}
-use Rattle.jos_kernel.specs.Boot.{any_touches, any_writes, page_bytes, stack_page, touches}
+use Rattle.jos_elf.specs.Pages.{any_touches, any_writes, page_bytes, stack_page, touches}
 use Rattle.lib_os.specs.AbstractMemory.{has_page_in}
 use Rattle.lib_os.specs.AbstractState.{Page, own}
 use Rattle.lib_os.specs.Fence.{in_fence}
 use Rattle.lib_os.specs.Rows.{IsPage, rows_of}
 use Rattle.lib_os.proofs.PageBytes.{zero_page_whole}
-use Rattle.lib_spawn.specs.StackPage.{stack_contents, strings_of}
+use Rattle.jos_elf.specs.StackPage.{stack_contents, strings_of}
 use Rattle.jos_base.proofs.Maps.{upd-at, upd-other}
 use Rattle.jos_base.proofs.Below.{some_below-at}
 use Rattle.lib_os.specs.Rows.{AreBytes}
-use Rattle.jos_run.specs.Boot.{handler_page, program_registers, stack_segment}
-use Rattle.jos_run.specs.Start.{first_memory, page_of, stack_of}
+use Rattle.jos_run.specs.Boot.{handler_page}
+use Rattle.jos_elf.specs.Started.{program_registers, stack_segment}
+use Rattle.lib_os.specs.ProgramMemory.{page_of, stack_of}
+use Rattle.jos_run.specs.Start.{first_memory}
 use Rattle.jos_run.proofs.BootedPages.{HasEntry, HasPages, no_row, own_by, row_of_page}
 use Rattle.jos_run.proofs.PagesBegin.{space_memory}
 use Rattle.jos_run.proofs.PagesFilled.{has_page-put}

@@ -22,7 +22,7 @@ use Rattle.lib_os.proofs.PagesStand.{row_elsewhere, row_placed}
 use Rattle.lib_os.proofs.Placing.{allocated_made, inserted_given}
 use Rattle.lib_os.proofs.UsesFound.{bytes_found}
 use Rattle.lib_os.proofs.UsesPlaced.{allocated_found, inserted_found}
-use Rattle.lib_spawn.specs.StackPage.{stack_size}
+use Rattle.jos_elf.specs.StackPage.{stack_size}
 use Rattle.jos_base.proofs.Maps.{upd-at, upd-other}
 use Rattle.jos_base.proofs.Uses.{directory_is}
 use Rattle.jos_run.specs.Boot.{console_bytes, console_in, console_loaded, handler_page, handler_stack_loaded, program_loaded, space_loaded}

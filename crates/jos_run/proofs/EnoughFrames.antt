@@ -11,16 +11,18 @@ use Rattle.jos_base.specs.SpacesState.{SpacesState, allocated, reserved_frames, 
 use Rattle.jos_base.specs.Words.{upd}
 use Rattle.jos_elf.specs.declared.image.Segment.{Segment}
 use Rattle.jos_elf.specs.Parsed.{Layout, Lies}
-use Rattle.jos_kernel.specs.Boot.{any_touches, any_writes, filled, only_state, page_bytes, page_loaded, pages_loaded, perm_of}
-use Rattle.jos_kernel.specs.Boot.{stack_page}
+use Rattle.jos_kernel.specs.Boot.{filled, only_state, page_loaded, pages_loaded, perm_of}
+use Rattle.jos_elf.specs.Pages.{any_touches, any_writes, page_bytes}
+use Rattle.jos_elf.specs.Pages.{stack_page}
 use Rattle.jos_kernel.proofs.ImagesRead.{read_lie}
 use Rattle.lib_os.specs.AbstractMemory.{has_page_in}
 use Rattle.lib_os.specs.AbstractState.{Page, own}
 use Rattle.lib_os.specs.Rows.{descriptor_page, descriptor_perm}
-use Rattle.lib_spawn.specs.StackPage.{stack_contents, stack_size}
+use Rattle.jos_elf.specs.StackPage.{stack_contents, stack_size}
 use Rattle.lib_spawn.proofs.StackPages.{fits}
 use Rattle.jos_run.specs.Begun.{ProgramsBoot}
-use Rattle.jos_run.specs.Boot.{boot_frames, booted_within, handler_page, handler_stack_loaded, program_loaded, space_loaded, stack_segment}
+use Rattle.jos_run.specs.Boot.{boot_frames, booted_within, handler_page, handler_stack_loaded, program_loaded, space_loaded}
+use Rattle.jos_elf.specs.Started.{stack_segment}
 use Rattle.jos_run.specs.Boot.{console_in, console_loaded, touches_region}
 use Rattle.jos_run.proofs.Booted.{booted-enough}
 use Rattle.jos_run.proofs.BootedPages.{no_row}

@@ -19,9 +19,10 @@ use Rattle.jos_kernel.proofs.ImagesRead.{read_lie}
 use Rattle.lib_os.specs.AbstractState.{Page}
 use Rattle.lib_os.specs.InOrder.{IsInOrder}
 use Rattle.lib_os.specs.Rows.{lasting, rows_of}
-use Rattle.lib_spawn.specs.StackPage.{stack_size}
+use Rattle.jos_elf.specs.StackPage.{stack_size}
 use Rattle.jos_run.specs.Begun.{IsNew}
-use Rattle.jos_run.specs.Boot.{server_in, server_started, records_loaded, program_in, program_booted, program_registers, program_started, space_loaded}
+use Rattle.jos_run.specs.Boot.{server_in, server_started, records_loaded, program_in, program_booted, program_started, space_loaded}
+use Rattle.jos_elf.specs.Started.{program_registers}
 use Rattle.jos_run.specs.LibraryRuns.{NoneRuns}
 use Rattle.jos_run.proofs.BootedPages.{HasPages, OthersKept}
 use Rattle.jos_run.proofs.ConsoleLoaded.{Begins, space_begins}

@@ -4,7 +4,7 @@
 -- has in its hands then: nothing is written, and the state after stands for the same abstract one.
 use Rattle.std.proofs.Common.{◌≡◌, ◌∙◌, ◌==◌, ◌+◌, ◌++◌, ◌<◌, ◌⊎◌, inl, inr, ℕ, Bool, true, false, List, [], ◌∷◌, refl, sym, ap, subst}
 use Rattle.std.proofs.Common.{if◌then◌else◌, append-nil, arith}
-use Rattle.std.specs.Prelude.{◌&&◌, ◌||◌, not, is_some, Some}
+use Rattle.std.specs.Prelude.{◌&&◌, ◌||◌, not, is_some, None, Some}
 use Rattle.std.proofs.lemmas.Bool.{false≢true}
 use Rattle.std.proofs.lemmas.Bool.Decides.{nat_tests}
 use Rattle.std.proofs.Math.Bool.{or-true}
@@ -42,7 +42,7 @@ use Rattle.lib_os.specs.Fence.{is_resident}
 use Rattle.lib_os.specs.GuestStep as guests
 use Rattle.lib_os.specs.GuestStep.{GuestMemory, guest_memory, guest_step, born_in, ends_with}
 use Rattle.lib_os.specs.InOrder.{IsInOrder}
-use Rattle.lib_os.specs.LibraryPages.{has_copy, has_working}
+use Rattle.lib_os.specs.LibraryPages.{has_copy}
 use Rattle.lib_os.specs.LibrarySteps.{GoesOn, copies_left, hidden_left, is_to_copy, left_at}
 use Rattle.lib_os.specs.Places.{is_handlers, place_of, words_entered}
 use Rattle.lib_os.specs.Services.{service_of}
@@ -54,7 +54,7 @@ use Rattle.lib_os.proofs.FaultsStand.{esp_free, fault_copies, fault_ends, fault_
 use Rattle.lib_os.proofs.Logical.{is_plain}
 use Rattle.lib_os.proofs.PipesStand.{calm_places, descriptors_turned, is_calm}
 use Rattle.lib_os.proofs.Removing.{destroyed_gone}
-use Rattle.lib_os.proofs.Serving.{library_moved, words_of_none}
+use Rattle.lib_os.proofs.Serving.{library_moved, words_of_none, pages_kept}
 use Rattle.lib_os.proofs.Slots.{slot_back}
 use Rattle.lib_os.proofs.SlotsSet.{both_set}
 use Rattle.lib_os.proofs.SlotsStand.{born_at, born_live}
@@ -196,7 +196,7 @@ module _ (names : Names) (n : ℕ) (k : Slot) (is_guest : place_of k ≡ place.G
           memory = h.memory;
           library = library_moved (place_of (slot_at m.state n)) (place_of (with_regs regs)) (slot_at m.state n).extra (slot_at m.state n).extra
               (rows_of m.state.spaces d) (ap has_copy (at_program ∙ sym there))
-              (ap (λ (p : Place). has_working p (slot_at m.state n).extra) (at_program ∙ sym there)) h.library;
+              (ap (λ (p : Place). pages_kept p (slot_at m.state n).extra) (at_program ∙ sym there)) h.library;
           regions_have = h.regions_have;
           regions_only = h.regions_only;
           stack = stack_free regs.esp outside;
@@ -209,7 +209,7 @@ module _ (names : Names) (n : ℕ) (k : Slot) (is_guest : place_of k ≡ place.G
     asked_slot regs = record (slot_at m.state n) { registers = regs; extra = words_entered regs }
 
     abbrev asked_born : Regs → Born
-    asked_born regs = record it { program = guest regs; phase = in_service (service_of regs) entered }
+    asked_born regs = record it { program = guest regs; phase = in_service (service_of regs) entered; spawning = None }
 
     asked : (regs : Regs) → is_resident regs.esp ≡ false → regs.eflags ≡ user_flags regs.eflags →
         StandsForBorn names m.state.spaces (asked_slot regs) (asked_born regs)
@@ -228,8 +228,8 @@ module _ (names : Names) (n : ℕ) (k : Slot) (is_guest : place_of k ≡ place.G
           memory = h.memory;
           library = library_moved (place_of (slot_at m.state n)) (place_of (asked_slot regs)) (slot_at m.state n).extra (words_entered regs)
               (rows_of m.state.spaces d) (ap has_copy at_program ∙ sym (ap has_copy there))
-              (ap (λ (p : Place). has_working p (slot_at m.state n).extra) at_program
-              ∙ sym (ap (λ (p : Place). has_working p (words_entered regs)) there ∙ entered_holds (service_of regs) (words_entered regs))) h.library;
+              (ap (λ (p : Place). pages_kept p (slot_at m.state n).extra) at_program
+              ∙ sym (ap (λ (p : Place). pages_kept p (words_entered regs)) there ∙ entered_holds (service_of regs) (words_entered regs))) h.library;
           regions_have = h.regions_have;
           regions_only = h.regions_only;
           stack = stack_free regs.esp outside;

@@ -19,7 +19,8 @@ use Rattle.jos_base.specs.SystemCalls.{is_page_perm}
 use Rattle.jos_base.specs.Words.{upd}
 use Rattle.jos_elf.specs.declared.image.Segment.{Segment}
 use Rattle.jos_elf.specs.Parsed.{Layout, Lies}
-use Rattle.jos_kernel.specs.Boot.{any_touches, any_writes, filled, only_state, page_bytes, page_loaded, pages_loaded, perm_of, stack_page}
+use Rattle.jos_kernel.specs.Boot.{filled, only_state, page_loaded, pages_loaded, perm_of}
+use Rattle.jos_elf.specs.Pages.{any_touches, any_writes, page_bytes, stack_page}
 use Rattle.jos_kernel.proofs.PagesTouched.{touched_below}
 use Rattle.lib_os.specs.AbstractState.{Page, own}
 use Rattle.lib_os.specs.InOrder.{IsInOrder}
@@ -30,9 +31,11 @@ use Rattle.lib_os.proofs.PagesStand.{row_placed}
 use Rattle.lib_os.proofs.Placing.{allocated_made}
 use Rattle.lib_os.proofs.UsesFound.{bytes_found}
 use Rattle.lib_os.proofs.UsesPlaced.{allocated_found}
-use Rattle.lib_spawn.specs.StackPage.{stack_contents, stack_size}
-use Rattle.jos_run.specs.Boot.{handler_page, handler_stack_loaded, program_loaded, stack_segment}
-use Rattle.jos_run.specs.Start.{first_memory, page_of, stack_of}
+use Rattle.jos_elf.specs.StackPage.{stack_contents, stack_size}
+use Rattle.jos_run.specs.Boot.{handler_page, handler_stack_loaded, program_loaded}
+use Rattle.jos_elf.specs.Started.{stack_segment}
+use Rattle.lib_os.specs.ProgramMemory.{page_of, stack_of}
+use Rattle.jos_run.specs.Start.{first_memory}
 use Rattle.jos_run.proofs.BootedPages.{HasPages, OthersKept, no_row, others_more, page_more}
 use Rattle.jos_run.proofs.FramesTaken.{AreBelow, Takes, allocated_entries, allocated_entry, allocated_takes}
 use Rattle.jos_run.proofs.PagesFilled.{filled_one_use}

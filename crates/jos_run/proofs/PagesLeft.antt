@@ -18,6 +18,7 @@ use Rattle.lib_os.specs.declared.numbers.TheConstants.{REQUEST}
 use Rattle.lib_os.specs.declared.place.Place.{Place}
 use Rattle.lib_os.specs.declared.place.Place.TheVariants as place
 use Rattle.lib_os.specs.declared.place.Step.{Step}
+use Rattle.lib_os.specs.declared.place.Step.TheVariants as step
 use Rattle.lib_os.specs.declared.service.Service.{Service}
 use Rattle.lib_os.specs.declared.service.Service.TheVariants as service
 use Rattle.lib_os.specs.AbstractLaws.{ServesWhoAsked, client_served, has_asked}
@@ -29,13 +30,15 @@ use Rattle.lib_os.specs.Places.{place_of}
 use Rattle.lib_os.specs.Rows.{MayBeHad, Names, Rows, is_of_descriptor, is_shared, lasting, logical, rows_of}
 use Rattle.lib_os.specs.StandsFor.{IsStatusFor, StandsFor, StandsForBorn, view_of}
 use Rattle.lib_os.proofs.AskedPlaces.{IsRequesting, asked_step, asks as asks_it, awaiting_step, expects, expects_so, is_request, is_requests}
-use Rattle.lib_os.proofs.AskedPlaces.{requesting}
+use Rattle.lib_os.proofs.AskedPlaces.{requesting, spawn_asks, spawn_expects}
+use Rattle.lib_os.proofs.BuiltServices.{built_at}
 use Rattle.lib_os.proofs.EntriesCount.{Counts, entry_counts}
 use Rattle.lib_os.proofs.EntriesStand.{other_frame, same_sharing}
-use Rattle.lib_os.proofs.Logical.{clients_so, is_plain, logical_plain}
+use Rattle.lib_os.proofs.Logical.{clients_so, is_plain, is_remapped, logical_beside, plain_unremapped}
 use Rattle.lib_os.proofs.ServedStay.{HasClient, client_is}
 use Rattle.lib_os.proofs.ServerStands.{first_slot}
 use Rattle.lib_os.proofs.SlotsStand.{born_at, born_live}
+use Rattle.lib_os.proofs.SpawnWaits.{expected_so}
 use Rattle.lib_os.proofs.StatesStand.{born_not_first}
 use Rattle.fs_seen.specs.ServerMemory.{entry_of, has_request, request_page, sends_page}
 use Rattle.fs_seen.specs.ServerOthers.{LeavesBytes}
@@ -51,7 +54,7 @@ requests (in_service s asked) is = refl
 requests (in_service s awaiting) is = refl
 requests _ is = absurd (false≢true is)
 
--- one who has asked bears no child, and its pages count as they stand
+-- one who has asked bears no child, but for spawn, and its pages count as they stand
 requests_plain : (s : Service) → is_requests s ≡ true → (at : Step) → is_plain (place.InService s at) ≡ true
 requests_plain service.Sync is at = refl
 requests_plain (service.OpenFile path mode) is at = refl
@@ -63,9 +66,16 @@ requests_plain (service.Read fd va len) is at = refl
 requests_plain (service.Stat fd va) is at = refl
 requests_plain _ is at = absurd (false≢true is)
 
-requesting_plain : {p : Place} {v : View} {k : Slot} {b : Born} → IsRequesting p v k b → is_plain p ≡ true
-requesting_plain (asks_it s is id fd at self so) = ap is_plain at ∙ requests_plain s is (asked_step s id fd)
-requesting_plain (expects s is id fd at self so) = ap is_plain at ∙ requests_plain s is (awaiting_step s id fd)
+-- spawn may bear one, whose pages are others than that of the request
+requesting_apart : {p : Place} {v : View} {k : Slot} {b : Born} → IsRequesting p v k b → is_remapped p (page_number UTEMP) ≡ false
+requesting_apart (asks_it s is id fd at self so) =
+    ap (λ (q : Place). is_remapped q (page_number UTEMP)) at
+    ∙ plain_unremapped (place.InService s (asked_step s id fd)) (page_number UTEMP) (requests_plain s is (asked_step s id fd))
+requesting_apart (expects s is id fd at self so) =
+    ap (λ (q : Place). is_remapped q (page_number UTEMP)) at
+    ∙ plain_unremapped (place.InService s (awaiting_step s id fd)) (page_number UTEMP) (requests_plain s is (awaiting_step s id fd))
+requesting_apart (spawn_asks path argv to at so) = ap (λ (q : Place). is_remapped q (page_number UTEMP)) at
+requesting_apart (spawn_expects path argv to at so) = ap (λ (q : Place). is_remapped q (page_number UTEMP)) at
 
 -- and where it makes a step it is about to wait
 asking_awaits : (s : Service) → is_requests s ≡ true → (id fd : ℕ) → awaits_reply (place.InService s (asked_step s id fd)) ≡ true
@@ -83,11 +93,17 @@ blocked_asleep : (status : Status) → IsStatusFor status true → is_awake stat
 blocked_asleep NotRunnable is awake = false≢true awake
 blocked_asleep _ is awake = is
 
-requesting_awaits : {p : Place} {v : View} {k : Slot} {b : Born} → IsStatusFor k.status b.blocked → is_awake k.status ≡ true →
-    IsRequesting p v k b → awaits_reply p ≡ true
+-- One that may run does not wait for a reply; and spawn, which asks at other steps, is not built.
+requesting_awaits : {v : View} {k : Slot} {b : Born} → IsStatusFor k.status b.blocked → is_awake k.status ≡ true → IsRequesting (place_of k) v k b →
+    awaits_reply (place_of k) ≡ true
 requesting_awaits runs awake (asks_it s is id fd at self so) = ap awaits_reply at ∙ asking_awaits s is id fd
 requesting_awaits {v = v} {k = k} {b = b} runs awake (expects s is id fd at self so) =
     let blocked = (expects_so v k b s fd so).blocked in
+    absurd (blocked_asleep k.status (subst (λ (c : Bool). IsStatusFor k.status c) blocked runs) awake)
+requesting_awaits {k = k} runs awake (spawn_asks path argv to at so) =
+    absurd (false≢true (built_at k.registers k.extra (service.Spawn path argv) (step.Spawning to) at))
+requesting_awaits {k = k} runs awake (spawn_expects path argv to at so) =
+    let blocked = (expected_so so).1.blocked in
     absurd (blocked_asleep k.status (subst (λ (c : Bool). IsStatusFor k.status c) blocked runs) awake)
 
 -- ---- who has a page
@@ -141,8 +157,8 @@ module _ {names : Names} {s : KernelState} {a : AbstractState} (h : StandsFor na
 
     page_counts : counted client (page_number UTEMP) ≡ Some page.entry
     page_counts =
-        logical_plain s.spaces s.environments.slots client (clients_so client (slot_at s client) (born_not_first h client b at) (born_live born_so))
-        (requesting_plain requests_so) (page_number UTEMP)
+        logical_beside s.spaces s.environments.slots client (clients_so client (slot_at s client) (born_not_first h client b at) (born_live born_so))
+        (page_number UTEMP) (λ same. omega (arith, same)) (requesting_apart requests_so)
         ∙ page.stands
 
     same_page : own.frame ≡ page.entry.frame
@@ -155,7 +171,7 @@ module _ {names : Names} {s : KernelState} {a : AbstractState} (h : StandsFor na
         other_frame counted h.apart client (page_number UTEMP) found.slot found.page found.entry page.entry elsewhere page_counts page.writes found.counts
         sharing frames
       where
-        found : Counts s (slot_at s n).directory p (lasting x)
+        found : Counts s a (slot_at s n).directory p (lasting x)
         found = entry_counts h (slot_at s n).directory p (lasting x) (other_space n other live) (ap (option_map lasting) is)
 
         frames : found.entry.frame ≡ page.entry.frame
@@ -164,7 +180,7 @@ module _ {names : Names} {s : KernelState} {a : AbstractState} (h : StandsFor na
         elsewhere : Elsewhere found.slot found.page client (page_number UTEMP)
         elsewhere here =
             absurd (ne (h.in_order.spaces.apart n client live (born_live born_so)
-            (sym found.home ∙ ap (λ (m : ℕ). (slot_at s m).directory) here)))
+            (sym (found.home client b at here))))
 
         sharing : is_shared found.entry.perm ≡ false
         sharing =

@@ -8,10 +8,10 @@ use Rattle.std.proofs.lemmas.List.{length-take}
 use Rattle.jos_base.specs.SpacesState.{overlaid, zero_page}
 use Rattle.jos_base.specs.TrapFrames.{bytes_of_words}
 use Rattle.jos_elf.specs.declared.image.Segment.{Segment}
-use Rattle.jos_kernel.specs.Boot.{file_part, laid, laid_all, laid_between, page_bytes}
+use Rattle.jos_elf.specs.Pages.{file_part, laid, laid_all, laid_between, page_bytes}
 use Rattle.lib_os.specs.Rows.{IsPage}
 use Rattle.lib_os.proofs.PageBytes.{bytes_append, bytes_drop, bytes_same, bytes_take, page_overlaid, words_bytes, zero_page_whole}
-use Rattle.lib_spawn.specs.StackPage.{in_words, stack_contents, strings_of, strings_size}
+use Rattle.jos_elf.specs.StackPage.{in_words, stack_contents, strings_of, strings_size}
 use Rattle.lib_os.specs.Rows.{AreBytes}
 
 -- ---- what is loaded from a file

@@ -13,15 +13,16 @@ use Rattle.lib_os.specs.declared.numbers.TheConstants.{REQUEST, STAT_SIZE, TRANS
 use Rattle.lib_os.specs.declared.service.Service.{Service}
 use Rattle.lib_os.specs.declared.service.Service.TheVariants as service
 use Rattle.lib_os.specs.AbstractLaws.{client_served}
-use Rattle.lib_os.specs.AbstractState.{AbstractState, Born, Server, acted, born}
-use Rattle.lib_os.specs.AskedFor.{AnswersBy, IsFor, IsThere, OpensBy, ServesAsAsked}
+use Rattle.lib_os.specs.AbstractState.{AbstractState, Born, Server, Spawning, acted, born}
+use Rattle.lib_os.specs.AskedFor.{AnswersBy, IsFor, IsThere, ServesAsAsked, handed_in}
 use Rattle.lib_os.specs.Disk.{Disk}
 use Rattle.lib_os.specs.Rows.{AreBytes, IsPage, Names, rows_of}
 use Rattle.lib_os.specs.StandsFor.{StandsFor, view_of}
-use Rattle.lib_os.specs.StandsInHandler.{handed_with, wanted_of}
+use Rattle.lib_os.specs.StandsInHandler.{wanted_of}
 use Rattle.lib_os.proofs.EntriesCount.{entry_counts}
 use Rattle.lib_os.proofs.EntryWords.{row_entry}
-use Rattle.lib_os.proofs.ServerReplies.{HandsOver, TellsNoFile, hands_none}
+use Rattle.lib_os.proofs.ServerReplies.{HandsOver, hands_none}
+use Rattle.lib_os.proofs.SpawnReplies.{handed_few}
 use Rattle.fs_tree.specs.TreeSteps.{request_bytes}
 use Rattle.fs_tree.proofs.TiesBlocks.{request_holds}
 use Rattle.fs_runs.specs.TreeRuns.{Memory}
@@ -43,13 +44,9 @@ fits_none b none client c call served at there =
 -- what answers the client fits what it has asked for
 pub answers_by : (a : AbstractState) → ServesAsAsked a → (client answer : ℕ) (bytes : List ℕ) (object : Option ℕ) →
     a.server ≡ acted client answer bytes object → (b : Born) → a.slots client ≡ born b → (call : Service) → IsThere b call →
-    AnswersBy call answer bytes object
+    AnswersBy call b.spawning answer bytes object
 answers_by a fits client answer bytes object server b at call there =
-    subst (λ (x : Server). IsFor x call) server (fits client b call (ap client_served server) at there)
-
-pub tells_none : (call : Service) (answer : ℕ) → OpensBy call answer None → TellsNoFile call answer
-tells_none (service.OpenFile path mode) answer is = is
-tells_none _ answer is = tt
+    subst (λ (x : Server). IsFor x call b.spawning) server (fits client b call (ap client_served server) at there)
 
 -- ---- what is lent
 
@@ -73,8 +70,8 @@ past_none [] k past = refl
 past_none (x ∷ xs) zero past = absurd (omega (arith, past))
 past_none (x ∷ xs) (suc k) past = past_none xs k (omega (arith, past))
 
-few : (call : Service) (word : ℕ) → handed_with call word ≤ PGSIZE
-few (service.Read fd va len) word = by_test (nat_le word (wanted_of len)) refl
+few : (call : Service) (found : Option Spawning) (word : ℕ) → handed_in call found word ≤ PGSIZE
+few (service.Read fd va len) found word = by_test (nat_le word (wanted_of len)) refl
   where
     by_test : (t : Bool) → nat_le word (wanted_of len) ≡ t → (if t then word else 0) ≤ PGSIZE
     by_test true is =
@@ -82,12 +79,13 @@ few (service.Read fd va len) word = by_test (nat_le word (wanted_of len)) refl
         let wanted : min len TRANSFER_MAX ≤ TRANSFER_MAX = grind (arith, nat_tests) in
         omega (arith, most, wanted)
     by_test false is = omega arith
-few (service.Stat fd va) word = by_test (word == 0)
+few (service.Stat fd va) found word = by_test (word == 0)
   where
     by_test : (t : Bool) → (if t then STAT_SIZE else 0) ≤ PGSIZE
     by_test true = omega arith
     by_test false = omega arith
-few _ word = omega arith
+few (service.Spawn path argv) found word = handed_few path argv found word
+few _ found word = omega arith
 
 module _ (d : Disk) (s : KernelState) (a : AbstractState) {names : Names} (h : StandsFor names s a) (stands : ServerStands d s a)
     (client answer : ℕ) (bytes : List ℕ) (object : Option ℕ) (server : a.server ≡ acted client answer bytes object)
@@ -124,10 +122,10 @@ module _ (d : Disk) (s : KernelState) (a : AbstractState) {names : Names} (h : S
         let c = entry_counts h (slot_at s client).directory (page_number UTEMP) lent.own apart lent.kept in
         subst (λ (f : ℕ). IsPage (s.spaces.pages f)) c.frame (h.whole c.slot c.page c.entry c.counts)
 
-    module _ (call : Service) (many : length bytes ≡ handed_with call answer) where
+    module _ (call : Service) (found : Option Spawning) (many : length bytes ≡ handed_in call found answer) where
       frame_has : (i : ℕ) → i < length bytes → slice_index (s.spaces.pages lent.own.frame) i ≡ slice_index bytes i
       frame_has i less =
-          let most = few call answer in
+          let most = few call found answer in
           let within : i < PGSIZE = omega (arith, less, most, many) in
           sym (in_frame i within) ∙ in_page i less
 
@@ -147,7 +145,7 @@ module _ (d : Disk) (s : KernelState) (a : AbstractState) {names : Names} (h : S
           let same : Some entry ≡ Some lent.own = sym is ∙ lent.kept in
           ap (λ (y : Entry). y.frame) (same_Some entry lent.own same)
 
-      handed_over : HandsOver (view_of s.spaces (slot_at s client).directory) call bytes answer
+      handed_over : HandsOver (view_of s.spaces (slot_at s client).directory) call found bytes answer
       handed_over = record {
         many = many;
         small = small;
@@ -156,12 +154,13 @@ module _ (d : Disk) (s : KernelState) (a : AbstractState) {names : Names} (h : S
       }
 
   -- they go with the reply
-  pub hands_over : (call : Service) → length bytes ≡ handed_with call answer → HandsOver (view_of s.spaces (slot_at s client).directory) call bytes answer
-  hands_over call many = by_bytes bytes refl (subst (λ (x : Server). HasLent x s) server stands.lent)
+  pub hands_over : (call : Service) (found : Option Spawning) → length bytes ≡ handed_in call found answer →
+      HandsOver (view_of s.spaces (slot_at s client).directory) call found bytes answer
+  hands_over call found many = by_bytes bytes refl (subst (λ (x : Server). HasLent x s) server stands.lent)
     where
       by_bytes : (l : List ℕ) → bytes ≡ l → HasLent (acted client answer l object) s →
-          HandsOver (view_of s.spaces (slot_at s client).directory) call bytes answer
+          HandsOver (view_of s.spaces (slot_at s client).directory) call found bytes answer
       by_bytes [] is lent =
-          subst (λ (l : List ℕ). HandsOver (view_of s.spaces (slot_at s client).directory) call l answer) (sym is)
-          (hands_none (view_of s.spaces (slot_at s client).directory) call answer (sym many ∙ ap (λ (l : List ℕ). length l) is))
-      by_bytes (byte ∷ rest) is lent = handed_over lent call many
+          subst (λ (l : List ℕ). HandsOver (view_of s.spaces (slot_at s client).directory) call found l answer) (sym is)
+          (hands_none (view_of s.spaces (slot_at s client).directory) call found answer (sym many ∙ ap (λ (l : List ℕ). length l) is))
+      by_bytes (byte ∷ rest) is lent = handed_over lent call found many

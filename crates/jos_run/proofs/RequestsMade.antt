@@ -88,7 +88,7 @@ asked_state a n b call request = at_stage (record a { server = request_begun n r
 pub record Asks (a : AbstractState) (n : ℕ) (b : Born) (call : Service) (page : ℕ → ℕ) : Type 0 where
   pub request : Request
   pub asks : abs_step a n ≡ Some (asked_state a n b call request)
-  pub by : AsksBy call request
+  pub by : AsksBy call b.spawning request
   pub sends : sends_page request ≡ true
   pub served : client_served (request_begun n request) ≡ Some n
   pub tells : AsksFor (asked_state a n b call request) page (kind_asked call) request

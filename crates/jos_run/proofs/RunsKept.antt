@@ -37,6 +37,7 @@ use Rattle.lib_os.specs.LibraryPages.{View}
 use Rattle.lib_os.specs.Rows.{Names}
 use Rattle.lib_os.specs.StandsFor.{StandsFor, StandsForSlot, StandsAt, StandsAtStep, TellsRequest, IsStatusFor, borne_in, view_of}
 use Rattle.lib_os.specs.Disk.{Disk}
+use Rattle.lib_os.proofs.BuiltServices.{built_at}
 use Rattle.lib_os.proofs.PipesStand.{is_calm}
 use Rattle.lib_os.proofs.RequestPages.{IsBeside, brings_page, pausing_step, told_pausing}
 use Rattle.lib_os.proofs.RequestsTold.{request_told}
@@ -344,6 +345,8 @@ module _ {names : Names} {s : KernelState} {a : AbstractState} (h : StandsFor na
       ap (λ (c : Bool). c || asks a n) (write_waits h n b at fd va len stands is there pauses)
   pausing_place (place.InService (service.Stat fd va) (step.Piped stands)) is there pauses =
       ap (λ (c : Bool). c || asks a n) (stat_waits h n b at fd va stands is there pauses)
+  pausing_place (place.InService (service.Spawn path argv) (step.Spawning stands)) is there pauses =
+      absurd (false≢true (built_at (slot_at s n).registers (slot_at s n).extra (service.Spawn path argv) (step.Spawning stands) is))
   pausing_place _ is there pauses = absurd (false≢true pauses)
 
 -- One that is about to give up its turn waits in a service.

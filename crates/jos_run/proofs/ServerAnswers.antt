@@ -1,18 +1,18 @@
 -- The steps of the file server that are seen, and those with which it waits for its client: it waits for a request, shows that what is asked is done,
 -- and replies; or the client does not wait yet, and it gives up its turn.
 use Rattle.std.proofs.Common.{◌≡◌, ◌∙◌, ◌⊎◌, inl, inr, ◌<◌, ◌^◌, ℕ, true, false, List, [], ◌∷◌, length, Option, Some, None, Ok, refl}
-use Rattle.std.proofs.Common.{sym, ap, subst, arith, ◌+◌, ◌*◌, ◌≢◌}
+use Rattle.std.proofs.Common.{sym, ap, subst, arith, ◌+◌, ◌*◌, ◌≢◌, if◌then◌else◌}
 use Rattle.std.proofs.lemmas.Bool.Decides.{nat_tests}
 use Rattle.std.specs.Int.Bits.{bit_and}
 use Rattle.std.specs.Option.{option_map}
-use Rattle.std.specs.Prelude.{nat_lt, slice_index}
+use Rattle.std.specs.Prelude.{nat_le, nat_lt, slice_index}
 use Rattle.jos_host.specs.Files.{Files}
 use Rattle.jos_host.specs.Frames.{Around}
 use Rattle.jos_base.specs.declared.called.Called.{Called}
 use Rattle.jos_base.specs.declared.called.Called.TheVariants.{Answered, Blocked}
 use Rattle.jos_base.specs.declared.environment.Status.TheVariants.{Runnable}
-use Rattle.jos_base.specs.declared.numbers.TheConstants.{E_IPC_NOT_RECV, E_NO_MEM, FDTABLE, NENV, PGSIZE, SYS_IPC_RECV, SYS_IPC_TRY_SEND}
-use Rattle.jos_base.specs.declared.numbers.TheConstants.{SYS_YIELD, UTOP}
+use Rattle.jos_base.specs.declared.numbers.TheConstants.{E_IPC_NOT_RECV, E_MAX_OPEN, E_NO_MEM, FDTABLE, NENV, PGSIZE, SYS_IPC_RECV}
+use Rattle.jos_base.specs.declared.numbers.TheConstants.{SYS_IPC_TRY_SEND, SYS_YIELD, UTOP}
 use Rattle.jos_base.specs.declared.memory.Access.TheVariants.{Read, Write}
 use Rattle.jos_base.specs.Below.{some_below}
 use Rattle.jos_base.specs.Environments.{Slot, is_runnable}
@@ -29,19 +29,19 @@ use Rattle.lib_os.specs.declared.service.Service.{Service}
 use Rattle.lib_os.specs.declared.service.Service.TheVariants as service
 use Rattle.lib_os.specs.AbstractLaws.{ServedClientsStay, ServesWhoAsked, client_served, opened_by}
 use Rattle.lib_os.specs.AbstractRun.{abs_step, may_wait}
-use Rattle.lib_os.specs.AbstractState.{AbstractSlot, AbstractState, Born, Server, acted, born, idle, leaving}
-use Rattle.lib_os.specs.AskedFor.{AnswersBy, IsThere}
+use Rattle.lib_os.specs.AbstractState.{AbstractSlot, AbstractState, Born, Server, Spawning, acted, born, idle, leaving, opening}
+use Rattle.lib_os.specs.AskedFor.{AnswersBy, is_opening}
 use Rattle.lib_os.specs.DescriptorPages as descriptors
 use Rattle.lib_os.specs.DescriptorPages.{IsOpenFile, number_of}
-use Rattle.lib_os.specs.Descriptors.{holds_in, is_held}
+use Rattle.lib_os.specs.Descriptors.{holds_in, is_held, with_descriptor}
 use Rattle.lib_os.specs.Disk.{Disk, DiskFile}
-use Rattle.lib_os.specs.FileServer.{server_step}
+use Rattle.lib_os.specs.FileServer.{reply_to, server_step}
 use Rattle.lib_os.specs.GuestStep.{born_in}
 use Rattle.lib_os.specs.LibrarySteps.{NothingRefused}
 use Rattle.lib_os.specs.MadeCalls.{calls, yields}
-use Rattle.lib_os.specs.Rows.{IsPage, descriptor_perm, lasting, rows_of}
+use Rattle.lib_os.specs.Rows.{IsPage, Names, descriptor_perm, lasting, rows_of}
 use Rattle.lib_os.specs.InOrder.{IsInOrder}
-use Rattle.lib_os.specs.StandsFor.{IsServerStatus, things_in}
+use Rattle.lib_os.specs.StandsFor.{IsServerStatus, StandsFor, things_in}
 use Rattle.lib_os.specs.UserCalls.{CallStep, IsCallStep, Output, Prints, answer_of, giving, got, system}
 use Rattle.lib_os.proofs.BytesRead.{lasting_writes}
 use Rattle.lib_os.proofs.Calls.{comes_to, refusal_is_seen, yield_is}
@@ -50,7 +50,7 @@ use Rattle.lib_os.proofs.Remapping.{lasting_write}
 use Rattle.lib_os.proofs.Sends.{received_in, with_message}
 use Rattle.lib_os.proofs.ServerReplies.{HasReplied, HasToWait, ready_slot, ready_state, receive_is, receives_stand, receives_step, replied_born}
 use Rattle.lib_os.proofs.ServerReplies.{replied_state, replies_stand, reply_call, served_is}
-use Rattle.lib_os.proofs.ServerOpens.{HasGivenFile, HasOpenedFile, descriptor_entry, open_reply_call, opened_state}
+use Rattle.lib_os.proofs.ServerOpens.{HasGivenFile, HasOpenedFile, IsToldNoneFree, descriptor_entry, open_reply_call}
 use Rattle.lib_os.proofs.ServersCalls.{server_call_stands}
 use Rattle.lib_os.proofs.ServerStands.{first_slot, words_stand}
 use Rattle.lib_os.proofs.Serving.{printed_nothing}
@@ -73,7 +73,7 @@ use Rattle.fs_serving.specs.ServerRuns.{HasFile, TableStands}
 use Rattle.fs_serving.specs.ServerViews.{page_word, word_of}
 use Rattle.fs_seen.specs.ServerMemory.{HasWords, IsOpenPage, StandsOver, bytes_by, entry_of, has_request, is_table_page, place_entry, place_page}
 use Rattle.fs_seen.specs.ServerMemory.{view_in}
-use Rattle.fs_seen.specs.ServerOthers.{GivesOpened, HasReplyPage}
+use Rattle.fs_seen.specs.ServerOthers.{GivesOpened, HasReplyPage, LeavesBytes}
 use Rattle.fs_seen.specs.ServerSees.{HasCalledAt}
 use Rattle.fs_seen.specs.ServerWhole.{ServesOn}
 use Rattle.fs_seen.proofs.BetweenRequests.{receives_serve}
@@ -88,9 +88,9 @@ use Rattle.jos_run.specs.Worlds.{beside}
 use Rattle.jos_run.proofs.ServerGoes.{CallBehind, ServesClient, behind_slot, behind_stands, directories_behind, gone_to, spaces_behind, stands_told, step_behind}
 use Rattle.jos_run.proofs.ServerGoes.{turn_kept}
 use Rattle.jos_run.proofs.ServerNow.{ClientThere, client_there}
-use Rattle.jos_run.proofs.OpenReplies.{OpenReplied, comes, file_unused, lacks, opened_replied, waits}
+use Rattle.jos_run.proofs.OpenReplies.{OpenReplied, comes, file_unused, lacks, opened_replied, tells, waits}
 use Rattle.jos_run.proofs.PageGiven.{given_leaves}
-use Rattle.jos_run.proofs.ReplyParts.{acted_lent, answers_by, fits_none, hands_over, tells_none}
+use Rattle.jos_run.proofs.ReplyParts.{acted_lent, answers_by, fits_none, hands_over}
 use Rattle.jos_run.proofs.ServerStepped.{Stepped, as_before, below, called_at, client_apart, serves_at, serves_none}
 
 -- ---- behind a call that leaves its space
@@ -120,10 +120,8 @@ count_small s words = words.words 3
 -- ---- what was opened
 
 -- with a name it was asked to open a file
-record IsOpeningBy (call : Service) (answer : ℕ) (bytes : List ℕ) : Type 0 where
-  path : ℕ
-  mode : ℕ
-  service_is : call ≡ service.OpenFile path mode
+record IsOpeningBy (call : Service) (found : Option Spawning) (answer : ℕ) (bytes : List ℕ) : Type 0 where
+  asks_it : is_opening call found ≡ true
   zero_answer : answer ≡ 0
   no_bytes : bytes ≡ []
 
@@ -131,10 +129,18 @@ none_long : (bytes : List ℕ) → length bytes ≡ 0 → bytes ≡ []
 none_long [] none = refl
 none_long (byte ∷ rest) none = absurd (omega (arith, none))
 
-opening_by : (call : Service) (answer : ℕ) (bytes : List ℕ) (name : ℕ) → AnswersBy call answer bytes (Some name) → IsOpeningBy call answer bytes
-opening_by (service.OpenFile path mode) answer bytes name h =
-    record { path = path; mode = mode; service_is = refl; zero_answer = h.opened; no_bytes = none_long bytes h.many }
-opening_by _ answer bytes name h = absurd h.opened
+opening_by : (call : Service) (found : Option Spawning) (answer : ℕ) (bytes : List ℕ) (name : ℕ) → AnswersBy call found answer bytes (Some name) →
+    IsOpeningBy call found answer bytes
+opening_by (service.OpenFile path mode) found answer bytes name h =
+    record { asks_it = refl; zero_answer = h.opened; no_bytes = none_long bytes h.many }
+opening_by (service.Spawn path argv) (Some (opening words)) answer bytes name h = record {
+  asks_it = refl;
+  zero_answer = h.opened;
+  no_bytes = none_long bytes (h.many ∙ ap (λ (word : ℕ). if nat_le word 0 then word else 0) h.opened);
+}
+opening_by (service.Spawn path argv) (Some _) answer bytes name h = absurd h.opened
+opening_by (service.Spawn path argv) None answer bytes name h = absurd h.opened
+opening_by _ found answer bytes name h = absurd h.opened
 
 -- the page of its place
 module _ (d : Disk) (s : KernelState) (number : ℕ) (e : Entry) (below : number < MAXOPEN)
@@ -400,7 +406,7 @@ module _ (stays : ServedClientsStay) (disk : DiskFile) (before after : KernelSta
           is ∙ (λ i. gone_on mid 0 (next_replied state (same i))) ∙ ap (λ (y : ServerStep). gone_on mid 0 (next_for state y w)) (sym at)
 
       -- the reply has come
-      fitting : AnswersBy it.service answer bytes None
+      fitting : AnswersBy it.service it.b.spawning answer bytes None
       fitting = answers_by a whole.1.fits client answer bytes None server it.b it.at it.service it.there
 
       apart : (slot_at before client).directory ≢ k.directory
@@ -483,8 +489,8 @@ module _ (stays : ServedClientsStay) (disk : DiskFile) (before after : KernelSta
           subst (λ (p : Progress). Stepped before (beside after (Some d)) a p output)
           (ap (λ (z : ServerNext). z.seen) (sym goes))
           (by_way word mid reply.0 reply.1 reply.2 here (replies_stand whole.0.1 client answer bytes server it.b it.at it.service it.there small
-          (hands_over d before a whole.0.1 whole.1 client answer bytes None server apart at it.service fitting.many)
-          (tells_none it.service answer fitting.opened)))
+          (hands_over d before a whole.0.1 whole.1 client answer bytes None server apart at it.service it.b.spawning fitting.many)
+          fitting.opened))
         where
           by_way : (word : ℕ) (mid : KernelState) (called : Called) → word ≡ answer_of called →
               IsCallStep (reply_call before it.b.id answer) (Ok called) mid output → after ≡ gone_on mid 0 (next_replied state word) →
@@ -511,12 +517,12 @@ module _ (stays : ServedClientsStay) (disk : DiskFile) (before after : KernelSta
         client_there whole.0.1 client state.client whole.1.asked (ap client_served server)
         (serves_at disk before after files output d a whole words step.Replying at client (ap client_served server))
 
-    answered_so : AnswersBy its.service answer bytes (Some name)
+    answered_so : AnswersBy its.service its.b.spawning answer bytes (Some name)
     answered_so = answers_by a whole.1.fits client answer bytes (Some name) server its.b its.at its.service its.there
 
     -- it was asked to open a file
-    opens_so : IsOpeningBy its.service answer bytes
-    opens_so = opening_by its.service answer bytes name answered_so
+    opens_so : IsOpeningBy its.service its.b.spawning answer bytes
+    opens_so = opening_by its.service its.b.spawning answer bytes name answered_so
 
     abbrev page_entry : Entry
     page_entry = opened_page.entry
@@ -581,72 +587,102 @@ module _ (stays : ServedClientsStay) (disk : DiskFile) (before after : KernelSta
           calm = turn_kept k.status (slot_at after 0).status (ap (λ (x : Slot). x.status) slot);
         }
 
+    -- The reply has come: the client has the page, or it is told that no descriptor is free.
+    module _ (mid_is : KernelState) (to : Born × ℕ) (kept : slot_at mid_is 0 ≡ k)
+        (sends : open_reply_call before its.b.id state.number ≡ giving mid_is (Answered 0))
+        (steps : abs_step a 0 ≡ Some (reply_to a client its.service [] to))
+        (stands_then : IsInOrder mid_is → (names : Names) × StandsFor names mid_is (reply_to a client its.service [] to))
+        (leaves : IsInOrder mid_is → LeavesBytes a.server before mid_is 0) where
+      abbrev next : ServerNext
+      next = shown state step.Releasing
+
+      abbrev b : AbstractState
+      b = reply_to a client its.service [] to
+
+      call_behind : CallBehind d mid_is
+      call_behind = same_behind before mid_is k kept refl whole.1
+
+      gives : (b.server ≡ leaving) × GivesOpened a b name
+      gives = replies_give a b client answer name bytes server (its_step steps)
+
+      stands : after ≡ gone_on mid_is 0 next → after ≡ gone_on mid_is 0 (next_at state 0) → IsInOrder after →
+          StandsWhole (beside after (Some d)) b
+      stands here on in_order =
+          let order = was_in_order mid_is 0 next after here in_order in
+          let now = stands_then order in
+          let stands_b = words_stand now.1 after (server_sets mid_is after 0 next here) call_behind.twelve in
+          let tells_now = standing_counts_tell now.0 after b stands_b
+          (given_files_are_apart a b d before client answer name bytes at server whole.1.serving gives.1) in
+          let serves = replies_giving a b d before mid_is after client answer name bytes at server whole.1.serving in_order (leaves order) on gives.0
+          gives.1 tells_now in (
+            (now.0, stands_b),
+            behind_stands d mid_is after next b here its_number call_behind serves.serving
+                (serves_none b step.Releasing (gone_to (slot_at mid_is 0) next) refl) (still_asked b steps) (fits_none b refl)
+                (λ receiving. absurd (let contradiction : step.Releasing ≡ step.Receiving =
+                sym (step_behind d mid_is after next b here its_number call_behind) ∙ receiving in cc)),
+          )
+
+      come_steps : (word : ℕ) (mid : KernelState) (called : Called) → word ≡ answer_of called →
+          IsCallStep (open_reply_call before its.b.id state.number) (Ok called) mid output → after ≡ gone_on mid 0 (next_replied state word) →
+          Stepped before (beside after (Some d)) a (next_replied state word).seen output
+      come_steps word mid called word_is reply is =
+          let came = comes_to (open_reply_call before its.b.id state.number) (Answered 0) called mid_is mid [] output sends reply in
+          let zero : word ≡ 0 = word_is ∙ ap answer_of came.0 in
+          let goes : next_replied state word ≡ next = ap (λ (w : ℕ). next_replied state w) zero in
+          let there : after ≡ gone_on mid_is 0 (next_replied state word) = is ∙ ap (λ (z : KernelState). gone_on z 0 (next_replied state word)) came.1 in
+          let here : after ≡ gone_on mid_is 0 next = there ∙ ap (λ (z : ServerNext). gone_on mid_is 0 z) goes in
+          let slot = behind_slot mid_is after next here ∙ ap (λ (x : Slot). gone_to x next) kept in
+          let on : after ≡ gone_on mid_is 0 (next_at state 0) = here ∙ ap (λ (y : ServerStep). gone_on mid_is 0 (next_for state y 0)) (sym at) in
+          subst (λ (p : Progress). Stepped before (beside after (Some d)) a p output)
+          (ap (λ (z : ServerNext). z.seen) (sym goes))
+          (record {
+            quiet = came.2;
+            follows = λ in_order nothing. (b, steps, printed_nothing a, stands here on in_order);
+            calm = turn_kept k.status (slot_at after 0).status (ap (λ (x : Slot). x.status) slot);
+          })
+
+    not_client : 0 ≢ client
+    not_client = born_not_first whole.0.1 client its.b its.at
+
     -- the client has the page
     given_steps : (sp : SpacesState) (p : ℕ) → inserted before.spaces (slot_at before client).directory p (descriptor_entry page_entry) ≡ Some sp →
         HasGivenFile whole.0.0 before a client state.number name its.service its.b sp → (word : ℕ) (mid : KernelState) (called : Called) →
         word ≡ answer_of called → IsCallStep (open_reply_call before its.b.id state.number) (Ok called) mid output →
         after ≡ gone_on mid 0 (next_replied state word) → Stepped before (beside after (Some d)) a (next_replied state word).seen output
-    given_steps sp p put so word mid called word_is reply is =
-        let came = comes_to (open_reply_call before its.b.id state.number) (Answered 0) called mid_is mid [] output so.call reply in
-        let zero : word ≡ 0 = word_is ∙ ap answer_of came.0 in
-        let goes : next_replied state word ≡ next = ap (λ (w : ℕ). next_replied state w) zero in
-        let there : after ≡ gone_on mid_is 0 (next_replied state word) = is ∙ ap (λ (z : KernelState). gone_on z 0 (next_replied state word)) came.1 in
-        let here : after ≡ gone_on mid_is 0 next = there ∙ ap (λ (z : ServerNext). gone_on mid_is 0 z) goes in
-        let slot = behind_slot mid_is after next here ∙ ap (λ (x : Slot). gone_to x next) kept in
-        let on : after ≡ gone_on mid_is 0 (next_at state 0) = here ∙ ap (λ (y : ServerStep). gone_on mid_is 0 (next_for state y 0)) (sym at) in
-        subst (λ (p : Progress). Stepped before (beside after (Some d)) a p output)
-        (ap (λ (z : ServerNext). z.seen) (sym goes))
-        (record {
-          quiet = came.2;
-          follows = λ in_order nothing. (b, so.step, printed_nothing a, stands here on in_order);
-          calm = turn_kept k.status (slot_at after 0).status (ap (λ (x : Slot). x.status) slot);
-        })
+    given_steps sp p put so =
+        come_steps mid_is (with_descriptor its.b so.fd (Some name), so.fd)
+        (slot_kept (with_spaces before sp) client (received_in (slot_at before client) k.id 0 descriptor_perm) 0 not_client) so.call so.step
+        (λ order. so.stands (order_of order))
+        (λ order. given_leaves before sp client p (descriptor_entry page_entry) page_entry (descriptors.place_page state.number)
+        whole.0.1.in_order (order_of order) refl refl page_there
+        (client_apart disk before after files output d a whole words client (ap client_served server)) not_client put a.server 0 descriptor_perm)
       where
-        next : ServerNext
-        next = shown state step.Releasing
-
-        b : AbstractState
-        b = opened_state a client its.service its.b name so.fd
-
         mid_is : KernelState
         mid_is = with_message (with_spaces before sp) 0 client 0 descriptor_perm
 
-        other : 0 ≢ client
-        other = born_not_first whole.0.1 client its.b its.at
+        order_of : IsInOrder mid_is → IsInOrder (with_spaces before sp)
+        order_of order =
+            slot_was_in_order (with_spaces before sp) client (received_in (slot_at before client) k.id 0 descriptor_perm)
+            (sym (born_live (born_at whole.0.1 client its.b its.at))) refl order
+
+    -- it has no free descriptor, and is told that
+    told_steps : IsToldNoneFree whole.0.0 before a client state.number its.service its.b → (word : ℕ) (mid : KernelState) (called : Called) →
+        word ≡ answer_of called → IsCallStep (open_reply_call before its.b.id state.number) (Ok called) mid output →
+        after ≡ gone_on mid 0 (next_replied state word) → Stepped before (beside after (Some d)) a (next_replied state word).seen output
+    told_steps so =
+        come_steps mid_is (its.b, negated E_MAX_OPEN) kept so.call so.step (λ order. (whole.0.0, so.stands)) (λ order. record {
+          slot = kept;
+          entries = λ q. ap (λ (x : Slot). before.spaces.entries x.directory q) kept;
+          tables = λ r. refl;
+          bytes = λ q x inside other is. refl;
+          request = λ keeps x is. refl;
+        })
+      where
+        mid_is : KernelState
+        mid_is = with_message before 0 client 0 0
 
         kept : slot_at mid_is 0 ≡ k
-        kept = slot_kept (with_spaces before sp) client (received_in (slot_at before client) k.id 0 descriptor_perm) 0 other
-
-        call_behind : CallBehind d mid_is
-        call_behind = same_behind before mid_is k kept refl whole.1
-
-        gives : (b.server ≡ leaving) × GivesOpened a b name
-        gives = replies_give a b client answer name bytes server (its_step so.step)
-
-        order_of : after ≡ gone_on mid_is 0 next → IsInOrder after → IsInOrder (with_spaces before sp)
-        order_of here in_order =
-            slot_was_in_order (with_spaces before sp) client (received_in (slot_at before client) k.id 0 descriptor_perm)
-            (sym (born_live (born_at whole.0.1 client its.b its.at))) refl (was_in_order mid_is 0 next after here in_order)
-
-        stands : after ≡ gone_on mid_is 0 next → after ≡ gone_on mid_is 0 (next_at state 0) → IsInOrder after →
-            StandsWhole (beside after (Some d)) b
-        stands here on in_order =
-            let order = order_of here in_order in
-            let now = so.stands order in
-            let stands_b = words_stand now.1 after (server_sets mid_is after 0 next here) call_behind.twelve in
-            let leaves = given_leaves before sp client p (descriptor_entry page_entry) page_entry (descriptors.place_page state.number)
-            whole.0.1.in_order order refl refl page_there (client_apart disk before after files output d a whole words client (ap client_served server))
-            other put a.server 0 descriptor_perm in
-            let tells = standing_counts_tell now.0 after b stands_b
-            (given_files_are_apart a b d before client answer name bytes at server whole.1.serving gives.1) in
-            let serves = replies_giving a b d before mid_is after client answer name bytes at server whole.1.serving in_order leaves on gives.0 gives.1
-            tells in (
-              (now.0, stands_b),
-              behind_stands d mid_is after next b here its_number call_behind serves.serving
-                  (serves_none b step.Releasing (gone_to (slot_at mid_is 0) next) refl) (still_asked b so.step) (fits_none b refl)
-                  (λ receiving. absurd (let contradiction : step.Releasing ≡ step.Receiving =
-                  sym (step_behind d mid_is after next b here its_number call_behind) ∙ receiving in cc)),
-            )
+        kept = slot_kept before client (received_in (slot_at before client) k.id 0 0) 0 not_client
 
     page_sent : (done : Progress) →
         HasCalled (call.System SYS_IPC_TRY_SEND (its.b.id ∷ 0 ∷ (FDTABLE + PGSIZE * state.number) ∷ descriptor_perm ∷ 0 ∷ [])) state before after 0 output done →
@@ -661,10 +697,9 @@ module _ (stays : ServedClientsStay) (disk : DiskFile) (before after : KernelSta
       where
         replied_so : OpenReplied whole.0.0 before a client state.number name its.service its.b (descriptor_entry page_entry)
         replied_so =
-            subst (λ (x : Service). OpenReplied whole.0.0 before a client state.number name x its.b (descriptor_entry page_entry)) (sym opens_so.service_is)
-            (opened_replied whole.0.1 client state.number name answer opens_so.path opens_so.mode
-            (subst (λ (l : List ℕ). a.server ≡ acted client answer l (Some name)) opens_so.no_bytes server) its.b its.at has_opened
-            (subst (λ (x : Service). IsThere its.b x) opens_so.service_is its.there))
+            opened_replied whole.0.1 client state.number name answer
+            (subst (λ (l : List ℕ). a.server ≡ acted client answer l (Some name)) opens_so.no_bytes server) its.b its.at has_opened its.service
+            opens_so.asks_it its.there
 
         by_way : (word : ℕ) (mid : KernelState) (called : Called) → word ≡ answer_of called →
             IsCallStep (open_reply_call before its.b.id state.number) (Ok called) mid output → after ≡ gone_on mid 0 (next_replied state word) →
@@ -676,6 +711,7 @@ module _ (stays : ServedClientsStay) (disk : DiskFile) (before after : KernelSta
             (is ∙ ap (λ (z : KernelState). gone_on z 0 (next_replied state word)) came.1) may
         by_way word mid called word_is reply is (comes sp p put so) = given_steps sp p put so word mid called word_is reply is
         by_way word mid called word_is reply is (lacks so) = lacked_steps so word mid called reply is
+        by_way word mid called word_is reply is (tells so) = told_steps so word mid called word_is reply is
     page_sent done (was_stopped why end reply stops) = absurd reply
 
     page_steps : (done : Progress) → HasCalled (call_for state step.Replying) state before after 0 output done →

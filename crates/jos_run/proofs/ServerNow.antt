@@ -15,11 +15,9 @@ use Rattle.lib_os.specs.AbstractState.{leaving, slot_id}
 use Rattle.lib_os.specs.AskedFor.{IsThere}
 use Rattle.lib_os.specs.Disk.{Disk}
 use Rattle.lib_os.specs.LibrarySteps.{Stands}
-use Rattle.lib_os.specs.Places.{place_of}
 use Rattle.lib_os.specs.Rows.{Names}
-use Rattle.lib_os.specs.StandsFor.{IsServerStatus, StandsFor, StandsForBorn, view_of}
+use Rattle.lib_os.specs.StandsFor.{IsServerStatus, StandsFor}
 use Rattle.lib_os.specs.UserCalls.{is_file_server}
-use Rattle.lib_os.proofs.AskedPlaces.{asked_place, awaiting_place, is_requests}
 use Rattle.lib_os.proofs.SlotsStand.{born_at}
 use Rattle.fs_requests.specs.declared.state.ServerStep.{ServerStep}
 use Rattle.fs_requests.specs.declared.state.ServerStep.TheVariants as step
@@ -126,14 +124,13 @@ running_so status running is = let contradiction : false ≡ true = sym (ap is_r
 
 -- ---- its client
 
--- The client is there, and has asked by a service that is a request, by this id.
+-- The client is there, by this id, and has asked by a service.
 pub record ClientThere (s : KernelState) (a : AbstractState) (client id : ℕ) : Type 0 where
   pub b : Born
   pub at : a.slots client ≡ born b
   pub named : b.id ≡ id
   pub small : b.id < 2 ^ 32
   pub service : Service
-  pub requests : is_requests service ≡ true
   pub there : IsThere b service
 
 asker : (slot : AbstractSlot) → is_asking slot ≡ true → (b : Born) × (slot ≡ born b) × (has_asked b.phase ≡ true)
@@ -147,33 +144,16 @@ asks_or_waits (in_service x awaiting) is = (x, inr refl)
 asks_or_waits _ is = absurd (let contradiction : false ≡ true = is in cc)
 
 module _ {names : Names} {s : KernelState} {a : AbstractState} (h : StandsFor names s a) where
-  has_requested : (client : ℕ) (b : Born) → a.slots client ≡ born b → has_asked b.phase ≡ true →
-      (x : Service) × (is_requests x ≡ true) × IsThere b x
-  has_requested client b at is = by_phase (asks_or_waits b.phase is)
-    where
-      own : StandsForBorn names s.spaces (slot_at s client) b
-      own = born_at h client b at
-
-      by_phase : ((x : Service) × ((b.phase ≡ in_service x asked) ⊎ (b.phase ≡ in_service x awaiting))) →
-          (x : Service) × (is_requests x ≡ true) × IsThere b x
-      by_phase (x, inl phase) =
-          let place = asked_place (place_of (slot_at s client)) (view_of s.spaces (slot_at s client).directory) (slot_at s client) b x own.at phase in
-          (x, place.asks_it, inl phase)
-      by_phase (x, inr phase) =
-          let place = awaiting_place (place_of (slot_at s client)) (view_of s.spaces (slot_at s client).directory) (slot_at s client) b x own.at phase in
-          (x, place.asks_it, inr phase)
-
   pub client_there : (client id : ℕ) → ServesWhoAsked a → client_served a.server ≡ Some client → IsClient a client id → ClientThere s a client id
   client_there client id serves served named =
       let it = asker (a.slots client) ((serves.asked client served).1) in
       let own = born_at h client it.0 it.1 in
-      let has = has_requested client it.0 it.1 it.2 in
+      let has = asks_or_waits it.0.phase it.2 in
       record {
         b = it.0;
         at = it.1;
         named = sym (ap slot_id it.1) ∙ named.same;
         small = subst (λ (i : ℕ). i < 2 ^ 32) own.id own.id_small;
         service = has.0;
-        requests = has.1;
-        there = has.2;
+        there = has.1;
       }

@@ -9,11 +9,11 @@ use Rattle.lib_os.specs.declared.place.Place.TheVariants as place
 use Rattle.lib_os.specs.declared.place.Step.TheVariants as step
 use Rattle.lib_os.specs.declared.service.Service.{Service}
 use Rattle.lib_os.specs.declared.service.Service.TheVariants as service
-use Rattle.lib_os.specs.LibraryPages.{has_working}
 use Rattle.lib_os.specs.Places.{place_in_words, is_handlers, words_entered}
 use Rattle.lib_os.specs.Services.{is_built, service_of}
 use Rattle.lib_os.proofs.Logical.{is_plain}
 use Rattle.lib_os.proofs.WordsTell.{place_at}
+use Rattle.lib_os.proofs.Serving.{kept_where, pages_kept}
 
 -- numbers that name no service are kept as one
 number_kept : (regs : Regs) → service_of (record regs { eax = min regs.eax SERVICES }) ≡ service_of regs
@@ -42,8 +42,8 @@ entered_plain service.Fork = refl
 entered_plain service.Pipe = refl
 entered_plain _ = refl
 
--- nor is there a page in which a service keeps bytes
-pub entered_holds : (s : Service) (words : List ℕ) → has_working (place.InService s step.Entered) words ≡ false
+-- nor are there pages in which a service keeps bytes
+pub entered_holds : (s : Service) (words : List ℕ) → pages_kept (place.InService s step.Entered) words ≡ kept_where false
 entered_holds (service.Write fd va len) words = refl
 entered_holds (service.Remove path) words = refl
 entered_holds _ words = refl

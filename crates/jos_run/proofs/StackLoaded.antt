@@ -19,14 +19,17 @@ use Rattle.jos_base.specs.SpacesState.{SpacesState, allocated, inserted, overlai
 use Rattle.jos_base.specs.SystemCalls.{environment_made}
 use Rattle.jos_elf.specs.declared.image.Segment.{Segment}
 use Rattle.jos_elf.specs.Parsed.{Layout}
-use Rattle.jos_kernel.specs.Boot.{any_touches, any_writes, laid_all, only_state, page_loaded, pages_loaded, stack_page, touches}
+use Rattle.jos_kernel.specs.Boot.{only_state, page_loaded, pages_loaded}
+use Rattle.jos_elf.specs.Pages.{any_touches, any_writes, laid_all, stack_page, touches}
 use Rattle.jos_kernel.specs.Loading.{Loads, with_bytes_in}
 use Rattle.jos_kernel.proofs.Laying.{laid-part}
 use Rattle.lib_os.specs.declared.numbers.TheConstants.{PGFAULT_UPCALL}
-use Rattle.lib_spawn.specs.StackPage.{stack_contents, stack_pointer, stack_size}
+use Rattle.jos_elf.specs.StackPage.{stack_contents, stack_pointer, stack_size}
 use Rattle.lib_spawn.proofs.StackPages.{Fits, stack-has_size}
-use Rattle.jos_run.specs.Boot.{stack_segment, program_loaded, handler_stack_loaded, console_bytes, console_in, console_loaded, space_loaded}
-use Rattle.jos_run.specs.Boot.{program_registers, program_started, program_in, records_loaded, server_in, server_started}
+use Rattle.jos_run.specs.Boot.{program_loaded, handler_stack_loaded, console_bytes, console_in, console_loaded, space_loaded}
+use Rattle.jos_elf.specs.Started.{stack_segment}
+use Rattle.jos_run.specs.Boot.{program_started, program_in, records_loaded, server_in, server_started}
+use Rattle.jos_elf.specs.Started.{program_registers}
 
 -- ---- the page of the stack
 

@@ -41,7 +41,7 @@ use Rattle.lib_os.proofs.Logical.{programs_no_descriptor}
 use Rattle.lib_os.proofs.PageBytes.{page_overlaid, words_bytes, zero_page_whole}
 use Rattle.lib_os.proofs.Releasing.{row_entry}
 use Rattle.lib_os.proofs.Serving.{words_of_none}
-use Rattle.lib_spawn.specs.StackPage.{fits_stack, stack_pointer, stack_size, strings_of}
+use Rattle.jos_elf.specs.StackPage.{fits_stack, stack_pointer, stack_size, strings_of}
 use Rattle.lib_spawn.proofs.StackPages.{fits}
 use Rattle.lib_os.specs.Rows.{AreBytes}
 use Rattle.fs_layout.specs.FileTree.{FileSystem}
@@ -286,7 +286,8 @@ module _ (image : Layout) (words : List (List ℕ)) (input : List ℕ) (frames f
       ];
       working = λ is. absurd (false≢true is);
       no_working = λ is. row_is 1024 refl ∙ outside_no_row image file words lie h.has.had 1024 no_working_inside (λ same. omega (arith, same));
-      none = λ p outside no_descriptor other too working. row_is p no_descriptor ∙ outside_no_row image file words lie h.has.had p outside other;
+      spawns = λ p is. absurd (false≢true is);
+      none = λ p outside no_descriptor other too working no_spawns. row_is p no_descriptor ∙ outside_no_row image file words lie h.has.had p outside other;
     }
 
     -- the first two descriptors name the console, and there are no others

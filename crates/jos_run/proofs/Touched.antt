@@ -5,7 +5,7 @@ use Rattle.std.proofs.lemmas.Bool.Decides.{nat_tests}
 use Rattle.jos_base.specs.Counting.{total}
 use Rattle.jos_base.specs.Environments.{bit_of}
 use Rattle.jos_elf.specs.declared.image.Segment.{Segment}
-use Rattle.jos_kernel.specs.Boot.{any_touches}
+use Rattle.jos_elf.specs.Pages.{any_touches}
 use Rattle.jos_kernel.specs.Loading.{IsFirstAt}
 use Rattle.jos_run.specs.Boot.{touches_region}
 use Rattle.std.proofs.lemmas.Bool.{cases_eq}

@@ -52,7 +52,7 @@ abbrev pub slot_of : Born → ℕ → AbstractSlot
 slot_of b n = if n == 0 then serving 0x1000 else if n == 1 then born b else free 0
 
 -- the others are vacant, and no child is borne
-pub given_apart : (b : Born) → bears_in b.phase ≡ None → AreGivenApart (slot_of b) (rising 2 1022)
+pub given_apart : (b : Born) → bears_in b.phase b.spawning ≡ None → AreGivenApart (slot_of b) (rising 2 1022)
 given_apart b none = record {
   vacant = vacant_rising (slot_of b) 1022 2 (λ n from. vacant_at n from (which_slot n));
   children = λ n child is. absurd (none-some child (sym (bears_none n (which_slot n)) ∙ is));

@@ -25,6 +25,10 @@ use Rattle.fs_requests.specs.ServerWords.{server_in}
 use Rattle.lib_os.specs.declared.place.Place.{Place}
 use Rattle.lib_os.specs.declared.place.Place.TheVariants as place
 use Rattle.lib_os.specs.declared.place.Step.TheVariants as step_at
+use Rattle.lib_os.specs.declared.spawn_steps.OpeningStep.TheVariants as opening_step
+use Rattle.lib_os.specs.declared.spawn_steps.ReadStep.TheVariants as read
+use Rattle.lib_os.specs.declared.spawn_steps.SpawnStep.{SpawnStep}
+use Rattle.lib_os.specs.declared.spawn_steps.SpawnStep.TheVariants as spawn
 use Rattle.lib_os.specs.Places.{place_of}
 use Rattle.lib_os.specs.declared.numbers.TheConstants.{FSREQ_OPEN, FSREQ_READ, FSREQ_REMOVE, FSREQ_SEEK, FSREQ_SET_SIZE, FSREQ_STAT, FSREQ_SYNC}
 use Rattle.lib_os.specs.declared.numbers.TheConstants.{FSREQ_WRITE, REQUEST}
@@ -40,7 +44,7 @@ use Rattle.lib_os.specs.AbstractState.{AbstractSlot, AbstractState, Born, Reques
 use Rattle.lib_os.specs.AbstractState.{guest, idle, in_service, leaving, looking, seek, slot_id}
 use Rattle.lib_os.specs.AskedFor.{AsksBy, ServesAsAsked}
 use Rattle.lib_os.specs.Disk.{Disk}
-use Rattle.lib_os.specs.FileServer.{await_reply, request_begun, request_taken}
+use Rattle.lib_os.specs.FileServer.{request_begun, request_taken}
 use Rattle.lib_os.specs.LibraryCall.{library_step}
 use Rattle.lib_os.specs.LibraryPages.{View}
 use Rattle.lib_os.specs.LibrarySteps.{AbstractFollows, AsksServer, BringsRequest, BringsWithPage, GivesPage, GoesOn, KeepsPlaces, KeepsServer}
@@ -54,7 +58,8 @@ use Rattle.lib_os.specs.StandsFor.{AwaitsRequest, IsServerStatus, IsStatusFor, S
 use Rattle.lib_os.specs.StandsFor.{StandsForServer, StandsForSlot, view_of}
 use Rattle.lib_os.specs.UserCalls.{is_file_server}
 use Rattle.lib_os.proofs.AnswersFit.{asked_fits, client_fits}
-use Rattle.lib_os.proofs.AskedPlaces.{IsRequesting, asked_step, asks as asks_it, awaiting_step, expects, expects_so, is_requests, requesting}
+use Rattle.lib_os.proofs.AskedPlaces.{IsRequesting, asked_step, asks as asks_it, awaiting_step, expects, expects_so, is_requests, requesting, spawn_asks, spawn_expects}
+use Rattle.lib_os.proofs.SpawnWaits.{SpawnAwaits, SpawnHasAsked, asked_so, asks_file, asks_part, expected_so, expects_file, expects_part}
 use Rattle.lib_os.proofs.AskersStay.{asker_waits}
 use Rattle.lib_os.proofs.Effects.{Placed}
 use Rattle.lib_os.proofs.FilesLeft.{clients_leave_files}
@@ -310,11 +315,11 @@ asks_so (service.Read fd va len) is = refl
 asks_so (service.Stat fd va) is = refl
 asks_so _ is = absurd (false≢true is)
 
-awaits_own : (s : Service) → is_requests s ≡ true → (a c : AbstractState) (n : ℕ) (b : Born) (regs : Regs) → a.slots n ≡ born b → b.blocked ≡ false →
+awaits_own : (s : Service) → asks_server s ≡ true → (a c : AbstractState) (n : ℕ) (b : Born) (regs : Regs) → a.slots n ≡ born b → b.blocked ≡ false →
     b.program ≡ guest regs → b.phase ≡ in_service s asked → abs_step a n ≡ Some c → slot_id (c.slots n) ≡ b.id
 awaits_own s of a c n b regs at awake program phase step =
     ap (λ (x : AbstractState). slot_id (x.slots n))
-    (sym (same_Some (await_reply a n b s) c (sym (asker_waits a n b regs s at program phase awake (asks_so s of)) ∙ step)))
+    (asker_waits a c n b regs s at program phase awake of step)
     ∙ ap (λ (slot : AbstractSlot). slot_id slot) (upd-at a.slots n (born (record b { phase = in_service s awaiting; blocked = true })))
 
 no_step : (a : AbstractState) (n : ℕ) (b : Born) → a.slots n ≡ born b → b.blocked ≡ true → abs_step a n ≡ None
@@ -330,6 +335,10 @@ request_id (place.InService s (step_at.Clearing id)) = id
 request_id (place.InService s (step_at.CountingReply id)) = id
 request_id (place.InService s (step_at.OpenAwaiting id fd)) = id
 request_id (place.InService s (step_at.OpenClearing id fd)) = id
+request_id (place.InService s (step_at.Spawning (spawn.Opening (opening_step.OpenAwaiting esp fd id)))) = id
+request_id (place.InService s (step_at.Spawning (spawn.Opening (opening_step.ReadingOpened esp fd id)))) = id
+request_id (place.InService s (step_at.Spawning (spawn.Reading wanted (read.Awaiting id)))) = id
+request_id (place.InService s (step_at.Spawning (spawn.Reading wanted (read.ReadingReply id)))) = id
 request_id _ = 0
 
 asked_id : (s : Service) → is_requests s ≡ true → (id fd : ℕ) → request_id (place.InService s (asked_step s id fd)) ≡ id
@@ -357,6 +366,16 @@ waiting_id _ is id fd = absurd (false≢true is)
 id_told : {p : Place} {v : View} {k : Slot} {b : Born} → IsRequesting p v k b → request_id p ≡ k.id
 id_told (asks_it s is id fd at self so) = ap request_id at ∙ asked_id s is id fd ∙ self
 id_told (expects s is id fd at self so) = ap request_id at ∙ waiting_id s is id fd ∙ self
+id_told {v = v} {k = k} {b = b} (spawn_asks path argv to at so) = ap request_id at ∙ by_asked so
+  where
+    by_asked : {to : SpawnStep} → SpawnHasAsked v k b path argv to → request_id (place.InService (service.Spawn path argv) (step_at.Spawning to)) ≡ k.id
+    by_asked (asks_file esp fd id self has) = self
+    by_asked (asks_part wanted id self has) = self
+id_told {v = v} {k = k} {b = b} (spawn_expects path argv to at so) = ap request_id at ∙ by_awaited so
+  where
+    by_awaited : {to : SpawnStep} → SpawnAwaits v k b path argv to → request_id (place.InService (service.Spawn path argv) (step_at.Spawning to)) ≡ k.id
+    by_awaited (expects_file esp fd id self waits) = self
+    by_awaited (expects_part wanted id self waits) = self
 
 -- it has its own space where it asks by a page
 page_asks : (s : Service) → brings_page s ≡ true → (id fd : ℕ) → asks_by_page (place.InService s (asking_step s id fd)) ≡ true
@@ -524,10 +543,18 @@ module _ (d : Disk) (n : ℕ) (s after : KernelState) (other : n ≢ 0) (live : 
           slot_id (c.slots client) ≡ slot_id (a.slots client)
       itself (asks_it of is id fd place_is self so) same =
           ap (λ (m : ℕ). slot_id (c.slots m)) same
-          ∙ awaits_own of is a c n it.b (slot_at s client).registers (ap (λ (m : ℕ). a.slots m) (sym same) ∙ it.is) so.awake so.program so.phase step
+          ∙ awaits_own of (asks_so of is) a c n it.b (slot_at s client).registers (ap (λ (m : ℕ). a.slots m) (sym same) ∙ it.is) so.awake so.program so.phase step
           ∙ sym (ap (λ (slot : AbstractSlot). slot_id slot) it.is)
       itself (expects of is id fd place_is self so) same =
           let blocked = (expects_so (view_of s.spaces (slot_at s client).directory) (slot_at s client) it.b of fd so).blocked in
+          absurd (none-some c (sym (no_step a n it.b (ap (λ (m : ℕ). a.slots m) (sym same) ∙ it.is) blocked) ∙ step))
+      itself (spawn_asks path argv to at so) same =
+          let has = asked_so so in
+          ap (λ (m : ℕ). slot_id (c.slots m)) same
+          ∙ awaits_own (service.Spawn path argv) refl a c n it.b has.regs (ap (λ (m : ℕ). a.slots m) (sym same) ∙ it.is) has.awake has.program has.phase step
+          ∙ sym (ap (λ (slot : AbstractSlot). slot_id slot) it.is)
+      itself (spawn_expects path argv to at so) same =
+          let blocked = (expected_so so).1.blocked in
           absurd (none-some c (sym (no_step a n it.b (ap (λ (m : ℕ). a.slots m) (sym same) ∙ it.is) blocked) ∙ step))
 
       by_slot : (t : Bool) → (client == n) ≡ t → slot_id (c.slots client) ≡ slot_id (a.slots client)
@@ -557,7 +584,7 @@ module _ (d : Disk) (n : ℕ) (s after : KernelState) (other : n ≢ 0) (live : 
     table = (subst (λ (x : Server). ServesBy x d s 0 a) idle_so k.serving.serves).table
 
     -- By what it is asked for, the message that has come, and the page that has come with it, it stands.
-    asked_for : (call : Service) (request : Request) (of : RequestKind) → c ≡ asked_state a n b call request → AsksBy call request →
+    asked_for : (call : Service) (request : Request) (of : RequestKind) → c ≡ asked_state a n b call request → AsksBy call b.spawning request →
         client_served (request_begun n request) ≡ Some n → IsAsked s after 0 → HasRequested (request_begun n request) after 0 →
         AsksFor (asked_state a n b call request) (request_bytes after 0) of request → HasLent (request_begun n request) after →
         (value perm : ℕ) → slot_at after 0 ≡ with_message_in (slot_at s 0) (slot_at s n).id value perm → value ≡ requests_of.request_word of →

@@ -8,7 +8,7 @@ use Rattle.fs_layout.specs.FileTree.{FileSystem}
 use Rattle.lib_os.specs.Disk.{Disk}
 use Rattle.lib_os.specs.Rows.{AreBytes}
 use Rattle.lib_os.specs.Need.{EachHasUse}
-use Rattle.lib_spawn.specs.StackPage.{fits_stack, strings_of}
+use Rattle.jos_elf.specs.StackPage.{fits_stack, strings_of}
 use Rattle.jos_run.specs.Boot.{boot_frames, booted_within, program_booted}
 use Rattle.jos_run.specs.LibraryRuns.{NoneRuns}
 use Rattle.jos_run.specs.ServerStands.{StandsWhole}

@@ -9,7 +9,6 @@ use Rattle.jos_base.specs.declared.environment.EnvType.TheVariants.{FileServer}
 use Rattle.jos_base.specs.declared.environment.Status.TheVariants.{Runnable}
 use Rattle.jos_base.specs.declared.errno.Errno.{Errno}
 use Rattle.jos_base.specs.declared.numbers.TheConstants.{FDTABLE, NPTENTRIES, PGSIZE}
-use Rattle.jos_base.specs.declared.registers.Regs.{Regs}
 use Rattle.jos_base.specs.Counting.{total}
 use Rattle.jos_base.specs.Environments.{bit_of}
 use Rattle.jos_base.specs.KernelState.{KernelState, first_state, slot_at, with_env_type, with_registers, with_spaces, with_status}
@@ -19,24 +18,16 @@ use Rattle.jos_base.specs.SystemCalls.{environment_made}
 use Rattle.jos_base.specs.TrapFrames.{bytes_of_words}
 use Rattle.jos_elf.specs.declared.image.Segment.{Segment}
 use Rattle.jos_elf.specs.Parsed.{Layout}
-use Rattle.jos_kernel.specs.Boot.{any_touches, first_registers, only_state, page_loaded, pages_loaded, perm_of, stack_page}
+use Rattle.jos_kernel.specs.Boot.{only_state, page_loaded, pages_loaded, perm_of}
+use Rattle.jos_elf.specs.Pages.{any_touches, stack_page}
+use Rattle.jos_elf.specs.Started.{program_registers, stack_segment}
 use Rattle.lib_os.specs.declared.numbers.TheConstants.{DEVICE_CONSOLE, OPEN_RECORDS, O_RDWR, PGFAULT_UPCALL, UXSTACK}
 use Rattle.lib_os.specs.Rows.{descriptor_page, descriptor_perm}
-use Rattle.lib_spawn.specs.StackPage.{stack_contents, stack_pointer, stack_size}
+use Rattle.jos_elf.specs.StackPage.{stack_contents}
 use Rattle.jos_base.specs.Below.{some_below}
 use Rattle.jos_run.specs.declared.boot.TheConstants.{FRAMES_BESIDE}
 
 -- ---- the program
-
--- what stands from ESP on, as a segment of a file of these bytes
-abbrev pub stack_segment : List (List ℕ) → Segment
-stack_segment words = record {
-  va = stack_pointer words;
-  mem_len = stack_size words;
-  file_at = 0;
-  file_len = stack_size words;
-  writable = true;
-}
 
 -- the pages of the image, and then that of the stack
 unfoldable pub program_loaded : List Segment → List ℕ → List (List ℕ) → ℕ → SpacesState → Option SpacesState
@@ -69,10 +60,6 @@ console_loaded space s = console_in space (allocated s space (descriptor_page 0)
 unfoldable pub space_loaded : List Segment → List ℕ → List (List ℕ) → ℕ → SpacesState → Option SpacesState
 space_loaded segments file words space s =
     option_and_then (console_loaded space) (option_and_then (handler_stack_loaded space) (program_loaded segments file words space s))
-
--- it stands at the image's entry, and ESP at its words
-abbrev pub program_registers : ℕ → List (List ℕ) → Regs
-program_registers entry words = record (first_registers entry) { esp = stack_pointer words }
 
 -- its page faults go to the handler, and it may run
 abbrev pub program_started : KernelState → ℕ → ℕ → List (List ℕ) → SpacesState → KernelState

@@ -1,33 +1,22 @@
 -- The abstract state in which a run begins: the server, which is not yet ready for a request, with the files of its disk, and one program.
-use Rattle.std.specs.Prelude.{◌≡◌, ℕ, ◌+◌, ◌-◌, ◌*◌, ◌==◌, nat_lt, true, false, List, [], ◌∷◌, Option, Some, None, if◌then◌else◌}
+use Rattle.std.specs.Prelude.{◌≡◌, ℕ, ◌+◌, ◌-◌, ◌*◌, ◌==◌, nat_lt, false, List, [], Option, Some, None, if◌then◌else◌}
 use Rattle.jos_base.specs.declared.numbers.TheConstants.{FIRST_ENV_ID, NENV}
 use Rattle.jos_base.specs.SpacesState.{rising}
-use Rattle.jos_elf.specs.declared.image.Segment.{Segment}
 use Rattle.jos_elf.specs.Parsed.{Layout}
-use Rattle.jos_kernel.specs.Boot.{any_touches, any_writes, page_bytes, stack_page}
 use Rattle.fs_layout.specs.declared.numbers.TheConstants.{BLKSIZE}
 use Rattle.fs_layout.specs.DiskFiles.{IsDiskImage, file_system_of}
 use Rattle.fs_layout.specs.DiskImage.{block_count}
 use Rattle.fs_layout.specs.FileTree.{FileSystem}
 use Rattle.lib_os.specs.AbstractMemory.{has_page_in}
 use Rattle.lib_os.specs.Disk.{Disk, byte_in_blocks}
-use Rattle.lib_os.specs.AbstractState.{AbstractState, Born, Page, own, TablePlace, AbstractSlot, free, born, serving, guest, at_guest, leaving, terminal}
+use Rattle.lib_os.specs.ProgramMemory.{program_memory}
+use Rattle.lib_os.specs.AbstractState.{AbstractState, Born, Page, TablePlace, AbstractSlot, free, born, serving, guest, at_guest, leaving, terminal}
 use Rattle.fs_seen.specs.ServerMemory.{AreDiskBytes}
-use Rattle.lib_spawn.specs.StackPage.{stack_contents}
-use Rattle.jos_run.specs.Boot.{program_registers, stack_segment}
-
--- the page of this number, if a segment touches it
-abbrev pub page_of : List Segment → List ℕ → ℕ → Option Page
-page_of segments file number =
-    if any_touches number segments then Some (own (page_bytes segments file number) (any_writes number segments)) else None
-
-abbrev pub stack_of : List (List ℕ) → Page
-stack_of words = own (page_bytes (stack_segment words ∷ []) (stack_contents words) stack_page) true
+use Rattle.jos_elf.specs.Started.{program_registers}
 
 -- the pages of the image, and that of the stack
 abbrev pub first_memory : Layout → List ℕ → List (List ℕ) → ℕ → Option Page
-first_memory image file words number =
-    if number == stack_page then Some (stack_of words) else page_of image.segments file number
+first_memory image file words = program_memory image.segments file words
 
 -- its first two descriptors name one object
 abbrev pub first_descriptors : ℕ → Option ℕ
@@ -43,6 +32,7 @@ program_with image words memory = record {
   regions = has_page_in memory;
   descriptors = first_descriptors;
   phase = at_guest;
+  spawning = None;
   blocked = false;
 }
 

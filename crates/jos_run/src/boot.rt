@@ -7,9 +7,10 @@ ghost use Rattle.jos_base.specs.declared.numbers.TheConstants.{FDTABLE, FRAMES_M
 ghost use Rattle.jos_base.specs.SystemCalls.{environment_made};
 ghost use Rattle.jos_elf.specs.Parsed.{Lies, parsed};
 ghost use Rattle.jos_sys.specs.System.{state_of, spaces_of, Keeps, is_live_in};
-ghost use Rattle.jos_kernel.specs.Boot.{page_loaded, stack_page};
+ghost use Rattle.jos_kernel.specs.Boot.{page_loaded};
+ghost use Rattle.jos_elf.specs.Pages.{stack_page};
 ghost use Rattle.jos_kernel.specs.Loading.{directory_of, Loads};
-ghost use Rattle.lib_spawn.specs.StackPage.{fits_stack, stack_contents, strings_of};
+ghost use Rattle.jos_elf.specs.StackPage.{fits_stack, stack_contents, strings_of};
 ghost use Rattle.jos_run.specs.Start.{HoldsFiles, start_state};
 ghost use Rattle.jos_run.specs.Worlds.{beside};
 ghost use Rattle.fs_layout.specs.FileTree.{FileSystem};
@@ -17,8 +18,10 @@ ghost use Rattle.lib_os.specs.Disk.{Disk};
 ghost use Rattle.jos_run.specs.Begun.{IsNew, ProgramsBegin, ProgramsBoot};
 ghost use Rattle.jos_run.specs.ServerStands.{StandsWhole};
 ghost use Rattle.lib_os.specs.Rows.{AreBytes};
-ghost use Rattle.jos_run.specs.Boot.{pages_touched, touches_region, regions_touched, boot_frames, stack_segment, program_loaded};
-ghost use Rattle.jos_run.specs.Boot.{handler_stack_loaded, records_loaded, console_bytes, console_loaded, program_registers, program_in, server_in, booted_within};
+ghost use Rattle.jos_run.specs.Boot.{pages_touched, touches_region, regions_touched, boot_frames, program_loaded};
+ghost use Rattle.jos_elf.specs.Started.{stack_segment};
+ghost use Rattle.jos_run.specs.Boot.{handler_stack_loaded, records_loaded, console_bytes, console_loaded, program_in, server_in, booted_within};
+ghost use Rattle.jos_elf.specs.Started.{program_registers};
 
 use arrayvec::ArrayVec;
 use jos_base::{

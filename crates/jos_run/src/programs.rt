@@ -7,7 +7,7 @@ ghost use Rattle.jos_base.specs.declared.numbers.TheConstants.{FRAMES_MIN, FRAME
 ghost use Rattle.jos_elf.specs.Parsed.{parsed};
 ghost use Rattle.jos_sys.specs.System.{state_of, Keeps};
 ghost use Rattle.lib_os.specs.Disk.{HasBlocks};
-ghost use Rattle.lib_spawn.specs.StackPage.{fits_stack};
+ghost use Rattle.jos_elf.specs.StackPage.{fits_stack};
 ghost use Rattle.jos_run.specs.Begun.{IsNew};
 ghost use Rattle.jos_run.specs.Closing.{IsClosedSo};
 ghost use Rattle.jos_run.specs.DiskTouches.{TouchesDiskOnly};

@@ -90,7 +90,8 @@ fn buffer_of(service: Service) -> u32
 {
     match service {
         Service::Read { va, .. } | Service::Write { va, .. } | Service::Stat { va, .. } => va,
-        Service::OpenFile { path, .. } | Service::Remove { path } => path,
+        Service::OpenFile { path, .. } | Service::Remove { path } | Service::Spawn { path, .. } =>
+            path,
         _ => 0,
     }
 }
@@ -101,7 +102,10 @@ fn writes_buffer(service: Service) -> bool
 {
     !matches!(
         service,
-        Service::OpenFile { .. } | Service::Write { .. } | Service::Remove { .. }
+        Service::OpenFile { .. }
+            | Service::Write { .. }
+            | Service::Remove { .. }
+            | Service::Spawn { .. }
     )
 }
 

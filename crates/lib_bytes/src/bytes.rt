@@ -138,14 +138,14 @@ fn answer_behind(service: FileService, count: u32) -> u32
 }
 
 /// How many bytes are put at once, behind so many.
-fn moved(va: u32, done: u32, count: u32) -> u32
+pub fn moved(va: u32, done: u32, count: u32) -> u32
     ensures { result ≡ stages.moved va done count }
 {
     moved_at_once(va.wrapping_add(done), count.saturating_sub(done))
 }
 
 /// What is asked to load the next bytes.
-fn ask_loading(va: u32, done: u32, count: u32) -> Ask
+pub fn ask_loading(va: u32, done: u32, count: u32) -> Ask
     ensures { result ≡ stages.loading_asked va done count }
 {
     if moved(va, done, count) == 4 {
@@ -160,7 +160,7 @@ fn ask_loading(va: u32, done: u32, count: u32) -> Ask
 }
 
 /// What is asked to load the word that has the others of them.
-fn ask_rest(done: u32) -> Ask
+pub fn ask_rest(done: u32) -> Ask
     ensures { result ≡ stages.rest_asked done }
 {
     Ask::Load {
@@ -275,7 +275,7 @@ fn next_of_loading(va: u32, done: u32, count: u32, word: u32) -> Next
 }
 
 /// The four bytes of two words behind `left` of the first, which are left away.
-fn joined(left: u32, first: u32, second: u32) -> u32
+pub fn joined(left: u32, first: u32, second: u32) -> u32
     ensures { result ≡ stages.joined left first second }
 {
     if left == 1 {

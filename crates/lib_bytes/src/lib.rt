@@ -8,4 +8,7 @@
 
 mod bytes;
 
-pub use bytes::{FileService, FileStage, ask_of_file, file_stage_at, next_of_file};
+pub use bytes::{
+    FileService, FileStage, ask_loading, ask_of_file, ask_rest, file_stage_at, joined, moved,
+    next_of_file,
+};

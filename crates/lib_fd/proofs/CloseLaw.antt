@@ -256,6 +256,7 @@ module _ (s : KernelState) (n fd : ℕ) (live : is_live (slot_at s n) ≡ true) 
   close_holds (step.OpenAwaiting own kept) stands = no_step (step.OpenAwaiting own kept) stands (λ view k b h. h)
   close_holds (step.OpenClearing own kept) stands = no_step (step.OpenClearing own kept) stands (λ view k b h. h)
   close_holds (step.ReadingOpened own kept) stands = no_step (step.ReadingOpened own kept) stands (λ view k b h. h)
+  close_holds (step.Spawning at) stands = no_step (step.Spawning at) stands (λ view k b h. h)
   close_holds (step.CountingReply own) stands =
       no_step (step.CountingReply own) stands (λ view k b h. let contradiction : false ≡ true = h.hands in cc)
   close_holds (step.FileRegion done count) stands =

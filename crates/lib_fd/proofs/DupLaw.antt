@@ -130,6 +130,7 @@ module _ (s : KernelState) (n old new : ℕ) (live : is_live (slot_at s n) ≡ t
   dup_holds (step.OpenAwaiting own kept) stands = law_of_nowhere s n (service.Dup old new) (step.OpenAwaiting own kept) stands refl (λ view k b h. h)
   dup_holds (step.OpenClearing own kept) stands = law_of_nowhere s n (service.Dup old new) (step.OpenClearing own kept) stands refl (λ view k b h. h)
   dup_holds (step.ReadingOpened own kept) stands = law_of_nowhere s n (service.Dup old new) (step.ReadingOpened own kept) stands refl (λ view k b h. h)
+  dup_holds (step.Spawning at) stands = law_of_nowhere s n (service.Dup old new) (step.Spawning at) stands refl (λ view k b h. h)
   dup_holds (step.CountingReply own) stands = law_of_nowhere s n (service.Dup old new) (step.CountingReply own) stands refl (λ view k b h. let contradiction : false ≡ true = h.hands in cc)
   dup_holds (step.FileRegion done count) stands = law_of_nowhere s n (service.Dup old new) (step.FileRegion done count) stands refl (λ view k b h. let contradiction : false ≡ true = h.hands in cc)
   dup_holds (step.FileEntry done count) stands = law_of_nowhere s n (service.Dup old new) (step.FileEntry done count) stands refl (λ view k b h. let contradiction : false ≡ true = h.0.hands in cc)

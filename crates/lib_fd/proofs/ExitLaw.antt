@@ -246,6 +246,7 @@ module _ (s : KernelState) (n : ℕ) (live : is_live (slot_at s n) ≡ true) whe
   exit_holds (step.OpenAwaiting own kept) stands = law_of_nowhere s n service.Exit (step.OpenAwaiting own kept) stands refl (λ view k b h. h)
   exit_holds (step.OpenClearing own kept) stands = law_of_nowhere s n service.Exit (step.OpenClearing own kept) stands refl (λ view k b h. h)
   exit_holds (step.ReadingOpened own kept) stands = law_of_nowhere s n service.Exit (step.ReadingOpened own kept) stands refl (λ view k b h. h)
+  exit_holds (step.Spawning at) stands = law_of_nowhere s n service.Exit (step.Spawning at) stands refl (λ view k b h. h)
   exit_holds (step.CountingReply own) stands = law_of_nowhere s n service.Exit (step.CountingReply own) stands refl (λ view k b h. let contradiction : false ≡ true = h.hands in cc)
   exit_holds (step.FileRegion done count) stands = law_of_nowhere s n service.Exit (step.FileRegion done count) stands refl (λ view k b h. let contradiction : false ≡ true = h.hands in cc)
   exit_holds (step.FileEntry done count) stands = law_of_nowhere s n service.Exit (step.FileEntry done count) stands refl (λ view k b h. let contradiction : false ≡ true = h.0.hands in cc)

@@ -37,6 +37,7 @@ moving_falls : (service : Service) (done word kept : ℕ) → Falls service (ste
 moving_falls (service.Write fd va len) done word kept = omega arith
 moving_falls (service.Remove path) done word kept = omega arith
 moving_falls (service.OpenFile path mode) done word kept = omega arith
+moving_falls (service.Spawn path argv) done word kept = omega arith
 moving_falls _ done word kept = omega arith
 
 -- neither gives up a turn
@@ -48,6 +49,7 @@ looks_steady (service.Send id value va) done word = (refl, refl)
 looks_steady service.Sync done word = (refl, refl)
 looks_steady (service.Remove path) done word = (refl, refl)
 looks_steady (service.OpenFile path mode) done word = (refl, refl)
+looks_steady (service.Spawn path argv) done word = (refl, refl)
 looks_steady (service.Seek fd offset) done word = (refl, refl)
 looks_steady (service.SetSize fd size) done word = (refl, refl)
 looks_steady (service.Write fd va len) done word = (refl, refl)

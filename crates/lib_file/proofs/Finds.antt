@@ -99,6 +99,7 @@ is_steady (service.Send id value va) fd given from none = absurd (none-some fd g
 is_steady service.Sync fd given from none = absurd (none-some fd given)
 is_steady (service.Remove path) fd given from none = absurd (none-some fd given)
 is_steady (service.OpenFile path mode) fd given from none = absurd (none-some fd given)
+is_steady (service.Spawn path argv) fd given from none = absurd (none-some fd given)
 is_steady (service.Seek other offset) fd given from none = seek_steady other offset from none
 is_steady (service.SetSize other size) fd given from none = set_size_steady other size from none
 is_steady (service.Write other va len) fd given from none = write_steady other va len from none

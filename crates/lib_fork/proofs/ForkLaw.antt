@@ -243,3 +243,4 @@ module _ (s : KernelState) (n : ℕ) (live : is_live (slot_at s n) ≡ true) whe
   fork_holds (step.FileFaulting done count) stands = law_of_nowhere s n service.Fork (step.FileFaulting done count) stands refl (λ view k b h. let contradiction : false ≡ true = h.0.hands in cc)
   fork_holds (step.Returning answer) stands = law_of_nowhere s n service.Fork (step.Returning answer) stands refl (λ view k b h. let contradiction : false ≡ true = h.goes in cc)
   fork_holds (step.Piped at) stands = law_of_nowhere s n service.Fork (step.Piped at) stands refl (λ view k b h. h)
+  fork_holds (step.Spawning at) stands = law_of_nowhere s n service.Fork (step.Spawning at) stands refl (λ view k b h. h)

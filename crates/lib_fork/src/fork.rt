@@ -72,7 +72,7 @@ impl Fork {
 }
 
 /// The number of a page, by a word that may hold anything.
-fn page_of(page: u32) -> u32
+pub fn page_of(page: u32) -> u32
     ensures is { result ≡ stages.page_of page }
     ensures below { result < NPTENTRIES * NPTENTRIES }
 {
@@ -80,7 +80,7 @@ fn page_of(page: u32) -> u32
 }
 
 /// The number of a region, by a word that may hold anything.
-fn region_of(region: u32) -> u32
+pub fn region_of(region: u32) -> u32
     ensures is { result ≡ stages.region_of region }
     ensures below { result < NPTENTRIES }
 {
@@ -88,21 +88,21 @@ fn region_of(region: u32) -> u32
 }
 
 /// Where a page begins.
-fn page_va(page: u32) -> u32
+pub fn page_va(page: u32) -> u32
     ensures { result ≡ stages.page_va page }
 {
     page_of(page) * PGSIZE
 }
 
 /// The greatest page of a region that may be a program's.
-fn first_page(region: u32) -> u32
+pub fn first_page(region: u32) -> u32
     ensures { result ≡ stages.first_page region }
 {
     (region_of(region) * NPTENTRIES + (NPTENTRIES - 1)).min(TOP_PAGE - 1)
 }
 
 /// Whether an answer is a refusal, which is told as the error's number negated, and not an id.
-fn is_error(word: u32) -> bool
+pub fn is_error(word: u32) -> bool
     ensures { result ≡ stages.is_error word }
 {
     word > 0x8000_0000

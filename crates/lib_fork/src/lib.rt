@@ -10,4 +10,4 @@
 
 mod fork;
 
-pub use fork::{Fork, ForkStage};
+pub use fork::{Fork, ForkStage, first_page, is_error, page_of, page_va, region_of};

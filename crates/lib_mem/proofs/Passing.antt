@@ -27,7 +27,7 @@ use Rattle.lib_os.specs.UserCalls.{got, CallStep}
 use Rattle.jos_base.proofs.Maps.{upd-at, upd-twice}
 use Rattle.lib_os.proofs.Answering.{back_stands}
 use Rattle.lib_os.proofs.PipesStand.{is_calm, is_calm_step}
-use Rattle.lib_os.proofs.Serving.{holds_page, served, step_in}
+use Rattle.lib_os.proofs.Serving.{holds_page, served, step_in, kept_where}
 use Rattle.lib_mem.specs.declared.services.MemoryService.{MemoryService}
 use Rattle.lib_mem.specs.declared.services.MemoryService.TheVariants as memory
 
@@ -93,7 +93,7 @@ bears_none (memory.PageDrop va) t = refl
 bears_none memory.Unknown t = refl
 
 -- nor keeps bytes in a page
-holds_none : (m : MemoryService) (t : Step) → holds_page (place.InService (service_in m) t) ≡ false
+holds_none : (m : MemoryService) (t : Step) → holds_page (place.InService (service_in m) t) ≡ kept_where false
 holds_none (memory.Cputs va len) t = refl
 holds_none memory.GetId t = refl
 holds_none memory.Yield t = refl
@@ -124,7 +124,7 @@ pub record IsHere (names : Names) (s : KernelState) (a : AbstractState) (n : ℕ
   pub own : StandsForBorn names s.spaces (slot_at s n) b
   pub outside : is_handlers (slot_at s n).registers.esp ≡ false
   pub unborne : borne_in (place_of (slot_at s n)) ≡ None
-  pub holds : holds_page (place_of (slot_at s n)) ≡ false
+  pub holds : holds_page (place_of (slot_at s n)) ≡ kept_where false
   pub calm : is_calm (place_of (slot_at s n)) ≡ true
   pub at : IsIn (slot_at s n) b service entered
   pub goes : abs_step a n ≡ library_step a n b (slot_at s n).registers service entered
@@ -150,7 +150,7 @@ here {s = s} {a = a} h n m step at =
 
 -- whoever is in a service of this slot goes back to its program with an answer
 pub answer_stands : {names : Names} {s : KernelState} {a : AbstractState} → StandsFor names s a → (n : ℕ) (b : Born) → a.slots n ≡ born b →
-    borne_in (place_of (slot_at s n)) ≡ None → holds_page (place_of (slot_at s n)) ≡ false → is_calm (place_of (slot_at s n)) ≡ true →
+    borne_in (place_of (slot_at s n)) ≡ None → holds_page (place_of (slot_at s n)) ≡ kept_where false → is_calm (place_of (slot_at s n)) ≡ true →
     (slot_at s n).rendezvous.receiving ≡ false →
     b.blocked ≡ false → is_handlers (slot_at s n).registers.esp ≡ false → (word : ℕ) →
     StandsFor names (service_answered s n word) (back_with a n b (record (slot_at s n).registers { eax = word }))
@@ -162,7 +162,7 @@ born_twice a n b c = λ i. record a { slots = upd-twice a.slots n (born b) (born
 
 -- the same where its own part has changed before
 pub changed_stands : {names : Names} {s : KernelState} (a : AbstractState) (n : ℕ) (b : Born) → StandsFor names s (with_born a n b) →
-    borne_in (place_of (slot_at s n)) ≡ None → holds_page (place_of (slot_at s n)) ≡ false → is_calm (place_of (slot_at s n)) ≡ true →
+    borne_in (place_of (slot_at s n)) ≡ None → holds_page (place_of (slot_at s n)) ≡ kept_where false → is_calm (place_of (slot_at s n)) ≡ true →
     (slot_at s n).rendezvous.receiving ≡ false →
     b.blocked ≡ false → is_handlers (slot_at s n).registers.esp ≡ false → (word : ℕ) →
     StandsFor names (service_answered s n word) (back_with a n b (record (slot_at s n).registers { eax = word }))

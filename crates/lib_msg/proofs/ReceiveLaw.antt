@@ -153,6 +153,7 @@ module _ (s : KernelState) (n va from : ℕ) (live : is_live (slot_at s n) ≡ t
   receive_holds (step.OpenClearing own kept) stands = law_of_nowhere s n (service.Receive va from) (step.OpenClearing own kept) stands refl (λ view k b h. h)
   receive_holds (step.ReadingOpened own kept) stands = law_of_nowhere s n (service.Receive va from) (step.ReadingOpened own kept) stands refl (λ view k b h. h)
   receive_holds (step.Piped at) stands = law_of_nowhere s n (service.Receive va from) (step.Piped at) stands refl (λ view k b h. h)
+  receive_holds (step.Spawning at) stands = law_of_nowhere s n (service.Receive va from) (step.Spawning at) stands refl (λ view k b h. h)
   receive_holds (step.CountingReply own) stands = law_of_nowhere s n (service.Receive va from) (step.CountingReply own) stands refl (λ view k b h. let contradiction : false ≡ true = h.hands in cc)
   receive_holds (step.FileRegion done count) stands = law_of_nowhere s n (service.Receive va from) (step.FileRegion done count) stands refl (λ view k b h. let contradiction : false ≡ true = h.hands in cc)
   receive_holds (step.FileEntry done count) stands = law_of_nowhere s n (service.Receive va from) (step.FileEntry done count) stands refl (λ view k b h. let contradiction : false ≡ true = h.0.hands in cc)

@@ -210,6 +210,7 @@ module _ (s : KernelState) (n id value va : ℕ) (live : is_live (slot_at s n) �
     send_holds (step.OpenClearing own kept) stands = law_of_nowhere s n (service.Send id value va) (step.OpenClearing own kept) stands refl (λ view k b h. h)
     send_holds (step.ReadingOpened own kept) stands = law_of_nowhere s n (service.Send id value va) (step.ReadingOpened own kept) stands refl (λ view k b h. h)
     send_holds (step.Piped at) stands = law_of_nowhere s n (service.Send id value va) (step.Piped at) stands refl (λ view k b h. h)
+    send_holds (step.Spawning at) stands = law_of_nowhere s n (service.Send id value va) (step.Spawning at) stands refl (λ view k b h. h)
     send_holds (step.CountingReply own) stands = law_of_nowhere s n (service.Send id value va) (step.CountingReply own) stands refl (λ view k b h. let contradiction : false ≡ true = h.hands in cc)
     send_holds (step.FileRegion done count) stands = law_of_nowhere s n (service.Send id value va) (step.FileRegion done count) stands refl (λ view k b h. let contradiction : false ≡ true = h.hands in cc)
     send_holds (step.FileEntry done count) stands = law_of_nowhere s n (service.Send id value va) (step.FileEntry done count) stands refl (λ view k b h. let contradiction : false ≡ true = h.0.hands in cc)

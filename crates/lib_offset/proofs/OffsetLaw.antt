@@ -50,6 +50,7 @@ module _ (s : KernelState) (n fd : ℕ) (live : is_live (slot_at s n) ≡ true) 
     seek_holds (step.Clearing id) stands = clearing_holds s n seek refl live awake id stands
     seek_holds (step.ReadingReply id) stands = reading_holds s n seek refl live id stands
     seek_holds (step.Piped at) stands = no_seek (step.Piped at) stands refl (λ view k b h. h)
+    seek_holds (step.Spawning at) stands = no_seek (step.Spawning at) stands refl (λ view k b h. h)
     seek_holds (step.Trying perm) stands = no_seek (step.Trying perm) stands refl (λ view k b h. h)
     seek_holds step.ReadingRegion stands = no_seek step.ReadingRegion stands refl (λ view k b h. h)
     seek_holds step.ReadingEntry stands = no_seek step.ReadingEntry stands refl (λ view k b h. h)
@@ -133,6 +134,7 @@ module _ (s : KernelState) (n fd : ℕ) (live : is_live (slot_at s n) ≡ true) 
     set_size_holds (step.Clearing id) stands = clearing_holds s n set_size refl live awake id stands
     set_size_holds (step.ReadingReply id) stands = reading_holds s n set_size refl live id stands
     set_size_holds (step.Piped at) stands = no_set_size (step.Piped at) stands refl (λ view k b h. h)
+    set_size_holds (step.Spawning at) stands = no_set_size (step.Spawning at) stands refl (λ view k b h. h)
     set_size_holds (step.Trying perm) stands = no_set_size (step.Trying perm) stands refl (λ view k b h. h)
     set_size_holds step.ReadingRegion stands = no_set_size step.ReadingRegion stands refl (λ view k b h. h)
     set_size_holds step.ReadingEntry stands = no_set_size step.ReadingEntry stands refl (λ view k b h. h)

@@ -33,6 +33,7 @@ environment id service = record {
   regions = λ r. r == 2;
   descriptors = λ fd. None;
   phase = in_service service entered;
+  spawning = None;
   blocked = false;
 }
 

@@ -12,14 +12,14 @@ use Rattle.lib_os.specs.StandsFor.{StandsFor, borne_in}
 use Rattle.lib_os.specs.declared.place.Place.TheVariants as place
 use Rattle.lib_os.specs.Places.{place_of, is_handlers}
 use Rattle.lib_os.proofs.Logical.{is_plain, unborne_plain}
-use Rattle.lib_os.proofs.Serving.{back_at_guest, holds_page, words_of_none}
+use Rattle.lib_os.proofs.Serving.{back_at_guest, holds_page, words_of_none, kept_where}
 use Rattle.lib_os.proofs.WordsTell.{handler_runs}
 use Rattle.lib_os.proofs.SlotsStand.{born_at}
 use Rattle.lib_os.proofs.StatesStand.{slot_changed}
 
 pub back_stands : {names : Names} {s : KernelState} {a : AbstractState} → StandsFor names s a → (n : ℕ) (b : Born) →
     a.slots n ≡ born b → (regs : Regs) → borne_in (place_of (slot_at s n)) ≡ None →
-    holds_page (place_of (slot_at s n)) ≡ false → is_calm (place_of (slot_at s n)) ≡ true → (slot_at s n).rendezvous.receiving ≡ false →
+    holds_page (place_of (slot_at s n)) ≡ kept_where false → is_calm (place_of (slot_at s n)) ≡ true → (slot_at s n).rendezvous.receiving ≡ false →
     b.blocked ≡ false →
     is_handlers (slot_at s n).registers.esp ≡ false → regs.esp ≡ (slot_at s n).registers.esp →
     regs.eflags ≡ (slot_at s n).registers.eflags → StandsFor names (gone_back s n regs) (back_with a n b regs)

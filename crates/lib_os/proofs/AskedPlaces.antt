@@ -14,6 +14,7 @@ use Rattle.lib_os.specs.declared.place.Step.{Step}
 use Rattle.lib_os.specs.declared.place.Step.TheVariants as step
 use Rattle.lib_os.specs.declared.service.Service.{Service}
 use Rattle.lib_os.specs.declared.service.Service.TheVariants as service
+use Rattle.lib_os.specs.declared.spawn_steps.SpawnStep.{SpawnStep}
 use Rattle.lib_os.specs.AbstractState.{Born, Phase, Stage, asked, awaiting, entered, guest, in_service}
 use Rattle.lib_os.specs.LibraryPages.{View}
 use Rattle.lib_os.specs.InService.{IsIn}
@@ -24,7 +25,9 @@ use Rattle.lib_os.specs.StandsFor.{AwaitsOrHas, HasAsked, HasReceived, IsAwaitin
 use Rattle.lib_os.specs.StandsFor.{StandsAtStep, StandsBefore, WaitsOrHas, awaits, descriptor_given, has, has_reply, waits}
 use Rattle.lib_os.specs.StandsInHandler.{CopiesOrEnds, IsStoppedAt, StandsBeneath, StandsDelivering, at_program, copies, ends, in_delivery}
 use Rattle.lib_os.specs.StandsFor.{AsksOfFile, IsGatheringPath, IsTakingPath, AwaitsFileOrHas, IsAwaitingFile, awaits_file, has_opened}
-use Rattle.lib_os.specs.StandsInHandler.{marked, may_follow, reading, stage_with, telling, writing, following}
+use Rattle.lib_os.specs.StandsInHandler.{listed, marked, may_follow, quoted, reading, stage_with, telling, writing, following}
+use Rattle.lib_os.proofs.SpawnWaits.{SpawnHasAsked, SpawnCalls, SpawnAwaits, asked_so, expected_so, expects_reply, has_asked, is_unasked}
+use Rattle.lib_os.proofs.SpawnWaits.{lists_unasked, quotes_unasked, spawn_calls, unasked}
 
 -- ---- phases
 
@@ -85,6 +88,10 @@ pub data IsRequesting (p : Place) (v : View) (k : Slot) (c : Born) : Type 0 wher
       IsRequesting p v k c
   expects : (s : Service) → is_requests s ≡ true → (id fd : ℕ) → p ≡ place.InService s (awaiting_step s id fd) → id ≡ k.id →
       Expects v k c s fd → IsRequesting p v k c
+  spawn_asks : (path argv : ℕ) (at : SpawnStep) → p ≡ place.InService (service.Spawn path argv) (step.Spawning at) →
+      SpawnHasAsked v k c path argv at → IsRequesting p v k c
+  spawn_expects : (path argv : ℕ) (at : SpawnStep) → p ≡ place.InService (service.Spawn path argv) (step.Spawning at) →
+      SpawnAwaits v k c path argv at → IsRequesting p v k c
 
 -- by whom its phase is told, and that it may run or not
 pub record ExpectsSo (k : Slot) (c : Born) (s : Service) : Type 0 where
@@ -121,6 +128,11 @@ delivers (service.Read fd va len) done word h = phase_is _ h.phase refl
 delivers (service.Stat fd va) done word h = phase_is _ h.phase refl
 delivers _ done word h = absurd h
 
+unasked_none : (s : Service) (stage : Stage) → is_unasked stage ≡ true → is_request (in_service s stage) ≡ false
+unasked_none s asked is = absurd (let contradiction : false ≡ true = is in cc)
+unasked_none s awaiting is = absurd (let contradiction : false ≡ true = is in cc)
+unasked_none s _ is = refl
+
 taking_none : (s : Service) (bytes : List ℕ) → is_request (in_service s (stage_with bytes)) ≡ false
 taking_none s [] = refl
 taking_none s (byte ∷ rest) = refl
@@ -141,6 +153,7 @@ before_byte so v (service.Stat fd va) done word h = delivers (service.Stat fd va
 before_byte so v (service.Write fd va len) done word h = takes_bytes fd va len word done h.0
 before_byte so v (service.Remove path) done word h = takes_path (service.Remove path) done h.0
 before_byte so v (service.OpenFile path mode) done word h = takes_path (service.OpenFile path mode) done h.0
+before_byte so v (service.Spawn path argv) done word h = takes_path (service.Spawn path argv) done h.0
 before_byte so v _ done word h = absurd h
 
 -- it is about to ask of a file
@@ -456,6 +469,16 @@ at_step v k c (service.Dup old new) (step.DescriptorEntry at) h = inl (in_silenc
 at_step v k c (service.Dup old new) step.TargetEntry h = inl (in_silence _ h.0)
 at_step v k c (service.Dup old new) (step.DroppingDescriptor at) h = inl (in_silence _ h.0)
 at_step v k c (service.Dup old new) step.MappingDescriptor h = inl (in_silence _ h.0)
+at_step v k c (service.Spawn path argv) step.TakingPage h = inl (in_silence _ h.0)
+at_step v k c (service.Spawn path argv) (step.Gathering done) h = inl (gathers_bytes v (may_follow path done) (service.Spawn path argv) done h)
+at_step v k c (service.Spawn path argv) (step.Keeping done word left) h = inl (phase_is _ h.is_in.phase refl)
+at_step v k c (service.Spawn path argv) (step.Spawning at) h = by_calls (spawn_calls v k c path argv at h)
+  where
+    by_calls : SpawnCalls v k c path argv at →
+        NoRequest k c ⊎ IsRequesting (place.InService (service.Spawn path argv) (step.Spawning at)) v k c
+    by_calls (unasked so) = inl (phase_is _ so.is_in.phase (unasked_none (service.Spawn path argv) so.stage so.unasked))
+    by_calls (has_asked so) = inr (spawn_asks path argv at refl so)
+    by_calls (expects_reply so) = inr (spawn_expects path argv at refl so)
 at_step v k c _ _ h = absurd h
 
 -- its page is copied, or it is on the way to its end
@@ -471,6 +494,10 @@ stopped_none k (telling fd buffer bytes answer writes phase some) = phase_is _ p
 stopped_none k (writing fd buffer len start bytes reads wants there) = phase_is _ wants.phase (taking_none (service.Write fd buffer len) bytes)
 stopped_none k (handing s bytes answer writes hands phase some there) = phase_is _ phase refl
 stopped_none k (following s bytes reads wants there) = phase_is _ wants.phase (taking_none s bytes)
+stopped_none k (listed path argv name addresses taken stage reads phase so are few fewer there) =
+    phase_is _ phase (unasked_none (service.Spawn path argv) stage (lists_unasked so))
+stopped_none k (quoted path argv address name left taken words stage reads phase so fewer there) =
+    phase_is _ phase (unasked_none (service.Spawn path argv) stage (quotes_unasked so))
 
 in_handler : (stands : HandlerStep) (v : View) {k : Slot} {c : Born} (fault : PageFault) (regs : Regs) →
     CopiesOrEnds stands v k c fault regs → NoRequest k c
@@ -520,22 +547,49 @@ apart : {q : Phase} (s t : Service) → q ≡ in_service s asked → q ≡ in_se
 apart s t first second =
     let contradiction : false ≡ true = sym (ap (λ (p : Phase). waits_for_reply p) first) ∙ ap (λ (p : Phase). waits_for_reply p) second in cc
 
+-- the same of spawn, whose step tells what for
+pub record SpawnPlace (p : Place) (s : Service) (so : ℕ → ℕ → SpawnStep → Type 0) : Type 0 where
+  pub path : ℕ
+  pub argv : ℕ
+  pub step_is : SpawnStep
+  pub call_is : s ≡ service.Spawn path argv
+  pub at : p ≡ place.InService (service.Spawn path argv) (step.Spawning step_is)
+  pub does : so path argv step_is
+
 pub asked_place : (p : Place) (v : View) (k : Slot) (c : Born) (s : Service) → StandsAt p v k c → c.phase ≡ in_service s asked →
-    AskedPlace p k c s
+    AskedPlace p k c s ⊎ SpawnPlace p s (SpawnHasAsked v k c)
 asked_place p v k c s h phase = by_case (requesting p v k c h (ap (λ (q : Phase). is_request q) phase))
   where
-    by_case : IsRequesting p v k c → AskedPlace p k c s
+    by_case : IsRequesting p v k c → AskedPlace p k c s ⊎ SpawnPlace p s (SpawnHasAsked v k c)
     by_case (asks t is id fd at self so) =
-        subst (λ (x : Service). AskedPlace p k c x) (same_service t s asked asked so.phase phase)
-        (record { id = id; fd = fd; at = at; self = self; so = so; asks_it = is })
+        inl (subst (λ (x : Service). AskedPlace p k c x) (same_service t s asked asked so.phase phase)
+        (record { id = id; fd = fd; at = at; self = self; so = so; asks_it = is }))
     by_case (expects t is id fd at self so) = absurd (apart s t phase (expects_so v k c t fd so).phase)
+    by_case (spawn_asks path argv at is so) = inr (record {
+      path = path;
+      argv = argv;
+      step_is = at;
+      call_is = same_service s (service.Spawn path argv) asked asked phase (asked_so so).phase;
+      at = is;
+      does = so;
+    })
+    by_case (spawn_expects path argv at is so) = absurd (apart s (service.Spawn path argv) phase (expected_so so).1.phase)
 
 pub awaiting_place : (p : Place) (v : View) (k : Slot) (c : Born) (s : Service) → StandsAt p v k c → c.phase ≡ in_service s awaiting →
-    AwaitingPlace p v k c s
+    AwaitingPlace p v k c s ⊎ SpawnPlace p s (SpawnAwaits v k c)
 awaiting_place p v k c s h phase = by_case (requesting p v k c h (ap (λ (q : Phase). is_request q) phase))
   where
-    by_case : IsRequesting p v k c → AwaitingPlace p v k c s
+    by_case : IsRequesting p v k c → AwaitingPlace p v k c s ⊎ SpawnPlace p s (SpawnAwaits v k c)
     by_case (asks t is id fd at self so) = absurd (apart t s so.phase phase)
     by_case (expects t is id fd at self so) =
-        subst (λ (x : Service). AwaitingPlace p v k c x) (same_service t s awaiting awaiting (expects_so v k c t fd so).phase phase)
-        (record { id = id; fd = fd; at = at; self = self; expects_it = so; so = expects_so v k c t fd so; asks_it = is })
+        inl (subst (λ (x : Service). AwaitingPlace p v k c x) (same_service t s awaiting awaiting (expects_so v k c t fd so).phase phase)
+        (record { id = id; fd = fd; at = at; self = self; expects_it = so; so = expects_so v k c t fd so; asks_it = is }))
+    by_case (spawn_asks path argv at is so) = absurd (apart (service.Spawn path argv) s (asked_so so).phase phase)
+    by_case (spawn_expects path argv at is so) = inr (record {
+      path = path;
+      argv = argv;
+      step_is = at;
+      call_is = same_service s (service.Spawn path argv) awaiting awaiting phase (expected_so so).1.phase;
+      at = is;
+      does = so;
+    })

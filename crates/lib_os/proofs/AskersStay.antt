@@ -1,6 +1,7 @@
 -- One that has asked the file server, and has no reply yet, has what it had, whatever other environment makes a step: its descriptors name the
 -- same objects until the reply. Its own step begins to wait.
 use Rattle.std.proofs.Common.{◌≡◌, ◌≢◌, ◌∙◌, ℕ, true, false, List, ◌∷◌, refl, sym, ap, subst}
+use Rattle.std.proofs.lemmas.Option.{none-some, same_Some}
 use Rattle.std.specs.Prelude.{Option, Some, None, IfSome}
 use Rattle.jos_base.specs.declared.registers.Regs.{Regs}
 use Rattle.jos_base.specs.Words.{upd}
@@ -9,29 +10,40 @@ use Rattle.lib_os.specs.declared.service.Service.{Service}
 use Rattle.lib_os.specs.declared.service.Service.TheVariants as service
 use Rattle.lib_os.specs.AbstractLaws.{AreVacant, ServesWhoAsked, asks_server, is_asking, is_unborn, is_vacant}
 use Rattle.lib_os.specs.AbstractRun.{abs_step}
-use Rattle.lib_os.specs.AbstractState.{AbstractSlot, AbstractState, Born, asked, born, free, guest, in_service, unborn}
+use Rattle.lib_os.specs.AbstractSpawn.{spawn_step}
+use Rattle.lib_os.specs.AbstractState.{AbstractSlot, AbstractState, Born, Spawning, asked, born, free, guest, in_service, unborn}
 use Rattle.lib_os.specs.FileServer.{await_reply}
 use Rattle.lib_os.specs.LibraryCall.{library_step}
 use Rattle.lib_os.proofs.Serving.{service_step}
-use Rattle.lib_os.proofs.StepsAsk.{Ends, asks, bears, begins, ended, step_ends, still}
+use Rattle.lib_os.proofs.StepsAsk.{Ends, asks, bears, begins, drops, ended, step_ends, still}
 
 -- ---- its own step
 
-pub asker_waits : (a : AbstractState) (n : ℕ) (b : Born) (regs : Regs) (s : Service) → a.slots n ≡ born b → b.program ≡ guest regs →
-    b.phase ≡ in_service s asked → b.blocked ≡ false → asks_server s ≡ true → abs_step a n ≡ Some (await_reply a n b s)
-unfolding library_step
-asker_waits a n b regs s at program phase awake is = service_step a n b regs s asked at program phase awake ∙ by_service s is
+-- its step, where it makes one: spawn's wants that it has found out for what it asks
+pub asker_waits : (a c : AbstractState) (n : ℕ) (b : Born) (regs : Regs) (s : Service) → a.slots n ≡ born b → b.program ≡ guest regs →
+    b.phase ≡ in_service s asked → b.blocked ≡ false → asks_server s ≡ true → abs_step a n ≡ Some c → c ≡ await_reply a n b s
+unfolding library_step spawn_step
+asker_waits a c n b regs s at program phase awake is step = by_service s is (sym (service_step a n b regs s asked at program phase awake) ∙ step)
   where
-    by_service : (s : Service) → asks_server s ≡ true → library_step a n b regs s asked ≡ Some (await_reply a n b s)
-    by_service (service.OpenFile path mode) is = refl
-    by_service (service.Read fd va len) is = refl
-    by_service (service.Write fd va len) is = refl
-    by_service (service.Seek fd offset) is = refl
-    by_service (service.Stat fd va) is = refl
-    by_service (service.SetSize fd size) is = refl
-    by_service (service.Remove path) is = refl
-    by_service service.Sync is = refl
-    by_service _ is = absurd (let contradiction : false ≡ true = is in cc)
+    by_found : (path argv : ℕ) (found : Option Spawning) → spawn_step a n b regs path argv asked found ≡ Some c →
+        c ≡ await_reply a n b (service.Spawn path argv)
+    by_found path argv None goes = absurd (none-some c goes)
+    by_found path argv (Some found) goes = sym (same_Some (await_reply a n b (service.Spawn path argv)) c goes)
+
+    waits : (s : Service) → Some (await_reply a n b s) ≡ Some c → c ≡ await_reply a n b s
+    waits s goes = sym (same_Some (await_reply a n b s) c goes)
+
+    by_service : (s : Service) → asks_server s ≡ true → library_step a n b regs s asked ≡ Some c → c ≡ await_reply a n b s
+    by_service (service.OpenFile path mode) is goes = waits (service.OpenFile path mode) goes
+    by_service (service.Read fd va len) is goes = waits (service.Read fd va len) goes
+    by_service (service.Write fd va len) is goes = waits (service.Write fd va len) goes
+    by_service (service.Seek fd offset) is goes = waits (service.Seek fd offset) goes
+    by_service (service.Stat fd va) is goes = waits (service.Stat fd va) goes
+    by_service (service.SetSize fd size) is goes = waits (service.SetSize fd size) goes
+    by_service (service.Remove path) is goes = waits (service.Remove path) goes
+    by_service service.Sync is goes = waits service.Sync goes
+    by_service (service.Spawn path argv) is goes = by_found path argv b.spawning goes
+    by_service _ is goes = absurd (let contradiction : false ≡ true = is in cc)
 
 -- ---- those of others
 
@@ -62,6 +74,11 @@ module _ (a : AbstractState) (h : ServesWhoAsked a) (n m : ℕ) (other : m ≢ n
   asker_kept x (bears child c b borne slots_are new_bears no_more free_are server_is) =
       ap (λ (slots : ℕ → AbstractSlot). slots m) slots_are
       ∙ beside child (born c) (born b)
+      (λ same. let contradiction : false ≡ true =
+      sym (asker_there (a.slots m) is).1 ∙ ap (λ (k : ℕ). is_unborn (a.slots k)) same ∙ h.given.children n child borne in cc)
+  asker_kept x (drops child id b borne slots_are no_more free_are server_is) =
+      ap (λ (slots : ℕ → AbstractSlot). slots m) slots_are
+      ∙ beside child (free id) (born b)
       (λ same. let contradiction : false ≡ true =
       sym (asker_there (a.slots m) is).1 ∙ ap (λ (k : ℕ). is_unborn (a.slots k)) same ∙ h.given.children n child borne in cc)
 

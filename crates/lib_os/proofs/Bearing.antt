@@ -26,9 +26,9 @@ use Rattle.lib_os.specs.PipeEnds.{EndsStandAt, LocksStand, locked_at}
 use Rattle.lib_os.specs.Places.{place_of, is_handlers}
 use Rattle.lib_os.specs.Rows.{EntryRow, Names, rows_of, logical, page_seen, is_of_descriptor, is_programs}
 use Rattle.lib_os.specs.Rows.{as_cow, counted, cow_perm, is_pipe_page, is_shared, pipe_page}
-use Rattle.lib_os.specs.StandsFor.{StandsFor, StandsForSlot, StandsForBorn, StandsForUnborn, StandsAtStep, view_of, IsBorne, ChildPages}
+use Rattle.lib_os.specs.StandsFor.{StandsFor, StandsForSlot, StandsForBorn, StandsForUnborn, StandsAtStep, view_of, IsBorne, IsBorneBy, by_fork, by_spawn, ChildPages}
 use Rattle.lib_os.specs.StandsFor.{borne_at, borne_in, is_passed, child_upcall, things_in}
-use Rattle.lib_os.proofs.Children.{same_child, borne_moved}
+use Rattle.lib_os.proofs.Children.{same_child, borne_moved, of_parent}
 use Rattle.lib_os.proofs.EntriesStand.{RowsStand, rows_turned}
 use Rattle.lib_os.proofs.Logical.{counted_elsewhere, counted_remapped, is_remapped, logical_alike, logical_live, logical_some}
 use Rattle.lib_os.proofs.PipesStand.{IsPipeFrame, calm_locked, calm_places, ends_moved, ends_stay, is_calm, is_calm_step, locks_kept}
@@ -66,7 +66,7 @@ shared_counts at row p x ne is shared_page = by_test (is_remapped (place.InServi
   where
     by_test : (c : Bool) → is_remapped (place.InService service.Fork at) p ≡ c → counted (place.InService service.Fork at) row p ≡ Some x
     by_test true remapped =
-        counted_remapped (place.InService service.Fork at) row p remapped refl
+        counted_remapped (place.InService service.Fork at) row p remapped refl refl
         ∙ ap (option_map as_cow) is
         ∙ ap (λ (c : Bool). Some (if c then x else record x { perm = cow_perm })) shared_page
     by_test false off = counted_elsewhere (place.InService service.Fork at) row p ne off ∙ is
@@ -134,6 +134,15 @@ borne_child {names = names} {s = s} {parent = parent} {k = k} b at is stands h =
       tables = h.tables;
     }))
 
+-- one whose parent stands in fork is borne by that
+pub borne_in_fork : {names : Names} {s : SpacesState} {parent : Slot} {parent_is : AbstractSlot} {k : Slot} {id parent_id : ℕ} (at : Step) →
+    IsBorneBy names s parent parent_is k id parent_id → place_of parent ≡ place.InService service.Fork at →
+    IsBorne names s parent parent_is k id parent_id
+borne_in_fork at (by_fork h) stands = h
+borne_in_fork at (by_spawn h) stands =
+    let contradiction : place.InService (service.Spawn h.path h.argv) (step.Spawning h.at_step) ≡ place.InService service.Fork at = sym h.at ∙ stands in
+    absurd cc
+
 -- ---- the two
 
 -- An environment that bears a child in fork, at a step, and the child.
@@ -168,8 +177,9 @@ bearer {names = names} {s = s} {a = a} h n at id stands bears =
       child_is = child_is;
       child_own = subst (λ (slot : AbstractSlot). StandsForSlot names s.spaces (slot_at s (id % NENV)) slot) child_is (h.slots (id % NENV));
       child = borne_child v.b at v.is stands
-          (subst (λ (q : ℕ). IsBorne names s.spaces (slot_at s q) (a.slots q) (slot_at s (id % NENV)) id v.b.id) named
-          (h.children.borne (id % NENV) id v.b.id child_is));
+          (borne_in_fork at
+          (subst (λ (q : ℕ). IsBorneBy names s.spaces (slot_at s q) (a.slots q) (slot_at s (id % NENV)) id v.b.id) named
+          (h.children.borne (id % NENV) id v.b.id child_is)) stands);
       apart = λ same. let contradiction : born v.b ≡ unborn id v.b.id = sym v.is ∙ ap a.slots (sym same) ∙ child_is in absurd cc;
       named = named;
     }
@@ -258,20 +268,21 @@ module _ {names : Names} {s : KernelState} {a : AbstractState} {sp : SpacesState
         by_parent false test = by_child (grind (arith, nat_tests)) (j == m) refl
 
     -- this child is borne as before
-    its_borne : IsBorne names sp (slots_after (v.b.id % NENV)) (a.slots (v.b.id % NENV)) (slots_after m) id v.b.id
+    its_borne : IsBorneBy names sp (slots_after (v.b.id % NENV)) (a.slots (v.b.id % NENV)) (slots_after m) id v.b.id
     its_borne =
-        subst (λ (q : ℕ). IsBorne names sp (slots_after q) (a.slots q) (slots_after m) id v.b.id) (sym v.named)
-        (subst (λ (x : Slot). IsBorne names sp (slots_after n) (a.slots n) x id v.b.id) (sym child_after)
-        (subst (λ (x : Slot). IsBorne names sp x (a.slots n) child id v.b.id) (sym parent_after)
-        (child_borne id v.is stands bears its_child)))
+        subst (λ (q : ℕ). IsBorneBy names sp (slots_after q) (a.slots q) (slots_after m) id v.b.id) (sym v.named)
+        (subst (λ (x : Slot). IsBorneBy names sp (slots_after n) (a.slots n) x id v.b.id) (sym child_after)
+        (subst (λ (x : Slot). IsBorneBy names sp x (a.slots n) child id v.b.id) (sym parent_after)
+        (by_fork (child_borne id v.is stands bears its_child))))
 
     abbrev Bears : ℕ → ℕ → ℕ → Type 0
-    Bears j own_id parent = IsBorne names sp (slots_after (parent % NENV)) (a.slots (parent % NENV)) (slots_after j) own_id parent
+    Bears j own_id parent = IsBorneBy names sp (slots_after (parent % NENV)) (a.slots (parent % NENV)) (slots_after j) own_id parent
 
     -- and so is every other
     others_borne : (j own_id parent : ℕ) → j ≢ m → a.slots j ≡ unborn own_id parent → Bears j own_id parent
     others_borne j own_id parent apart is =
         let was = h.children.borne j own_id parent is in
+        let parents = of_parent was in
         let p = parent % NENV in
         let own : StandsForUnborn (slot_at s j) own_id parent =
         subst (λ (y : AbstractSlot). StandsForSlot names s.spaces (slot_at s j) y) is (h.slots j) in
@@ -279,16 +290,16 @@ module _ {names : Names} {s : KernelState} {a : AbstractState} {sp : SpacesState
         let here : own_id % NENV ≡ j = ap (λ (q : ℕ). q % NENV) (sym own.id_is) ∙ h.tabled.ids j lives in
         let not_parent : j ≢ n = λ same. let contradiction : born v.b ≡ unborn own_id parent = sym v.is ∙ ap a.slots (sym same) ∙ is in absurd cc in
         let other_parent : p ≢ n = λ same.
-        let its_step : was.step ≡ at = same_step was.step at (sym was.at ∙ ap (λ (q : ℕ). place_of (slot_at s q)) same ∙ v.place) in
-        let one : own_id ≡ id = same_Some own_id id (sym was.borne ∙ ap borne_at its_step ∙ v.borne) in
+        let one : own_id ≡ id =
+        same_Some own_id id (sym parents.bears ∙ ap (λ (q : ℕ). borne_in (place_of (slot_at s q))) same ∙ ap borne_in v.place ∙ v.borne) in
         apart (sym here ∙ ap (λ (q : ℕ). q % NENV) one) in
         let not_child : p ≢ m = λ same.
-        let contradiction : born was.b ≡ unborn id v.b.id = sym was.born_by ∙ ap a.slots same ∙ v.child_is in absurd cc in
+        let contradiction : born parents.b ≡ unborn id v.b.id = sym parents.born_by ∙ ap a.slots same ∙ v.child_is in absurd cc in
         let its_parent = others_after p other_parent not_child in
         borne_moved (slots_after p) (a.slots p) (slots_after j) (ap (λ (x : Slot). place_of x) its_parent)
         (ap (λ (x : Slot). x.registers) its_parent) refl
-        (λ q descriptor. ap (λ (x : Slot). rows_of sp x.directory q) its_parent ∙ ap (λ (r : EntryRow). r q)
-        (others_seen p other_parent not_child (ap (λ (x : AbstractSlot). is_live x) was.born_by)).rows)
+        (λ q. ap (λ (x : Slot). rows_of sp x.directory q) its_parent ∙ ap (λ (r : EntryRow). r q)
+        (others_seen p other_parent not_child (ap (λ (x : AbstractSlot). is_live x) parents.born_by)).rows)
         (same_child (slot_at s j) (slots_after j) (others_after j not_parent apart))
         (others_seen j not_parent apart (ap (λ (x : AbstractSlot). is_live x) is)) was
 

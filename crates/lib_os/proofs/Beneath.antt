@@ -229,6 +229,14 @@ stops_before so v k b (service.OpenFile path mode) done word (h, known) = record
   inside = follows_inside path done (taking_follows v k b (service.OpenFile path mode) done h);
   stopped = λ ip. following (service.OpenFile path mode) h.bytes refl h.wants (ap (λ (n : ℕ). path + n) (sym h.many));
 }
+stops_before so v k b (service.Spawn path argv) done word (h, known) = record {
+  eax = k.registers.eax;
+  program = h.program;
+  silent = h.silent;
+  awake = h.awake;
+  inside = follows_inside path done (taking_follows v k b (service.Spawn path argv) done h);
+  stopped = λ ip. following (service.Spawn path argv) h.bytes refl h.wants (ap (λ (n : ℕ). path + n) (sym h.many));
+}
 stops_before so v k b _ done word h = absurd h
 
 -- and so is one that has bytes of a file
@@ -262,26 +270,17 @@ stops_handing v k b s done count h = record {
         by_service (service.Stat fd va) hands phase = telling fd va (drop done h.bytes) 0 refl phase left
         by_service _ hands phase = absurd (let contradiction : false ≡ true = hands in cc)
 
--- it bears no child there, so that entries count as they stand
-pub before_plain : (so : Type 0) (v : View) (k : Slot) (b : Born) (s : Service) (done word : ℕ) (at : Step) → StandsBefore so v k b s done word →
-    is_plain (place.InService s at) ≡ true
-before_plain so v k b (service.Read fd va len) done word at h = refl
-before_plain so v k b (service.Stat fd va) done word at h = refl
-before_plain so v k b (service.Write fd va len) done word at h = refl
-before_plain so v k b (service.Remove path) done word at h = refl
-before_plain so v k b (service.OpenFile path mode) done word at h = refl
-before_plain so v k b _ done word at h = absurd h
-
--- and what is known there beside
+-- what is known there beside
 pub before_so : {so : Type 0} (v : View) (k : Slot) (b : Born) (s : Service) (done word : ℕ) → StandsBefore so v k b s done word → so
 before_so v k b (service.Read fd va len) done word h = h.1
 before_so v k b (service.Stat fd va) done word h = h.1
 before_so v k b (service.Write fd va len) done word h = h.1
 before_so v k b (service.Remove path) done word h = h.1
 before_so v k b (service.OpenFile path mode) done word h = h.1
+before_so v k b (service.Spawn path argv) done word h = h.1
 before_so v k b _ done word h = absurd h
 
--- the same of one that puts bytes
+-- one that puts bytes bears no child, so that entries count as they stand
 pub putting_plain : (row : EntryRow) (k : Slot) (b : Born) (s : Service) (done word : ℕ) (at : Step) → StandsPutting row s done word k b →
     is_plain (place.InService s at) ≡ true
 putting_plain row k b (service.Read fd va len) done word at h = refl

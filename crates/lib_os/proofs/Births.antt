@@ -38,10 +38,10 @@ use Rattle.lib_os.specs.Rows.{Names, EntryRow, rows_of, page_by, page_seen, seen
 use Rattle.lib_os.specs.PipeEnds.{EndsStand, EndsStandAt, LocksStand, locked_at}
 use Rattle.lib_os.specs.Rows.{descriptor_page, descriptor_seen, is_of_descriptor, name_of, pipe_page}
 use Rattle.lib_os.specs.InService.{IsIn}
-use Rattle.lib_os.specs.StandsFor.{StandsFor, StandsForSlot, StandsForBorn, StandsForUnborn, StandsAt, IsBorne, view_of, upcall_at}
-use Rattle.lib_os.specs.StandsFor.{borne_at, borne_in, things_in}
+use Rattle.lib_os.specs.StandsFor.{StandsFor, StandsForSlot, StandsForBorn, StandsForUnborn, StandsAt, IsBorneBy, view_of, upcall_at}
+use Rattle.lib_os.specs.StandsFor.{borne_in, things_in}
 use Rattle.lib_os.proofs.Bearing.{IsBearer}
-use Rattle.lib_os.proofs.Children.{same_child, borne_moved}
+use Rattle.lib_os.proofs.Children.{same_child, borne_moved, of_parent}
 use Rattle.lib_os.proofs.EntriesStand.{RowsStand, rows_stand, rows_same, rows_turned}
 use Rattle.lib_os.proofs.Logical.{programs_beside}
 use Rattle.lib_os.proofs.PipesStand.{calm_locked, calm_places, descriptors_turned, ends_moved, is_calm, locks_same}
@@ -222,7 +222,8 @@ module _ {names : Names} {s : KernelState} {a : AbstractState} (h : StandsFor na
     descriptors = λ p entry descriptor there. v.own.library.descriptors p entry descriptor (sym (v.child.handed p descriptor refl) ∙ there);
     working = λ is. absurd (let contradiction : false ≡ true = is in cc);
     no_working = λ is. v.child.library.none (page_number UTEMP) working_outside working_no_descriptor (λ same. omega (arith, same));
-    none = λ p outside no_descriptor no_stack no_copy no_working. v.child.library.none p outside no_descriptor no_stack;
+    spawns = λ p is. absurd (let contradiction : false ≡ true = is in cc);
+    none = λ p outside no_descriptor no_stack no_copy no_working no_spawns. v.child.library.none p outside no_descriptor no_stack;
   }
 
   has_table : (r : ℕ) → has_page_in v.b.memory r ≡ true → is_some (s.spaces.regions (slot_at s m).directory r) ≡ true
@@ -289,29 +290,29 @@ module _ {names : Names} {s : KernelState} {a : AbstractState} (h : StandsFor na
   abstract_same j ne apart = upd-other (upd a.slots m (born newborn)) n (born back) j ne ∙ upd-other a.slots m (born newborn) j apart
 
   others_borne : (j own_id parent_id : ℕ) → j ≢ n → j ≢ m → a.slots j ≡ unborn own_id parent_id →
-      IsBorne names s.spaces (slots_after (parent_id % NENV)) (abstract_after (parent_id % NENV)) (slots_after j) own_id parent_id
+      IsBorneBy names s.spaces (slots_after (parent_id % NENV)) (abstract_after (parent_id % NENV)) (slots_after j) own_id parent_id
   others_borne j own_id parent_id ne apart is =
       let was = h.children.borne j own_id parent_id is in
+      let parents = of_parent was in
       let p = parent_id % NENV in
       let own : StandsForUnborn (slot_at s j) own_id parent_id =
       subst (λ (y : AbstractSlot). StandsForSlot names s.spaces (slot_at s j) y) is (h.slots j) in
       let lives : is_live_slot (slot_at s j) ≡ true = live_stands h j ∙ ap (λ (x : AbstractSlot). is_live x) is in
       let here : own_id % NENV ≡ j = ap (λ (q : ℕ). q % NENV) (sym own.id_is) ∙ h.tabled.ids j lives in
       let other_parent : p ≢ n = λ same.
-      let its_step : was.step ≡ step.ChildRuns id =
-      same_step was.step (step.ChildRuns id) (sym was.at ∙ ap (λ (q : ℕ). place_of (slot_at s q)) same ∙ v.place) in
-      let one : own_id ≡ id = same_Some own_id id (sym was.borne ∙ ap borne_at its_step ∙ v.borne) in
+      let one : own_id ≡ id =
+      same_Some own_id id (sym parents.bears ∙ ap (λ (q : ℕ). borne_in (place_of (slot_at s q))) same ∙ ap borne_in v.place ∙ v.borne) in
       apart (sym here ∙ ap (λ (q : ℕ). q % NENV) one) in
       let not_child : p ≢ m = λ same.
-      let contradiction : born was.b ≡ unborn id v.b.id = sym was.born_by ∙ ap a.slots same ∙ v.child_is in absurd cc in
+      let contradiction : born parents.b ≡ unborn id v.b.id = sym parents.born_by ∙ ap a.slots same ∙ v.child_is in absurd cc in
       let its_parent = slot_same p other_parent not_child in
       borne_moved (slots_after p) (abstract_after p) (slots_after j) (ap (λ (x : Slot). place_of x) its_parent)
       (ap (λ (x : Slot). x.registers) its_parent) (abstract_same p other_parent not_child)
-      (λ q descriptor. ap (λ (x : Slot). rows_of s.spaces x.directory q) its_parent)
+      (λ q. ap (λ (x : Slot). rows_of s.spaces x.directory q) its_parent)
       (same_child (slot_at s j) (slots_after j) (slot_same j ne apart)) (same_space names s.spaces (slot_at s j).directory) was
 
   borne_still : (j own_id parent_id : ℕ) → abstract_after j ≡ unborn own_id parent_id →
-      IsBorne names s.spaces (slots_after (parent_id % NENV)) (abstract_after (parent_id % NENV)) (slots_after j) own_id parent_id
+      IsBorneBy names s.spaces (slots_after (parent_id % NENV)) (abstract_after (parent_id % NENV)) (slots_after j) own_id parent_id
   borne_still j own_id parent_id is =
       let ne : j ≢ n = λ same.
       let contradiction : born back ≡ unborn own_id parent_id = sym abstract_parent ∙ ap abstract_after (sym same) ∙ is in absurd cc in

@@ -34,12 +34,12 @@ use Rattle.lib_os.specs.Services.{service_of}
 use Rattle.lib_os.specs.StandsFor.{StandsAt, StandsAtStep, StandsFor, borne_in, view_of}
 use Rattle.lib_os.specs.StandsInHandler.{is_refused_by}
 use Rattle.lib_os.proofs.BytesRead.{named_inside, page_byte, user_entry_read, users_inside}
-use Rattle.lib_os.proofs.EntriesCount.{born_counts}
+use Rattle.lib_os.proofs.EntriesCount.{born_entry}
 use Rattle.lib_os.proofs.Logical.{inside_programs, unborne_plain}
 use Rattle.lib_os.proofs.Serving.{holds_page, library_moved, plain_copy, plain_upcall, plain_working}
 use Rattle.lib_os.proofs.SlotsStand.{born_at}
 use Rattle.lib_os.proofs.PipesStand.{calm_places, calm_unmade, descriptors_turned, is_calm, is_calm_step}
-use Rattle.lib_os.proofs.StatesStand.{born_not_first, slot_changed}
+use Rattle.lib_os.proofs.StatesStand.{slot_changed}
 use Rattle.lib_os.proofs.UsesKept.{stored_kept, touched_kept}
 use Rattle.lib_os.proofs.WordsTell.{handler_runs, is_in_handler, place_at}
 
@@ -103,7 +103,7 @@ access_of false = Read
 pub frame_whole : {names : Names} {s : KernelState} {a : AbstractState} → StandsFor names s a → (n : ℕ) (b : Born) → a.slots n ≡ born b →
     (p : ℕ) (x : Entry) → rows_of s.spaces (slot_at s n).directory p ≡ Some x → IsPage (s.spaces.pages x.frame)
 frame_whole {s = s} h n b at p x is =
-    let found = born_counts {s = s} n (born_not_first h n b at) (born_at h n b at) p x is in
+    let found = born_entry h n b at p x is in
     subst (λ (f : ℕ). IsPage (s.spaces.pages f)) found.frame (h.whole found.slot found.page found.entry found.counts)
 
 module _ {names : Names} {s : KernelState} {a : AbstractState} (h : StandsFor names s a) (n : ℕ) (b : Born) (at : a.slots n ≡ born b) (va : ℕ)

@@ -191,6 +191,8 @@ next_inside so v k b (service.Write fd va len) done word h =
 next_inside so v k b (service.Remove path) done word h = follows_inside path done (taking_follows v k b (service.Remove path) done h.0)
 next_inside so v k b (service.OpenFile path mode) done word h =
     follows_inside path done (taking_follows v k b (service.OpenFile path mode) done h.0)
+next_inside so v k b (service.Spawn path argv) done word h =
+    follows_inside path done (taking_follows v k b (service.Spawn path argv) done h.0)
 next_inside so v k b _ done word h = absurd h
 
 -- its address is as its sum says
@@ -210,13 +212,27 @@ abbrev pub moving_step : Service → ℕ → ℕ → Step
 moving_step (service.Write fd va len) done word = step.GatheringBytes done word
 moving_step (service.Remove path) done word = step.Gathering done
 moving_step (service.OpenFile path mode) done word = step.Gathering done
+moving_step (service.Spawn path argv) done word = step.Gathering done
 moving_step _ done word = step.Delivering done word
 
 moving_calm : (service : Service) (done word : ℕ) → is_calm_step (moving_step service done word) ≡ true
 moving_calm (service.Write fd va len) done word = refl
 moving_calm (service.Remove path) done word = refl
 moving_calm (service.OpenFile path mode) done word = refl
+moving_calm (service.Spawn path argv) done word = refl
 moving_calm _ done word = refl
+
+-- it stands in spawn, behind its path
+abbrev pub is_spawning : Step → Bool
+is_spawning (step.Spawning at) = true
+is_spawning _ = false
+
+moving_nothing : (service : Service) (done word : ℕ) → is_spawning (moving_step service done word) ≡ false
+moving_nothing (service.Write fd va len) done word = refl
+moving_nothing (service.Remove path) done word = refl
+moving_nothing (service.OpenFile path mode) done word = refl
+moving_nothing (service.Spawn path argv) done word = refl
+moving_nothing _ done word = refl
 
 module _ (v : View) (k : Slot) (b : Born) (words : List ℕ) where
   delivering_with : (s : Service) (at : ℕ) (bytes : List ℕ) (answer : ℕ) → IsDelivering k b s at bytes answer →
@@ -274,6 +290,7 @@ module _ (v : View) (k : Slot) (b : Born) (words : List ℕ) where
   before_with so so_after (service.Write fd va len) done word to same known h = (taking_with fd va len word to done same h.0, known)
   before_with so so_after (service.Remove path) done word to same known h = (taking_path_with (service.Remove path) done h.0, known)
   before_with so so_after (service.OpenFile path mode) done word to same known h = (taking_path_with (service.OpenFile path mode) done h.0, known)
+  before_with so so_after (service.Spawn path argv) done word to same known h = (taking_path_with (service.Spawn path argv) done h.0, known)
   before_with so so_after _ done word to same known h = absurd h
 
   -- and goes on to its access where the page does not refuse it
@@ -294,6 +311,8 @@ module _ (v : View) (k : Slot) (b : Born) (words : List ℕ) where
       gathers_path v (record k { extra = words }) b (service.Remove path) done (taking_path_with (service.Remove path) done h.0) free
   moving_with so (service.OpenFile path mode) done word to same free h =
       gathers_path v (record k { extra = words }) b (service.OpenFile path mode) done (taking_path_with (service.OpenFile path mode) done h.0) free
+  moving_with so (service.Spawn path argv) done word to same free h =
+      gathers_path v (record k { extra = words }) b (service.Spawn path argv) done (taking_path_with (service.Spawn path argv) done h.0) free
   moving_with so _ done word to same free h = absurd h
 
 module _ (so : Type 0) (v : View) (k : Slot) (b : Born) (done word : ℕ) where
@@ -304,16 +323,23 @@ module _ (so : Type 0) (v : View) (k : Slot) (b : Born) (done word : ℕ) where
   known_before (service.Write fd va len) h = h.1
   known_before (service.Remove path) h = h.1
   known_before (service.OpenFile path mode) h = h.1
+  known_before (service.Spawn path argv) h = h.1
   known_before _ h = absurd h
 
   -- it bears no child, and keeps its page, if it has one, as it goes on
-  unborne_before : (service : Service) → StandsBefore so v k b service done word → (at : Step) → borne_in (place.InService service at) ≡ None
-  unborne_before (service.Read fd va len) h at = refl
-  unborne_before (service.Stat fd va) h at = refl
-  unborne_before (service.Write fd va len) h at = refl
-  unborne_before (service.Remove path) h at = refl
-  unborne_before (service.OpenFile path mode) h at = refl
-  unborne_before _ h at = absurd h
+  unborne_before : (service : Service) → StandsBefore so v k b service done word → (at : Step) → is_spawning at ≡ false →
+      borne_in (place.InService service at) ≡ None
+  unborne_before (service.Read fd va len) h at calm = refl
+  unborne_before (service.Stat fd va) h at calm = refl
+  unborne_before (service.Write fd va len) h at calm = refl
+  unborne_before (service.Remove path) h at calm = refl
+  unborne_before (service.OpenFile path mode) h at calm = refl
+  unborne_before (service.Spawn path argv) h at calm = by_step at calm
+    where
+      by_step : (at : Step) → is_spawning at ≡ false → borne_in (place.InService (service.Spawn path argv) at) ≡ None
+      by_step (step.Spawning at) none = absurd (let contradiction : true ≡ false = none in cc)
+      by_step _ none = refl
+  unborne_before _ h at calm = absurd h
 
   held_moving : (service : Service) → StandsBefore so v k b service done word → (to : ℕ) →
       holds_page (place.InService service (step.BufferEntry done word)) ≡ holds_page (place.InService service (moving_step service done to))
@@ -322,6 +348,7 @@ module _ (so : Type 0) (v : View) (k : Slot) (b : Born) (done word : ℕ) where
   held_moving (service.Write fd va len) h to = refl
   held_moving (service.Remove path) h to = refl
   held_moving (service.OpenFile path mode) h to = refl
+  held_moving (service.Spawn path argv) h to = refl
   held_moving _ h to = absurd h
 
   held_entry : (service : Service) → StandsBefore so v k b service done word → (to : ℕ) →
@@ -331,6 +358,7 @@ module _ (so : Type 0) (v : View) (k : Slot) (b : Born) (done word : ℕ) where
   held_entry (service.Write fd va len) h to = refl
   held_entry (service.Remove path) h to = refl
   held_entry (service.OpenFile path mode) h to = refl
+  held_entry (service.Spawn path argv) h to = refl
   held_entry _ h to = absurd h
 
   held_faulting : (service : Service) → StandsBefore so v k b service done word → (to : ℕ) →
@@ -341,6 +369,7 @@ module _ (so : Type 0) (v : View) (k : Slot) (b : Born) (done word : ℕ) where
   held_faulting (service.Write fd va len) h to = (refl, refl)
   held_faulting (service.Remove path) h to = (refl, refl)
   held_faulting (service.OpenFile path mode) h to = (refl, refl)
+  held_faulting (service.Spawn path argv) h to = (refl, refl)
   held_faulting _ h to = absurd h
 
 -- ---- the two looks
@@ -393,14 +422,14 @@ module _ (s : KernelState) (n : ℕ) (service : Service) (done word : ℕ) where
         (region_given h n before.b before.is (buffer_of service + done) region_inside)
 
     module _ (order : IsInOrder (loaded s n (buffer_region_va service done))) (to : ℕ) (same : KeepsWord service word to) where
-      region_goes : (at : Step) → is_calm_step at ≡ true → holds_page (place.InService service (step.BufferRegion done word)) ≡ holds_page
+      region_goes : (at : Step) → is_calm_step at ≡ true → is_spawning at ≡ false → holds_page (place.InService service (step.BufferRegion done word)) ≡ holds_page
           (place.InService service at) →
           StandsAtStep space (record (slot_at s n) { extra = words_at (number_of service) at }) before.b service at →
           StandsFor names (with_extra (loaded s n (buffer_region_va service done)) n (words_at (number_of service) at)) a
-      region_goes at calm held so =
+      region_goes at calm apart held so =
           let unborne = unborne_before (Unit {0}) space (slot_at s n) before.b done word service before.at in
-          read_goes_on h n service (step.BufferRegion done word) before (unborne (step.BufferRegion done word)) refl (buffer_region_va service done)
-          order at (unborne at) calm held so
+          read_goes_on h n service (step.BufferRegion done word) before (unborne (step.BufferRegion done word) refl) refl (buffer_region_va service done)
+          order at (unborne at apart) calm held so
 
       -- it has one: the page's entry is looked at
       pub buffer_region_found : tells_page (buffer_region_word s n service done) ≡ true →
@@ -408,7 +437,7 @@ module _ (s : KernelState) (n : ℕ) (service : Service) (done word : ℕ) where
       buffer_region_found told =
           let there : is_some (s.spaces.regions (slot_at s n).directory (region_index (buffer_of service + done))) ≡ true =
           sym (region_told (s.spaces.regions (slot_at s n).directory (region_index (buffer_of service + done)))) ∙ told in
-          region_goes (step.BufferEntry done to) refl (held_entry (Unit {0}) space (slot_at s n) before.b done word service before.at to)
+          region_goes (step.BufferEntry done to) refl refl (held_entry (Unit {0}) space (slot_at s n) before.b done word service before.at to)
           (before_with space (slot_at s n) before.b (words_at (number_of service) (step.BufferEntry done to)) (Unit {0}) HasTable service done word to
           same there before.at)
 
@@ -420,7 +449,7 @@ module _ (s : KernelState) (n : ℕ) (service : Service) (done word : ℕ) where
           sym (region_told (s.spaces.regions (slot_at s n).directory (region_index (buffer_of service + done)))) ∙ told in
           let refused : refuses_next space.row service done ≡ true =
           ap (is_refused_by (writes_buffer service)) (table_none h n before.b before.is (buffer_of service + done) region_inside none) in
-          region_goes (step.Faulting done to) refl ((held_faulting (Unit {0}) space (slot_at s n) before.b done word service before.at to).0)
+          region_goes (step.Faulting done to) refl refl ((held_faulting (Unit {0}) space (slot_at s n) before.b done word service before.at to).0)
           (before_with space (slot_at s n) before.b (words_at (number_of service) (step.Faulting done to)) (Unit {0}) Refuses service done word to
           same refused before.at)
 
@@ -445,20 +474,20 @@ module _ (s : KernelState) (n : ℕ) (service : Service) (done word : ℕ) where
     refusal_is = entry_told h n before_page.b before_page.is (buffer_of service + done) entry_inside (writes_buffer service)
 
     module _ (order : IsInOrder (loaded s n (buffer_entry_va service done))) (to : ℕ) (same : KeepsWord service word to) where
-      entry_goes : (at : Step) → is_calm_step at ≡ true → holds_page (place.InService service (step.BufferEntry done word)) ≡ holds_page
+      entry_goes : (at : Step) → is_calm_step at ≡ true → is_spawning at ≡ false → holds_page (place.InService service (step.BufferEntry done word)) ≡ holds_page
           (place.InService service at) →
           StandsAtStep space (record (slot_at s n) { extra = words_at (number_of service) at }) before_page.b service at →
           StandsFor names (with_extra (loaded s n (buffer_entry_va service done)) n (words_at (number_of service) at)) a
-      entry_goes at calm held so =
+      entry_goes at calm apart held so =
           let unborne = unborne_before HasTable space (slot_at s n) before_page.b done word service before_page.at in
-          read_goes_on h n service (step.BufferEntry done word) before_page (unborne (step.BufferEntry done word)) refl
-          (buffer_entry_va service done) order at (unborne at) calm held so
+          read_goes_on h n service (step.BufferEntry done word) before_page (unborne (step.BufferEntry done word) refl) refl
+          (buffer_entry_va service done) order at (unborne at apart) calm held so
 
       -- it does: the service goes on to its access
       pub buffer_entry_allows : tells_allowed (writes_buffer service) (buffer_entry_word s n service done) ≡ true →
           StandsFor names (with_extra (loaded s n (buffer_entry_va service done)) n (words_at (number_of service) (moving_step service done to))) a
       buffer_entry_allows told =
-          entry_goes (moving_step service done to) (moving_calm service done to) (held_moving HasTable space (slot_at s n) before_page.b done
+          entry_goes (moving_step service done to) (moving_calm service done to) (moving_nothing service done to) (held_moving HasTable space (slot_at s n) before_page.b done
           word service before_page.at to)
           (moving_with space (slot_at s n) before_page.b (words_at (number_of service) (moving_step service done to)) HasTable service done word to
           same (refusal_is ∙ ap not told) before_page.at)
@@ -467,6 +496,6 @@ module _ (s : KernelState) (n : ℕ) (service : Service) (done word : ℕ) where
       pub buffer_entry_refuses : tells_allowed (writes_buffer service) (buffer_entry_word s n service done) ≡ false →
           StandsFor names (with_extra (loaded s n (buffer_entry_va service done)) n (words_at (number_of service) (step.Faulting done to))) a
       buffer_entry_refuses told =
-          entry_goes (step.Faulting done to) refl ((held_faulting HasTable space (slot_at s n) before_page.b done word service before_page.at to).1)
+          entry_goes (step.Faulting done to) refl refl ((held_faulting HasTable space (slot_at s n) before_page.b done word service before_page.at to).1)
           (before_with space (slot_at s n) before_page.b (words_at (number_of service) (step.Faulting done to)) HasTable Refuses service done word to
           same (refusal_is ∙ ap not told) before_page.at)

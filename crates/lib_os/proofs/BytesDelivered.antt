@@ -55,7 +55,7 @@ use Rattle.lib_os.proofs.Logical.{inside_programs, is_making_pipe}
 use Rattle.lib_os.proofs.Numbered.{named_at, number_of}
 use Rattle.lib_os.proofs.PageBytes.{bytes_drop, bytes_take}
 use Rattle.lib_os.proofs.PipesStand.{calm_unmade, is_calm, is_calm_step}
-use Rattle.lib_os.proofs.Serving.{IsServed, holds_page, service_step}
+use Rattle.lib_os.proofs.Serving.{IsServed, holds_page, service_step, kept_where}
 use Rattle.lib_os.proofs.SlotsStand.{is_piped}
 use Rattle.lib_os.proofs.StatesStand.{quiet_stands}
 use Rattle.lib_os.proofs.Touching.{byte_stored, stored_is, touched_quiet}
@@ -317,7 +317,7 @@ module _ {names : Names} {s : KernelState} {a : AbstractState} (h : StandsFor na
           by_rest (byte ∷ rest) = refl
 
       -- no byte is left, and it has answered
-      pub answer_stands : other_bytes ≡ [] → holds_page (place.InService call step) ≡ false →
+      pub answer_stands : other_bytes ≡ [] → holds_page (place.InService call step) ≡ kept_where false →
           StandsFor names (service_answered putting n answer) delivered
       answer_stands none holds =
           subst (λ (x : AbstractState). StandsFor names (service_answered putting n answer) x)

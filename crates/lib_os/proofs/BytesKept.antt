@@ -50,7 +50,7 @@ use Rattle.lib_os.proofs.BytesRead.{lasting_reads, lasting_writes}
 use Rattle.lib_os.proofs.Children.{borne_moved, same_child}
 use Rattle.lib_os.proofs.CopiesStored.{IsRewritten}
 use Rattle.lib_os.proofs.Effects.{Quiet}
-use Rattle.lib_os.proofs.EntriesCount.{entry_counts}
+use Rattle.lib_os.proofs.EntriesCount.{born_entry, entry_counts}
 use Rattle.lib_os.proofs.EntriesStand.{RowsStand, named_bytes, rows_turned, shown_same}
 use Rattle.lib_os.proofs.EntryWords.{row_entry}
 use Rattle.lib_os.proofs.Fences.{buffer_below}
@@ -58,7 +58,7 @@ use Rattle.lib_os.proofs.GoingOn.{words_stand}
 use Rattle.lib_os.proofs.Logical.{is_plain, logical_alike, logical_plain}
 use Rattle.lib_os.proofs.Numbered.{named_at}
 use Rattle.lib_os.proofs.PageBytes.{bytes_more, bytes_none, word_bytes}
-use Rattle.lib_os.proofs.Serving.{IsServed, holds_page, served}
+use Rattle.lib_os.proofs.Serving.{IsServed, holds_page, served, kept_where}
 use Rattle.lib_os.proofs.SlotsStand.{CountsKept, SameDevices, SeenAlike, born_at, descriptors_off, given_bytes_kept}
 use Rattle.lib_os.proofs.SlotsStand.{library_alike, live_stands, slot_stands}
 use Rattle.lib_os.proofs.PipesStand.{is_calm, is_calm_step, locks_same}
@@ -71,8 +71,8 @@ use Rattle.jos_base.proofs.Puts.{Elsewhere}
 
 -- A page of an environment's own, which may be written and is neither its program's nor a descriptor's, has other bytes.
 module _ {names : Names} {s : KernelState} {a : AbstractState} {sp : SpacesState} (h : StandsFor names s a) (n : ℕ) (b : Born)
-    (at : a.slots n ≡ born b) (plain : is_plain (place_of (slot_at s n)) ≡ true) (p : ℕ) (outside : is_programs p ≡ false)
-    (other : is_of_descriptor p ≡ false) (e : Entry) (e_is : rows_of s.spaces (slot_at s n).directory p ≡ Some e)
+    (at : a.slots n ≡ born b) (p : ℕ) (counted : logical s.spaces s.environments.slots n p ≡ rows_of s.spaces (slot_at s n).directory p)
+    (outside : is_programs p ≡ false) (other : is_of_descriptor p ≡ false) (e : Entry) (e_is : rows_of s.spaces (slot_at s n).directory p ≡ Some e)
     (own_page : is_shared e.perm ≡ false) (writes : has_write e.perm ≡ true) (bytes : List ℕ) (is_page : IsPage bytes)
     (rewritten : IsRewritten s.spaces sp e.frame bytes) (in_order : IsInOrder (with_spaces s sp)) where
   abbrev d : ℕ
@@ -87,14 +87,14 @@ module _ {names : Names} {s : KernelState} {a : AbstractState} {sp : SpacesState
   client : is_clients n (slot_at s n) ≡ true
   client = clients_live h n b at
 
-  -- what stands in the space counts
-  own_counts : (q : ℕ) (x : Entry) → rows_of s.spaces d q ≡ Some x → before n q ≡ Some x
-  own_counts q x hx = logical_plain s.spaces s.environments.slots n client plain q ∙ hx
+  -- it counts as it stands
+  it_counts : before n p ≡ Some e
+  it_counts = counted ∙ e_is
 
   -- nothing else that counts has the frame
   alone : (m q : ℕ) (x : Entry) → Elsewhere m q n p → before m q ≡ Some x → x.frame ≢ e.frame
   alone m q x ne hx same =
-      let agrees = h.apart m q n p x e ne hx (own_counts p e e_is) same in
+      let agrees = h.apart m q n p x e ne hx it_counts same in
       let contradiction : true ≡ false = sym writes ∙ (agrees.read_only (agrees.shared ∙ own_page)).1 in cc
 
   row_kept : (q r : ℕ) → rows_of sp q r ≡ rows_of s.spaces q r
@@ -106,8 +106,13 @@ module _ {names : Names} {s : KernelState} {a : AbstractState} {sp : SpacesState
   bytes_are : sp.pages e.frame ≡ bytes
   bytes_are = ap (λ (pages : ℕ → List ℕ). pages e.frame) rewritten.pages ∙ upd-at s.spaces.pages e.frame bytes
 
-  own_beside : (q : ℕ) (x : Entry) → q ≢ p → rows_of s.spaces d q ≡ Some x → sp.pages x.frame ≡ s.spaces.pages x.frame
-  own_beside q x ne hx = bytes_kept x.frame (alone n q x (λ same. ne) (own_counts q x hx))
+  -- the other pages of the space have the bytes that they had
+  pub own_beside : (q : ℕ) (x : Entry) → q ≢ p → rows_of s.spaces d q ≡ Some x → sp.pages x.frame ≡ s.spaces.pages x.frame
+  own_beside q x ne hx =
+      let found = born_entry h n b at q x hx in
+      let apart : Elsewhere found.slot found.page n p =
+      λ same too. ne (sym (found.beside (ap is_programs too ∙ outside)) ∙ too) in
+      bytes_kept x.frame (λ same. alone found.slot found.page found.entry apart found.counts (found.frame ∙ same))
 
   pub rewritten_devices : SameDevices (view_of s.spaces d) (view_of sp d)
   rewritten_devices q x descriptor no_pipe hx =
@@ -129,7 +134,7 @@ module _ {names : Names} {s : KernelState} {a : AbstractState} {sp : SpacesState
       elsewhere r x hx =
           let found = entry_counts h q r x not_servers hx in
           let other : Elsewhere found.slot found.page n p =
-          λ same. absurd (ne (sym found.home ∙ ap (λ (m : ℕ). (slot_at s m).directory) same)) in
+          λ same. absurd (ne (sym (found.home n b at same))) in
           bytes_kept x.frame (λ same. alone found.slot found.page found.entry other found.counts (found.frame ∙ same))
 
   -- so that their slots stand for what they stood for
@@ -160,7 +165,7 @@ module _ {names : Names} {s : KernelState} {a : AbstractState} {sp : SpacesState
   children_so = record {
     borne = λ m id parent is.
         borne_moved (slot_at s (parent % NENV)) (a.slots (parent % NENV)) (slot_at s m) refl refl refl
-        (λ q descriptor. ap (λ (rows : Rows). rows (slot_at s (parent % NENV)).directory q) rewritten.rows)
+        (λ q. ap (λ (rows : Rows). rows (slot_at s (parent % NENV)).directory q) rewritten.rows)
         (same_child (slot_at s m) (slot_at s m) refl)
         (other_seen m (λ same. let contradiction : unborn id parent ≡ born b = sym is ∙ ap a.slots same ∙ at in cc)
         (not_servers_slot m (unborn id parent) is (λ same. let contradiction : unborn id parent ≡ serving FIRST_ENV_ID = same in cc))
@@ -209,7 +214,7 @@ module _ {names : Names} {s : KernelState} {a : AbstractState} {sp : SpacesState
     where
       not_here : Elsewhere m q n p
       not_here same too =
-          let it : e ≡ x = same_Some e x (sym (own_counts p e e_is) ∙ (λ i. before (sym same i) (sym too i)) ∙ hx) in
+          let it : e ≡ x = same_Some e x (sym it_counts ∙ (λ i. before (sym same i) (sym too i)) ∙ hx) in
           let contradiction : false ≡ true = sym own_page ∙ ap (λ (y : Entry). is_shared y.perm) it ∙ shared_page in cc
 
       not_it : x.frame ≢ e.frame
@@ -663,13 +668,15 @@ module _ {names : Names} {s : KernelState} {a : AbstractState} (h : StandsFor na
     given : IsGivenBytes (view_of sp home) fd va len start
     given =
         given_bytes_kept (view_of s.spaces home) (view_of sp home) row_same
-        (rewritten_devices h n v.b v.is (ap is_plain stands) working_page working_outside working_no_descriptor page.entry page.stands page.own_page
+        (rewritten_devices h n v.b v.is working_page
+        (logical_plain s.spaces s.environments.slots n (clients_live h n v.b v.is) (ap is_plain stands) working_page) working_outside working_no_descriptor page.entry page.stands page.own_page
         page.writes now now_whole puts.rewritten order) fd va len start it.given
 
     -- behind the store the same is so, with more bytes in the page
     still : StandsFor names (with_spaces s sp) a
     still =
-        unseen_rewritten h n v.b v.is (ap is_plain stands) working_page working_outside working_no_descriptor page.entry page.stands page.own_page
+        unseen_rewritten h n v.b v.is working_page
+        (logical_plain s.spaces s.environments.slots n (clients_live h n v.b v.is) (ap is_plain stands) working_page) working_outside working_no_descriptor page.entry page.stands page.own_page
         page.writes now now_whole puts.rewritten order (others_counts h n turn sp)
         (subst (λ (q : Place). StandsAt q (view_of sp home) (slot_at s n) v.b) (sym stands) (record {
           bytes = it.bytes;
@@ -690,7 +697,7 @@ module _ {names : Names} {s : KernelState} {a : AbstractState} (h : StandsFor na
         StandsFor names (with_extra (with_spaces s sp) n (words_at SERVICE_WRITE to)) a
     goes_on to keeps calm so =
         words_stand still n SERVICE_WRITE v.b v.is (born_at still n v.b v.is) v.outside (ap borne_in stands) (ap is_calm stands) writing to
-        (ap holds_page stands ∙ sym keeps) refl calm (named_at (slot_at s n) writing (step.KeepingBytes done word left start) stands) so
+        (ap holds_page stands ∙ ap kept_where (sym keeps)) refl calm (named_at (slot_at s n) writing (step.KeepingBytes done word left start) stands) so
 
     -- ---- all bytes of the word are kept
 

@@ -34,7 +34,7 @@ use Rattle.lib_os.specs.Descriptors.{object_of}
 use Rattle.lib_os.specs.FileServices.{write_gathering}
 use Rattle.lib_os.specs.InOrder.{IsInOrder}
 use Rattle.lib_os.specs.LibraryCall.{library_step}
-use Rattle.lib_os.specs.LibraryPages.{has_copy, has_working}
+use Rattle.lib_os.specs.LibraryPages.{has_copy}
 use Rattle.lib_os.specs.LibrarySteps.{GoesOn}
 use Rattle.lib_os.specs.Places.{place_of, words_at}
 use Rattle.lib_os.specs.Rows.{Names, rows_of}
@@ -50,7 +50,7 @@ use Rattle.lib_os.proofs.FrameRead.{bytes_read_is}
 use Rattle.lib_os.proofs.Logical.{is_making_pipe, is_plain, logical_plain}
 use Rattle.lib_os.proofs.Numbered.{named_at}
 use Rattle.lib_os.proofs.PipesStand.{calm_places, descriptors_turned, is_calm}
-use Rattle.lib_os.proofs.Serving.{IsServed, library_moved, served, step_in}
+use Rattle.lib_os.proofs.Serving.{IsServed, library_moved, served, step_in, pages_kept}
 use Rattle.lib_os.proofs.SlotsStand.{born_at, born_live}
 use Rattle.lib_os.proofs.StatesStand.{clients_live, printed_stands, quiet_stands, slot_changed}
 use Rattle.lib_os.proofs.Touching.{all_touched_quiet}
@@ -218,7 +218,7 @@ module _ {names : Names} {s : KernelState} {a : AbstractState} (h : StandsFor na
           memory = own.memory;
           library = library_moved (place_of (slot_at s n)) (place_of k) (slot_at s n).extra words (rows_of sp d)
               (ap has_copy stands ∙ sym (ap has_copy there))
-              (ap (λ (p : Place). has_working p (slot_at s n).extra) stands ∙ sym (ap (λ (p : Place). has_working p words) there)) own.library;
+              (ap (λ (p : Place). pages_kept p (slot_at s n).extra) stands ∙ sym (ap (λ (p : Place). pages_kept p words) there)) own.library;
           regions_have = own.regions_have;
           regions_only = own.regions_only;
           stack = own.stack;

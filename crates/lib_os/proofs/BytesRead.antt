@@ -43,6 +43,7 @@ use Rattle.lib_os.proofs.Fences.{buffer_each, buffer_below, inside_number}
 use Rattle.lib_os.proofs.Logical.{both, inside_programs, programs_beside, programs_no_descriptor, logical_beside, is_remapped}
 use Rattle.lib_os.proofs.StatesStand.{clients_live}
 use Rattle.jos_base.proofs.Walks.{walked_below}
+use Rattle.lib_os.proofs.KeptPages.{beside_childs, is_spawns, programs_no_spawns}
 
 -- ---- bits
 
@@ -425,14 +426,16 @@ pub logical_inside : {names : Names} {s : KernelState} {a : AbstractState} → S
 logical_inside {names} {s} {a} stands n b is p inside other =
     logical_beside s.spaces s.environments.slots n (clients_live stands n b is) p (programs_beside p inside).0 other
 
--- of that it is known what stands there, where it is not a page that service pipe makes
-pub remapped_at : (at : Place) (v : View) (k : Slot) (b : Born) (p : ℕ) → is_of_descriptor p ≡ false → is_remapped at p ≡ true → StandsAt at v k b →
-    IsRemapping v.row p
-remapped_at (place.InService service.Pipe (step.Piped making)) v k b p other is at =
+-- of that it is known what stands there, where it is not a page that service pipe makes, nor one of spawn's
+pub remapped_at : (at : Place) (v : View) (k : Slot) (b : Born) (p : ℕ) → is_of_descriptor p ≡ false → is_spawns p ≡ false → is_remapped at p ≡ true →
+    StandsAt at v k b → IsRemapping v.row p
+remapped_at (place.InService (service.Spawn path argv) (step.Spawning step)) v k b p other none is at =
+    absurd (let contradiction : false ≡ true = sym (beside_childs step p none) ∙ is in cc)
+remapped_at (place.InService service.Pipe (step.Piped making)) v k b p other none is at =
     absurd (let contradiction : false ≡ true = sym other ∙ (both (is_of_descriptor p) _ is).0 in cc)
-remapped_at (place.InService service.Fork (step.Remap id page)) v k b p other is at =
+remapped_at (place.InService service.Fork (step.Remap id page)) v k b p other none is at =
     let same : page ≡ p = grind (arith, nat_tests) in subst (λ (q : ℕ). IsRemapping v.row q) same at.1
-remapped_at _ v k b p other is at = absurd (let contradiction : false ≡ true = is in cc)
+remapped_at _ v k b p other none is at = absurd (let contradiction : false ≡ true = is in cc)
 
 module _ (names : Names) (s : KernelState) (a : AbstractState) (n : ℕ) (b : Born) (stands : StandsFor names s a) (is : a.slots n ≡ born b) where
   memory_is : (p : ℕ) → b.memory p ≡ page_seen names s.spaces (slot_at s n).directory p
@@ -441,16 +444,16 @@ module _ (names : Names) (s : KernelState) (a : AbstractState) (n : ℕ) (b : Bo
   abbrev is_twice : ℕ → Bool
   is_twice p = is_remapped (place_of (slot_at s n)) p
 
-  pub remapped : (p : ℕ) → is_of_descriptor p ≡ false → is_twice p ≡ true → IsRemapping (rows_of s.spaces (slot_at s n).directory) p
-  remapped p none twice =
-      remapped_at (place_of (slot_at s n)) (view_of s.spaces (slot_at s n).directory) (slot_at s n) b p none twice (born_part names s a n b
+  pub remapped : (p : ℕ) → is_of_descriptor p ≡ false → is_spawns p ≡ false → is_twice p ≡ true → IsRemapping (rows_of s.spaces (slot_at s n).directory) p
+  remapped p none no_spawns twice =
+      remapped_at (place_of (slot_at s n)) (view_of s.spaces (slot_at s n).directory) (slot_at s n) b p none no_spawns twice (born_part names s a n b
       stands is).at
 
   pub users_inside : (p : ℕ) (x : Entry) → is_programs p ≡ true → rows_of s.spaces (slot_at s n).directory p ≡ Some x → IsUsers x.perm
   users_inside p x inside at = by_step (is_twice p) refl
     where
       by_step : (c : Bool) → is_twice p ≡ c → IsUsers x.perm
-      by_step true twice = let it = remapped p (programs_no_descriptor p inside) twice in subst (λ (e : Entry). IsUsers e.perm) (same_Some
+      by_step true twice = let it = remapped p (programs_no_descriptor p inside) (programs_no_spawns p inside) twice in subst (λ (e : Entry). IsUsers e.perm) (same_Some
           it.entry x (sym it.stands ∙ at)) it.user
       by_step false other = stands.users n p x (logical_inside stands n b is p inside other ∙ at)
 
@@ -460,7 +463,7 @@ module _ (names : Names) (s : KernelState) (a : AbstractState) (n : ℕ) (b : Bo
     where
       by_step : (c : Bool) → is_twice p ≡ c → IsNamed names s.spaces.pages a.shared (things_in s a) a.next_name p x.frame
       by_step true twice =
-          let it = remapped p (programs_no_descriptor p inside) twice in
+          let it = remapped p (programs_no_descriptor p inside) (programs_no_spawns p inside) twice in
           let own_page : is_shared x.perm ≡ false =
           ap (λ (e : Entry). is_shared e.perm) (sym (same_Some it.entry x (sym it.stands ∙ at))) ∙ it.own_page in
           absurd (let contradiction : false ≡ true = sym own_page ∙ shared_page in cc)

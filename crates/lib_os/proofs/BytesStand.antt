@@ -3,7 +3,6 @@
 use Rattle.std.proofs.Common.{◌⊎◌, inl, inr, ◌≡◌, ◌≢◌, ◌∙◌, ◌<◌, ◌==◌, ℕ, Bool, true, false, None, List, refl, sym, ap, subst, arith, if◌then◌else◌}
 use Rattle.std.proofs.lemmas.Bool.Decides.{nat_tests}
 use Rattle.std.specs.Prelude.{Option, Some, slice_set}
-use Rattle.jos_base.specs.declared.numbers.TheConstants.{UTEMP}
 use Rattle.jos_base.specs.KernelState.{KernelState, slot_at, with_spaces}
 use Rattle.jos_base.specs.Reach.{Entry}
 use Rattle.jos_base.specs.SpacesState.{SpacesState}
@@ -108,7 +107,7 @@ module _ {names : Names} {s : KernelState} {a : AbstractState} {sp : SpacesState
       bytes_kept x (other_frame before h.apart n p n q x e (λ same too. ne too) counts_here writes (own_counts q x hx) own_page)
 
   -- what stands in a space has another frame, where what counts for it has another
-  frames_differ : (q r : ℕ) (x : Entry) → rows_of s.spaces q r ≡ Some x → ((found : Counts s q r x) → found.entry.frame ≢ e.frame) →
+  frames_differ : (q r : ℕ) (x : Entry) → rows_of s.spaces q r ≡ Some x → ((found : Counts s a q r x) → found.entry.frame ≢ e.frame) →
       x.frame ≢ e.frame
   frames_differ q r x hx apart same = by_space (q == (slot_at s 0).directory) refl
     where
@@ -124,13 +123,13 @@ module _ {names : Names} {s : KernelState} {a : AbstractState} {sp : SpacesState
   own_elsewhere q r x ne hx own_page =
       bytes_kept x (frames_differ q r x hx (λ found.
       other_frame before h.apart n p found.slot found.page found.entry e
-      (λ same too. ne (sym found.home ∙ ap (λ (m : ℕ). (slot_at s m).directory) same)) counts_here writes found.counts (found.own own_page)))
+      (λ same too. ne (sym (found.home n b at same))) counts_here writes found.counts (found.own own_page)))
 
   -- a descriptor's page has another
   descriptors_apart : (q r : ℕ) (x : Entry) → is_of_descriptor r ≡ true → rows_of s.spaces q r ≡ Some x → is_shared x.perm ≡ true → x.frame ≢ e.frame
   descriptors_apart q r x descriptor hx shared_page = frames_differ q r x hx (λ found. by_shared found (found.shared shared_page))
     where
-      by_shared : (found : Counts s q r x) → (is_shared found.entry.perm ≡ true) ⊎ (found.entry.perm ≡ own_perm) → found.entry.frame ≢ e.frame
+      by_shared : (found : Counts s a q r x) → (is_shared found.entry.perm ≡ true) ⊎ (found.entry.perm ≡ own_perm) → found.entry.frame ≢ e.frame
       by_shared found (inl there) same =
           let here : is_shared e.perm ≡ true =
           sym (same_sharing before h.apart found.slot found.page n p found.entry e found.counts counts_here same) ∙ there in
@@ -229,8 +228,11 @@ module _ {names : Names} {s : KernelState} {a : AbstractState} {sp : SpacesState
           have = λ r is. st.regions d r ∙ (born_at h n b at).regions_have r is;
           only = λ r is. (born_at h n b at).regions_only r (sym (st.regions d r) ∙ is);
         })
-        (kept_rows (place_of (slot_at s n)) (view_of s.spaces d) (view_of sp d) outside (ap (λ (rows : Rows). rows d) st.rows) (st.regions d)
-        ((λ x hx own_too. own_beside (page_number UTEMP) x (λ same. (programs_beside p inside).2 (sym same)) hx own_too), devices_kept)
+        (kept_rows (place_of (slot_at s n)) (view_of s.spaces d) (view_of sp d) outside (ap (λ (rows : Rows). rows d) st.rows) (st.regions d) (
+          (λ q x off hx own_too.
+              own_beside q x (λ same. absurd (let contradiction : false ≡ true = sym off ∙ ap is_programs same ∙ inside in cc)) hx own_too),
+          devices_kept,
+        )
         (keeps_pipe (pipe_minded (place_of (slot_at s n))) (view_of s.spaces d) (view_of sp d)
         (λ fd minds below x lies. pipes_kept (pipe_page fd) x (grind (arith, nat_tests)) lies)))
         (turn_unpiped (view_of s.spaces d) (view_of sp d) (slot_at s n) (place_of (slot_at s n)) (slot_at s n).status (slot_at s n).runs off)

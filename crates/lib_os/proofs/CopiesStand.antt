@@ -53,6 +53,7 @@ use Rattle.lib_os.proofs.SlotsStand.{SeenAlike, HasTables, descriptors_beside, d
 use Rattle.lib_os.proofs.StatesStand.{clients_live, ends_at, own_moves, others_count, others_counts, slot_in_order}
 use Rattle.jos_base.proofs.Maps.{upd-alike, upd-at}
 use Rattle.jos_base.proofs.Puts.{Elsewhere, put-at, put-other}
+use Rattle.lib_os.proofs.KeptPages.{spawns_aside}
 
 -- ---- in general
 
@@ -333,8 +334,10 @@ module _ {names : Names} {s : KernelState} {a : AbstractState} {sp : SpacesState
         descriptors = bits_kept taken_puts before;
         working = λ is. own_kept taken_puts (page_number UTEMP) working_beside (before.working is);
         no_working = λ is. kept_beside taken_puts (page_number UTEMP) working_beside ∙ before.no_working is;
-        none = λ p outside no_descriptor no_stack no_copy no_working.
-            kept_beside taken_puts p no_copy ∙ before.none p outside no_descriptor no_stack no_copy no_working;
+        spawns = λ p is.
+            own_kept taken_puts p (spawns_aside (place.InHandler (handler.Taking va)) (slot_at s n).extra p is).no_copy (before.spawns p is);
+        none = λ p outside no_descriptor no_stack no_copy no_working no_spawns.
+            kept_beside taken_puts p no_copy ∙ before.none p outside no_descriptor no_stack no_copy no_working no_spawns;
       }
 
   -- the region of the copy is one of the library's
@@ -493,8 +496,10 @@ module _ {names : Names} {s : KernelState} {a : AbstractState} {sp : SpacesState
         descriptors = bits_kept unmapped_puts before;
         working = λ is. own_kept unmapped_puts (page_number UTEMP) working_beside (before.working is);
         no_working = λ is. kept_beside unmapped_puts (page_number UTEMP) working_beside ∙ before.no_working is;
-        none = λ p outside no_descriptor no_stack no_copy no_working.
-            kept_beside unmapped_puts p no_copy ∙ before.none p outside no_descriptor no_stack no_copy no_working;
+        spawns = λ p is.
+            own_kept unmapped_puts p (spawns_aside (place.InHandler (handler.Unmapping va)) (slot_at s n).extra p is).no_copy (before.spawns p is);
+        none = λ p outside no_descriptor no_stack no_copy no_working no_spawns.
+            kept_beside unmapped_puts p no_copy ∙ before.none p outside no_descriptor no_stack no_copy no_working no_spawns;
       }
 
   unmapped_tables : HasTables sp space w.b.regions

@@ -137,7 +137,7 @@ module _ {names : Names} {s : KernelState} {a : AbstractState} {sp : SpacesState
       elsewhere r x hx =
           bytes_kept x.frame (frames_apart h copy.frame
           (own_lacked h n copy_page copy (own_counts copy_page copy copy_is) (λ it. working_beside (sym it)) copy_own) q r x hx (λ found.
-          alone found.slot found.page found.entry (λ same. absurd (ne (sym found.home ∙ ap (λ (m : ℕ). (slot_at s m).directory) same))) found.counts))
+          alone found.slot found.page found.entry (λ same. absurd (ne (sym (found.home n v.b v.is same)))) found.counts))
 
   shown_kept : (q : ℕ) → q ≢ copy_page → shown_at names sp d q ≡ shown_at names s.spaces d q
   shown_kept q other =

@@ -43,7 +43,7 @@ use Rattle.lib_os.proofs.EntryWords.{region_told, row_entry, row_told}
 use Rattle.lib_os.proofs.GoingOn.{words_stand}
 use Rattle.lib_os.proofs.Loading.{loaded}
 use Rattle.lib_os.proofs.Numbered.{named_at, number_of}
-use Rattle.lib_os.proofs.Serving.{IsServed, holds_page}
+use Rattle.lib_os.proofs.Serving.{IsServed, holds_page, kept_where}
 use Rattle.lib_os.proofs.SlotsStand.{born_at}
 use Rattle.lib_os.proofs.Effects.{Quiet}
 use Rattle.lib_os.proofs.PipesStand.{calm_dropped, calm_made, is_calm, is_calm_step}
@@ -366,7 +366,7 @@ module _ {names : Names} {s : KernelState} {a : AbstractState} (h : StandsFor na
       (subst (λ (w : View). StandsAtStep w (record (slot_at s n) { extra = words_at (number_of service) to }) v.b service to)
       (sym (loaded_view s n va (slot_at s n).directory)) so)
 
-  pub read_answers : holds_page (place.InService service from) ≡ false → IsIn (slot_at s n) v.b service entered → (word : ℕ) →
+  pub read_answers : holds_page (place.InService service from) ≡ kept_where false → IsIn (slot_at s n) v.b service entered → (word : ℕ) →
       StandsFor names (service_answered (loaded s n va) n word) (answered a n v.b (slot_at s n).registers word)
   read_answers holds is_in word =
       back_stands loaded_stands n v.b v.is (record (slot_at s n).registers { eax = word }) (ap borne_in v.place ∙ unborne)

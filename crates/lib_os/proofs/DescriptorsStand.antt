@@ -61,7 +61,7 @@ use Rattle.lib_os.proofs.Placing.{inserted_given}
 use Rattle.lib_os.proofs.Puts.{put-found}
 use Rattle.lib_os.proofs.Remapping.{given_on, inserted_already, lasting_write, page_map_is}
 use Rattle.lib_os.proofs.Removing.{unmapped_removed}
-use Rattle.lib_os.proofs.Serving.{IsServed, holds_page, library_moved, plain_copy, plain_upcall, plain_working, words_of_none}
+use Rattle.lib_os.proofs.Serving.{IsServed, holds_page, library_moved, plain_copy, plain_upcall, plain_working, words_of_none, kept_where}
 use Rattle.lib_os.proofs.SlotsStand.{SeenAlike, born_at, born_live, descriptor_shown, minds_page}
 use Rattle.lib_os.proofs.StatesStand.{clients_live, ends_at, old_with, others_count, others_counts, own_moves, slot_in_order}
 use Rattle.lib_os.proofs.Trying.{LivesOn}
@@ -69,6 +69,7 @@ use Rattle.lib_os.proofs.WordsTell.{handler_runs, is_in_handler, place_at}
 use Rattle.jos_base.proofs.Maps.{upd-alike, upd-all, upd-at, upd-other}
 use Rattle.jos_base.proofs.Options.{some_is}
 use Rattle.jos_base.proofs.Puts.{Elsewhere, place_cases, put-at, put-other}
+use Rattle.lib_os.proofs.KeptPages.{spawns_aside}
 
 -- ---- in general
 
@@ -93,10 +94,14 @@ library_kept at words row after fd below same bits h =
         | inl here ↦ bits entry (ap after (sym here) ∙ stands)
         | inr there ↦ h.descriptors q entry is (sym (same q there) ∙ stands)
       ];
-      none = λ q outside no_descriptor no_stack no_copy no_working.
-          same q (λ is. let contradiction : true ≡ false = sym (is_descriptors fd below) ∙ ap is_of_descriptor (sym is) ∙ no_descriptor in cc)
-          ∙ h.none q outside no_descriptor no_stack no_copy no_working;
+      spawns = λ q is. own_alike row after q (beside q (spawns_aside at words q is).no_descriptor) (h.spawns q is);
+      none = λ q outside no_descriptor no_stack no_copy no_working no_spawns.
+          beside q no_descriptor ∙ h.none q outside no_descriptor no_stack no_copy no_working no_spawns;
     }
+  where
+    beside : (q : ℕ) → is_of_descriptor q ≡ false → after q ≡ row q
+    beside q none =
+        same q (λ is. let contradiction : true ≡ false = sym (is_descriptors fd below) ∙ ap is_of_descriptor (sym is) ∙ none in cc)
 
 -- It stands at any page of theirs, be it that of a pipe.
 library_put_there : (at : Place) (words : List ℕ) (row after : EntryRow) (p : ℕ) → is_of_descriptor p ≡ true →
@@ -111,7 +116,9 @@ library_put_there at words row after p is_there same bits h = record {
     | inl here ↦ bits entry (ap after (sym here) ∙ stands)
     | inr there ↦ h.descriptors q entry is (sym (same q there) ∙ stands)
   ];
-  none = λ q outside no_descriptor no_stack no_copy no_working. beside q no_descriptor ∙ h.none q outside no_descriptor no_stack no_copy no_working;
+  spawns = λ q is. own_alike row after q (beside q (spawns_aside at words q is).no_descriptor) (h.spawns q is);
+  none = λ q outside no_descriptor no_stack no_copy no_working no_spawns.
+      beside q no_descriptor ∙ h.none q outside no_descriptor no_stack no_copy no_working no_spawns;
 }
   where
     beside : (q : ℕ) → is_of_descriptor q ≡ false → after q ≡ row q
@@ -444,7 +451,7 @@ module _ {names : Names} {s : KernelState} {a : AbstractState} {sp : SpacesState
 -- ---- a service that has changed a page, and the words with it
 
 -- where nothing is kept in mind at the beginning, no page is kept later
-pub holds_none : (s : Service) → minds_page (place.InService s step.Entered) ≡ false → (at : Step) → holds_page (place.InService s at) ≡ false
+pub holds_none : (s : Service) → minds_page (place.InService s step.Entered) ≡ false → (at : Step) → holds_page (place.InService s at) ≡ kept_where false
 holds_none (service.Write fd va len) calm at = absurd (let contradiction : true ≡ false = calm in cc)
 holds_none (service.Remove path) calm at = absurd (let contradiction : true ≡ false = calm in cc)
 holds_none (service.OpenFile path mode) calm at = absurd (let contradiction : true ≡ false = calm in cc)
@@ -452,6 +459,7 @@ holds_none (service.Seek fd offset) calm at = absurd (let contradiction : true �
 holds_none (service.Read fd va len) calm at = absurd (let contradiction : true ≡ false = calm in cc)
 holds_none (service.Stat fd va) calm at = absurd (let contradiction : true ≡ false = calm in cc)
 holds_none (service.SetSize fd size) calm at = absurd (let contradiction : true ≡ false = calm in cc)
+holds_none (service.Spawn path argv) calm at = absurd (let contradiction : true ≡ false = calm in cc)
 holds_none _ calm at = refl
 
 -- ---- where one descriptor changes

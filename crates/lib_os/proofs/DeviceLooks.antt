@@ -49,7 +49,7 @@ use Rattle.lib_os.proofs.Loading.{loaded}
 use Rattle.lib_os.proofs.Logical.{is_making_pipe, logical_beside, unborne_unremapped}
 use Rattle.lib_os.proofs.Numbered.{number_of}
 use Rattle.lib_os.proofs.PageWords.{load_page_word}
-use Rattle.lib_os.proofs.Serving.{IsServed, holds_page, printed_nothing, served, step_in}
+use Rattle.lib_os.proofs.Serving.{IsServed, holds_page, printed_nothing, served, step_in, kept_where}
 use Rattle.lib_os.proofs.PipesStand.{calm_unmade, is_calm, is_calm_step}
 use Rattle.lib_os.proofs.StatesStand.{clients_live, ends_at}
 use Rattle.lib_os.proofs.WindowWords.{read_at}
@@ -285,19 +285,21 @@ or_neither true u is = absurd (let contradiction : true ≡ false = is in cc)
 
 -- none of them keeps a page before it knows it
 pub holds_none : (s : Service) (fd : ℕ) → descriptor_given s ≡ Some fd → (at : Step) → keeps_page at || keeps_request at ≡ false →
-    holds_page (place.InService s at) ≡ false
-holds_none (service.Write given va len) fd is at none = neither_of (keeps_page at) (keeps_request at) none
-holds_none (service.Seek given offset) fd is at none = or_neither (keeps_page at) (keeps_request at) none
-holds_none (service.SetSize given size) fd is at none = or_neither (keeps_page at) (keeps_request at) none
-holds_none (service.Read given va len) fd is at none = or_neither (keeps_page at) (keeps_request at) none
-holds_none (service.Stat given va) fd is at none = or_neither (keeps_page at) (keeps_request at) none
+    holds_page (place.InService s at) ≡ kept_where false
+holds_none (service.Write given va len) fd is at none = ap kept_where (neither_of (keeps_page at) (keeps_request at) none)
+holds_none (service.Seek given offset) fd is at none = ap kept_where (or_neither (keeps_page at) (keeps_request at) none)
+holds_none (service.SetSize given size) fd is at none = ap kept_where (or_neither (keeps_page at) (keeps_request at) none)
+holds_none (service.Read given va len) fd is at none = ap kept_where (or_neither (keeps_page at) (keeps_request at) none)
+holds_none (service.Stat given va) fd is at none = ap kept_where (or_neither (keeps_page at) (keeps_request at) none)
 holds_none (service.Remove path) fd is at none = absurd (none-some fd is)
+holds_none (service.Spawn path argv) fd is at none = absurd (none-some fd is)
 holds_none (service.OpenFile path mode) fd is at none = absurd (none-some fd is)
 holds_none _ fd is at none = refl
 
 -- none bears a child
 pub given_unborne : (s : Service) (fd : ℕ) → descriptor_given s ≡ Some fd → (at : Step) → borne_in (place.InService s at) ≡ None
 given_unborne service.Fork fd given at = absurd (none-some fd given)
+given_unborne (service.Spawn path argv) fd given at = absurd (none-some fd given)
 given_unborne _ fd given at = refl
 
 -- each looks its descriptor up
@@ -351,7 +353,7 @@ no_object_refuses a n b regs _ fd given none = absurd (none-some fd given)
 
 pub look_answers : {names : Names} {s : KernelState} {a : AbstractState} → StandsFor names s a → (n : ℕ) (service : Service) (from : Step) →
     (v : IsServed names s a n service from) → borne_in (place.InService service from) ≡ None → is_calm_step from ≡ true →
-    holds_page (place.InService service from) ≡ false → (va : ℕ) → IsInOrder (loaded s n va) → IsIn (slot_at s n) v.b service entered → (word : ℕ) →
+    holds_page (place.InService service from) ≡ kept_where false → (va : ℕ) → IsInOrder (loaded s n va) → IsIn (slot_at s n) v.b service entered → (word : ℕ) →
     library_step a n v.b (slot_at s n).registers service entered ≡ Some (answered a n v.b (slot_at s n).registers word) →
     GoesOn n (service_answered (loaded s n va) n word) a []
 look_answers {names = names} {s = s} {a = a} h n service from v unborne calm none va order is_in word is = (

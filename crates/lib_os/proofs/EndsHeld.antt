@@ -6,7 +6,6 @@ use Rattle.std.specs.Prelude.{nat_lt}
 use Rattle.std.specs.Option.{option_map}
 use Rattle.std.proofs.lemmas.Bool.Decides.{nat_tests}
 use Rattle.std.proofs.lemmas.Option.{none-some, same_Some}
-use Rattle.std.proofs.Math.Bool.{or-true}
 use Rattle.jos_base.specs.declared.numbers.TheConstants.{NENV}
 use Rattle.jos_base.specs.Below.{some_below}
 use Rattle.jos_base.specs.Environments.{Slot, is_live}
@@ -31,9 +30,10 @@ use Rattle.lib_os.specs.LibraryPages.{View}
 use Rattle.lib_os.specs.PipeEnds.{EndsStand, EndsStandAt, is_dropped, is_given, is_made, is_on_its_way, pipe_named}
 use Rattle.lib_os.specs.Places.{place_of}
 use Rattle.lib_os.specs.Rows.{EntryRow, Names, descriptor_at, descriptor_page, is_of_descriptor, is_shared, name_of, page_by}
-use Rattle.lib_os.specs.Rows.{descriptor_seen, is_programs, may_write, pipe_page, rows_of, shown_at}
-use Rattle.lib_os.specs.StandsFor.{IsBorne, StandsAt, StandsFor, StandsForBorn, StandsForSlot, borne_at, is_passed, seen_unless, view_of}
+use Rattle.lib_os.specs.Rows.{descriptor_seen, may_write, pipe_page, rows_of, shown_at}
+use Rattle.lib_os.specs.StandsFor.{IsBorneBy, by_fork, by_spawn, StandsAt, StandsFor, StandsForBorn, StandsForSlot, borne_at, seen_unless, view_of}
 use Rattle.lib_os.proofs.SharedCount.{Shares, born_lives, shares_stands, shares_unmade, stands_shared}
+use Rattle.lib_os.proofs.Children.{IsOfParent, of_parent, spawns_so}
 
 -- ---- who holds such an object
 
@@ -171,14 +171,6 @@ fork_changes (step.ChildStack child) v k b id stands is = ap (λ (phase : Phase)
 fork_changes (step.ChildUpcall child) v k b id stands is = ap (λ (phase : Phase). changes_holders (service_of_phase phase)) stands.phase
 fork_changes (step.ChildRuns child) v k b id stands is = ap (λ (phase : Phase). changes_holders (service_of_phase phase)) stands.phase
 fork_changes _ v k b id stands is = absurd (none-some id is)
-
--- pages are passed on from the greatest downwards
-passed_up : (at : Step) (p q : ℕ) → p ≤ q → is_passed at p ≡ true → is_passed at q ≡ true
-passed_up (step.ForkRegion id region) p q up is = grind (arith, nat_tests)
-passed_up (step.ForkEntry id page) p q up is = grind (arith, nat_tests)
-passed_up (step.MapChild id page perm) p q up is = grind (arith, nat_tests)
-passed_up (step.Remap id page) p q up is = grind (arith, nat_tests)
-passed_up _ p q up is = refl
 
 -- ---- the numbers of pages
 
@@ -365,8 +357,8 @@ module _ {names : Names} {s : KernelState} {a : AbstractState} (h : StandsFor na
     abbrev bearer : ℕ
     bearer = parent % NENV
 
-    c : IsBorne names s.spaces (slot_at s bearer) (a.slots bearer) (slot_at s m) id parent
-    c = h.children.borne m id parent at
+    c : IsOfParent s.spaces (slot_at s bearer) (a.slots bearer) (slot_at s m) id parent
+    c = of_parent (h.children.borne m id parent at)
 
     bearer_not_first : 0 ≢ bearer
     bearer_not_first = born_not_first bearer c.b c.born_by
@@ -374,27 +366,46 @@ module _ {names : Names} {s : KernelState} {a : AbstractState} (h : StandsFor na
     bearer_live : is_live (slot_at s bearer) ≡ true
     bearer_live = live bearer c.b c.born_by
 
-    bearer_unmade : (fd : ℕ) → is_made (stands_at bearer) fd ≡ false
-    bearer_unmade fd = ap (λ (stands : Place). is_made stands fd) c.at
+    -- it changes who holds what
+    bearer_changes : changes_holders (service_of_phase c.b.phase) ≡ true
+    bearer_changes = by_way (h.children.borne m id parent at)
+      where
+        same_born : (b d : Born) → born b ≡ born d → b ≡ d
+        same_born b d same = cc
+
+        its_phase : (b : Born) → a.slots bearer ≡ born b → changes_holders (service_of_phase b.phase) ≡ true →
+            changes_holders (service_of_phase c.b.phase) ≡ true
+        its_phase b is changes =
+            subst (λ (d : Born). changes_holders (service_of_phase d.phase) ≡ true) (same_born b c.b (sym is ∙ c.born_by)) changes
+
+        by_way : IsBorneBy names s.spaces (slot_at s bearer) (a.slots bearer) (slot_at s m) id parent →
+            changes_holders (service_of_phase c.b.phase) ≡ true
+        by_way (by_fork w) =
+            its_phase w.b w.born_by (fork_changes w.step (view_of s.spaces (slot_at s bearer).directory) (slot_at s bearer) w.b id
+            (subst (λ (stands : Place). StandsAt stands (view_of s.spaces (slot_at s bearer).directory) (slot_at s bearer) w.b) w.at
+            (own bearer w.b w.born_by).at) w.borne)
+        by_way (by_spawn w) =
+            its_phase w.b w.born_by (ap (λ (phase : Phase). changes_holders (service_of_phase phase))
+            (spawns_so (view_of s.spaces (slot_at s bearer).directory) (slot_at s bearer) w.b w.path w.argv w.at_step
+            (subst (λ (stands : Place). StandsAt stands (view_of s.spaces (slot_at s bearer).directory) (slot_at s bearer) w.b) w.at
+            (own bearer w.b w.born_by).at)).1)
 
     -- what it has its parent has, and has passed on
-    parents : (q : ℕ) (y : Entry) → is_of_descriptor q ≡ true → row_at m q ≡ Some y → (is_passed c.step q ≡ true) × (row_at bearer q ≡ Some y)
-    parents q y of is = by_test (is_passed c.step q) refl
+    parents : (q : ℕ) (y : Entry) → is_of_descriptor q ≡ true → row_at m q ≡ Some y → (c.passed q ≡ true) × (row_at bearer q ≡ Some y)
+    parents q y of is = by_test (c.passed q) refl
       where
-        by_test : (t : Bool) → is_passed c.step q ≡ t → (is_passed c.step q ≡ true) × (row_at bearer q ≡ Some y)
+        by_test : (t : Bool) → c.passed q ≡ t → (c.passed q ≡ true) × (row_at bearer q ≡ Some y)
         by_test true on = (on, sym (c.handed q of on) ∙ is)
-        by_test false off =
-            let inside : is_programs q || is_of_descriptor q ≡ true = ap (λ (t : Bool). is_programs q || t) of ∙ or-true (is_programs q) in
-            absurd (none-some y (sym (c.rest q inside off) ∙ is))
+        by_test false off = absurd (none-some y (sym (c.rest q of off) ∙ is))
 
     unborn_has : (fd : ℕ) (y : Entry) (pipe : ℕ) → fd < DESCRIPTORS → Shares s m (descriptor_page fd) y →
         pipe_named a.objects (names.name y.frame) ≡ Some pipe → PipeBeside m fd pipe
     unborn_has fd y pipe below has of =
         let up = parents (descriptor_page fd) y (descriptor_is fd below) (shares_stands h m not_first lives (descriptor_page fd) y has) in
-        let theirs : Shares s bearer (descriptor_page fd) y = descriptor_shares bearer c.b c.born_by fd y below (bearer_unmade fd) up.1 in
+        let theirs : Shares s bearer (descriptor_page fd) y = descriptor_shares bearer c.b c.born_by fd y below (c.unmade fd) up.1 in
         let beside = born_has bearer c.b c.born_by fd y pipe below theirs of in
         let their_row = shares_stands h bearer bearer_not_first bearer_live (pipe_page fd) beside.entry beside.there in
-        let on : is_passed c.step (pipe_page fd) ≡ true = passed_up c.step (descriptor_page fd) (pipe_page fd) (omega arith) up.0 in
+        let on : c.passed (pipe_page fd) ≡ true = c.up (descriptor_page fd) (pipe_page fd) (omega arith) up.0 in
         let unmade = shares_unmade h m not_first lives (descriptor_page fd) fd y (descriptor_is fd below) (descriptor_back fd below) has in
         record {
           entry = beside.entry;
@@ -406,12 +417,8 @@ module _ {names : Names} {s : KernelState} {a : AbstractState} (h : StandsFor na
     unborn_only : (fd : ℕ) (z : Entry) → fd < DESCRIPTORS → Shares s m (pipe_page fd) z → is_changed a (names.name z.frame) ≡ true
     unborn_only fd z below has =
         let up = parents (pipe_page fd) z (pipe_is fd below) (shares_stands h m not_first lives (pipe_page fd) z has) in
-        let off : is_on_its_way (stands_at bearer) fd ≡ false = ap (λ (stands : Place). is_on_its_way stands fd) c.at in
-        let found = (ends bearer c.b c.born_by).only fd z below off up.1 in
-        changed_so a bearer c.b fd found.0 (names.name z.frame) (slot_small bearer bearer_live) c.born_by below found.1 found.2
-        (fork_changes c.step (view_of s.spaces (slot_at s bearer).directory) (slot_at s bearer) c.b id
-        (subst (λ (stands : Place). StandsAt stands (view_of s.spaces (slot_at s bearer).directory) (slot_at s bearer) c.b) c.at
-        (own bearer c.b c.born_by).at) c.borne)
+        let found = (ends bearer c.b c.born_by).only fd z below (c.off_way fd) up.1 in
+        changed_so a bearer c.b fd found.0 (names.name z.frame) (slot_small bearer bearer_live) c.born_by below found.1 found.2 bearer_changes
 
   -- ---- either
 

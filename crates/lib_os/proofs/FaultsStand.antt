@@ -112,7 +112,7 @@ module _ {names : Names} {s : KernelState} {a : AbstractState} (h : StandsFor na
     where
       by_step : (c : Bool) → is_remapped (place_of (slot_at s n)) (page_number UXSTACK) ≡ c →
           is_remapped (place_of (slot_at s n)) (page_number UXSTACK) ≡ false
-      by_step true twice = let below = (remapped names s a n b h at (page_number UXSTACK) refl twice).below in absurd (omega (arith, below))
+      by_step true twice = let below = (remapped names s a n b h at (page_number UXSTACK) refl refl twice).below in absurd (omega (arith, below))
       by_step false other = other
 
   stack_user : IsUsers stack_page.entry.perm
@@ -430,7 +430,7 @@ module _ {names : Names} {s : KernelState} {a : AbstractState} (h : StandsFor na
         (handed_stands small (omega (arith, below)) error b.phase (ends (record {
           eax = eax;
           program = program;
-          stopped = stopped_kept (view_of s.spaces d) (view_of sp d) row_kept devices_kept b b refl (is_write fault.error) fault.va k.registers.eip
+          stopped = stopped_kept (view_of s.spaces d) (view_of sp d) row_kept devices_kept b b refl refl (is_write fault.error) fault.va k.registers.eip
               stopped;
           silent = silent;
           awake = awake;

@@ -1,5 +1,5 @@
 -- seek and set_size, which ask the file server of a file that is open: what is known at each of their steps before they ask.
-use Rattle.std.proofs.Common.{◌≡◌, ◌&&◌, ℕ, Bool, true, false, List, Some, refl}
+use Rattle.std.proofs.Common.{◌≡◌, ◌&&◌, ℕ, Bool, true, false, List, Some, refl, ap}
 use Rattle.std.proofs.lemmas.Bool.{false≢true}
 use Rattle.jos_base.specs.Environments.{Slot}
 use Rattle.lib_os.specs.declared.place.Place.TheVariants as place
@@ -11,7 +11,7 @@ use Rattle.lib_os.specs.AbstractState.{Born, entered}
 use Rattle.lib_os.specs.LibraryPages.{View, keeps_page, keeps_request}
 use Rattle.lib_os.specs.StandsFor.{AsksOfFile, HasFileNumber, IsOfFile, StandsAtStep, TellsNumber, TellsOfFile, descriptor_given}
 use Rattle.lib_os.proofs.RequestPages.{asks_with_page, in_moved}
-use Rattle.lib_os.proofs.Serving.{holds_page}
+use Rattle.lib_os.proofs.Serving.{holds_page, kept_where}
 
 abbrev pub asks_of_file : Service → Bool
 asks_of_file (service.Seek fd offset) = true
@@ -70,12 +70,12 @@ both_of true true both = (refl, refl)
 both_of true false both = absurd (false≢true both)
 both_of false u both = absurd (false≢true both)
 
-pub of_file_holds : (s : Service) → asks_of_file s ≡ true → (at : Step) → keeps_asked at ≡ true → holds_page (place.InService s at) ≡ true
-of_file_holds (service.Seek fd offset) is at keeps = (both_of (keeps_request at) (keeps_page at) keeps).0
-of_file_holds (service.SetSize fd size) is at keeps = (both_of (keeps_request at) (keeps_page at) keeps).0
-of_file_holds (service.Read fd va len) is at keeps = (both_of (keeps_request at) (keeps_page at) keeps).0
-of_file_holds (service.Stat fd va) is at keeps = (both_of (keeps_request at) (keeps_page at) keeps).0
-of_file_holds (service.Write fd va len) is at keeps = (both_of (keeps_request at) (keeps_page at) keeps).1
+pub of_file_holds : (s : Service) → asks_of_file s ≡ true → (at : Step) → keeps_asked at ≡ true → holds_page (place.InService s at) ≡ kept_where true
+of_file_holds (service.Seek fd offset) is at keeps = ap kept_where (both_of (keeps_request at) (keeps_page at) keeps).0
+of_file_holds (service.SetSize fd size) is at keeps = ap kept_where (both_of (keeps_request at) (keeps_page at) keeps).0
+of_file_holds (service.Read fd va len) is at keeps = ap kept_where (both_of (keeps_request at) (keeps_page at) keeps).0
+of_file_holds (service.Stat fd va) is at keeps = ap kept_where (both_of (keeps_request at) (keeps_page at) keeps).0
+of_file_holds (service.Write fd va len) is at keeps = ap kept_where (both_of (keeps_request at) (keeps_page at) keeps).1
 of_file_holds _ is at keeps = absurd (false≢true is)
 
 -- ---- at each step

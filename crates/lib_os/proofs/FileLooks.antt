@@ -30,13 +30,13 @@ use Rattle.lib_os.proofs.EntryWords.{region_told}
 use Rattle.lib_os.proofs.Loading.{loaded}
 use Rattle.lib_os.proofs.Numbered.{number_of}
 use Rattle.lib_os.proofs.PipesStand.{is_calm_step}
-use Rattle.lib_os.proofs.Serving.{IsServed, holds_page, served}
+use Rattle.lib_os.proofs.Serving.{IsServed, holds_page, served, kept_where}
 use Rattle.lib_os.proofs.WindowWords.{read_at}
 
 -- one to which bytes are handed back has its page
-pub handing_held : (s : Service) → hands_back s ≡ true → (at : Step) → keeps_request at ≡ true → holds_page (place.InService s at) ≡ true
-handing_held (service.Read fd va len) hands at keeps = keeps
-handing_held (service.Stat fd va) hands at keeps = keeps
+pub handing_held : (s : Service) → hands_back s ≡ true → (at : Step) → keeps_request at ≡ true → holds_page (place.InService s at) ≡ kept_where true
+handing_held (service.Read fd va len) hands at keeps = ap kept_where keeps
+handing_held (service.Stat fd va) hands at keeps = ap kept_where keeps
 handing_held _ hands at keeps = absurd (false≢true hands)
 
 -- it writes its buffer

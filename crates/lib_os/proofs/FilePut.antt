@@ -29,7 +29,7 @@ use Rattle.lib_os.specs.Answers.{all_stored, answered, at_stage, bytes_delivered
 use Rattle.lib_os.specs.Fence.{is_buffer, is_inside}
 use Rattle.lib_os.specs.GuestStep.{born_in}
 use Rattle.lib_os.specs.LibraryCall.{library_step}
-use Rattle.lib_os.specs.LibraryPages.{View, has_copy, has_working, keeps_request}
+use Rattle.lib_os.specs.LibraryPages.{View, has_copy, keeps_request}
 use Rattle.lib_os.specs.Places.{place_of, words_at}
 use Rattle.lib_os.specs.Rows.{AreBytes, Names, Rows, lasting, rows_of}
 use Rattle.lib_os.specs.StandsFor.{IsStatusFor, StandsAt, StandsAtStep, StandsFor, StandsForBorn, borne_in, goes_back, upcall_at, view_of}
@@ -47,7 +47,7 @@ use Rattle.lib_os.proofs.Logical.{inside_programs, is_making_pipe, is_plain}
 use Rattle.lib_os.proofs.Numbered.{named_at, number_of}
 use Rattle.lib_os.proofs.PageBytes.{bytes_drop, bytes_take}
 use Rattle.lib_os.proofs.PipesStand.{calm_places, calm_unmade, descriptors_turned, is_calm, is_calm_step}
-use Rattle.lib_os.proofs.Serving.{IsServed, holds_page, library_moved, plain_working, served, service_step}
+use Rattle.lib_os.proofs.Serving.{IsServed, holds_page, library_moved, plain_working, served, service_step, pages_kept}
 use Rattle.lib_os.proofs.SlotsStand.{born_at, is_piped}
 use Rattle.lib_os.proofs.StatesStand.{quiet_stands, slot_changed}
 use Rattle.lib_os.proofs.Touching.{touched_quiet}
@@ -241,9 +241,9 @@ returning_stands {names = names} {s = s} {a = a} h n b is call hands from keeps 
           memory = own.memory;
           library = library_moved (place_of (slot_at s n)) (place_of k) (slot_at s n).extra k.extra (rows_of s.spaces k.directory)
               (ap has_copy stands ∙ sym (ap has_copy there))
-              (ap (λ (p : Place). has_working p (slot_at s n).extra) stands ∙ plain_working (place.InService call from) (slot_at s n).extra refl
+              (ap (λ (p : Place). pages_kept p (slot_at s n).extra) stands ∙ plain_working (place.InService call from) (slot_at s n).extra refl
               ∙ handing_held call hands from keeps
-              ∙ sym (ap (λ (p : Place). has_working p k.extra) there ∙ plain_working (place.InService call (step.Returning answer)) k.extra refl
+              ∙ sym (ap (λ (p : Place). pages_kept p k.extra) there ∙ plain_working (place.InService call (step.Returning answer)) k.extra refl
               ∙ handing_held call hands (step.Returning answer) refl)) own.library;
           regions_have = own.regions_have;
           regions_only = own.regions_only;

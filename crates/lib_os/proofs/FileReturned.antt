@@ -23,7 +23,7 @@ use Rattle.lib_os.proofs.Effects.{Removed}
 use Rattle.lib_os.proofs.PageGiven.{give_removes, given_copies, given_puts, given_row, given_tables, without_working}
 use Rattle.lib_os.proofs.PageTaken.{working_page, working_stands}
 use Rattle.lib_os.proofs.PipesStand.{is_calm}
-use Rattle.lib_os.proofs.Serving.{IsServed, served, words_of_none}
+use Rattle.lib_os.proofs.Serving.{IsServed, served, words_of_none, others_kept}
 use Rattle.lib_os.proofs.Slots.{slot_put}
 use Rattle.lib_os.proofs.WordsTell.{outside_stack}
 
@@ -33,6 +33,13 @@ back_unborne (service.Read fd va len) goes at = refl
 back_unborne (service.Write fd va len) goes at = refl
 back_unborne (service.Stat fd va) goes at = refl
 back_unborne _ goes at = absurd (let contradiction : false ≡ true = goes in cc)
+
+-- nor does it keep others
+back_alone : (s : Service) → goes_back s ≡ true → (at : Step) → others_kept (place.InService s at) ≡ (λ p. false)
+back_alone (service.Read fd va len) goes at = refl
+back_alone (service.Write fd va len) goes at = refl
+back_alone (service.Stat fd va) goes at = refl
+back_alone _ goes at = absurd (let contradiction : false ≡ true = goes in cc)
 
 module _ {names : Names} {s : KernelState} {a : AbstractState} {sp : SpacesState} (h : StandsFor names s a) (n answer : ℕ) (call : Service)
     (stands : place_of (slot_at s n) ≡ place.InService call (step.Returning answer))
@@ -63,7 +70,8 @@ module _ {names : Names} {s : KernelState} {a : AbstractState} {sp : SpacesState
   returned_stands =
       working_stands h n v.b v.is v.own v.outside (ap borne_in v.place ∙ back_unborne call has.goes (step.Returning answer))
       (ap is_calm v.place) (given_puts h n v.b v.is removed) last regs no_extra place.Guest
-      (words_of_none regs no_extra v.outside refl) refl refl refl refl refl (λ is. absurd (let contradiction : false ≡ true = is in cc)) (λ is. refl)
+      (words_of_none regs no_extra v.outside refl) refl refl refl (ap others_kept v.place ∙ back_alone call has.goes (step.Returning answer)) refl refl
+      (λ is. absurd (let contradiction : false ≡ true = is in cc)) (λ is. refl)
       (given_tables h n v.b v.is removed) returned_at (given_row h n v.b v.is removed) in_order
 
 -- ---- what the step comes to

@@ -38,7 +38,7 @@ use Rattle.lib_os.proofs.PageTaken.{working_no_descriptor, working_outside, work
 use Rattle.lib_os.proofs.RequestPages.{in_moved, request_plain, request_unborne}
 use Rattle.lib_os.proofs.RequestsTold.{file_named_so}
 use Rattle.lib_os.proofs.PipesStand.{is_calm, is_calm_step}
-use Rattle.lib_os.proofs.Serving.{IsServed, holds_page, plain_working, served}
+use Rattle.lib_os.proofs.Serving.{IsServed, holds_page, plain_working, served, kept_where, works}
 use Rattle.lib_os.proofs.SlotsStand.{born_at, told_kept}
 use Rattle.lib_os.proofs.StatesStand.{clients_live, others_counts}
 use Rattle.lib_os.proofs.WordsTell.{is_in_handler}
@@ -88,7 +88,7 @@ module _ {names : Names} {s : KernelState} {a : AbstractState} (h : StandsFor na
   abbrev pub at_step : IsServed names s a n call from
   at_step = served h n call from stands
 
-  held : holds_page (place.InService call from) ≡ true
+  held : holds_page (place.InService call from) ≡ kept_where true
   held = of_file_holds call is from keeps
 
   plain : is_plain (place_of (slot_at s n)) ≡ true
@@ -97,7 +97,7 @@ module _ {names : Names} {s : KernelState} {a : AbstractState} (h : StandsFor na
   page : IsOwnWritable (rows_of s.spaces home) working_page
   page =
       at_step.own.library.working
-      (plain_working (place_of (slot_at s n)) (slot_at s n).extra (ap is_in_handler stands) ∙ ap holds_page stands ∙ held)
+      (works (plain_working (place_of (slot_at s n)) (slot_at s n).extra (ap is_in_handler stands) ∙ ap holds_page stands ∙ held))
 
   page_counts : logical s.spaces s.environments.slots n working_page ≡ Some page.entry
   page_counts = logical_plain s.spaces s.environments.slots n (clients_live h n at_step.b at_step.is) plain working_page ∙ page.stands
@@ -187,7 +187,8 @@ module _ {names : Names} {s : KernelState} {a : AbstractState} (h : StandsFor na
         lasting_words (s.spaces.pages it.of_file.file.entry.frame) ≡ lasting_words (sp.pages it.of_file.file.entry.frame)
     told_still it =
         sym (told_kept seen after row_same
-        (rewritten_devices h n at_step.b at_step.is plain working_page working_outside working_no_descriptor page.entry page.stands page.own_page
+        (rewritten_devices h n at_step.b at_step.is working_page
+        (logical_plain s.spaces s.environments.slots n (clients_live h n at_step.b at_step.is) plain working_page) working_outside working_no_descriptor page.entry page.stands page.own_page
         page.writes now now_whole puts.rewritten order) (file_given call) it.of_file.below it.of_file.file.entry it.of_file.file.stands)
 
     abbrev asks_still : (words : List ℕ) → AsksOfFile seen (slot_at s n) at_step.b call (file_given call) →
@@ -219,7 +220,8 @@ module _ {names : Names} {s : KernelState} {a : AbstractState} (h : StandsFor na
         StandsFor names (with_extra (with_spaces s sp) n (words_at (number_of call) to)) a
     store_goes_on last calm so to keeps_too calm_too then_so =
         let still : StandsFor names (with_spaces s sp) a =
-        unseen_rewritten h n at_step.b at_step.is plain working_page working_outside working_no_descriptor page.entry page.stands page.own_page
+        unseen_rewritten h n at_step.b at_step.is working_page
+        (logical_plain s.spaces s.environments.slots n (clients_live h n at_step.b at_step.is) plain working_page) working_outside working_no_descriptor page.entry page.stands page.own_page
         page.writes now now_whole puts.rewritten order (others_counts h n last sp)
         (subst (λ (q : Place). StandsAt q after (slot_at s n) at_step.b) (sym stands) so) in
         words_stand still n (number_of call) at_step.b at_step.is (born_at still n at_step.b at_step.is) at_step.outside

@@ -28,8 +28,8 @@ use Rattle.lib_os.proofs.PagesStand.{Puts}
 use Rattle.lib_os.proofs.PageTaken.{take_asked, taken_own, taken_puts, taken_row, taken_tables, working_beside, working_page, working_perm, working_stands}
 use Rattle.lib_os.proofs.PipesStand.{is_calm}
 use Rattle.lib_os.proofs.Placing.{allocated_made}
-use Rattle.lib_os.proofs.RequestPages.{in_moved, request_unborne}
-use Rattle.lib_os.proofs.Serving.{IsServed, plain_working, served}
+use Rattle.lib_os.proofs.RequestPages.{in_moved, request_unborne, request_alone}
+use Rattle.lib_os.proofs.Serving.{IsServed, plain_working, served, others_kept, works}
 use Rattle.lib_os.proofs.WordsTell.{place_at}
 
 module _ {names : Names} {s : KernelState} {a : AbstractState} {sp : SpacesState} (h : StandsFor names s a) (n : ℕ) (call : Service)
@@ -91,7 +91,7 @@ module _ {names : Names} {s : KernelState} {a : AbstractState} {sp : SpacesState
   unborne at = request_unborne call (of_file_with_page call (at_once_of_file call is)) at
 
   has : has_working (place.InService call to) (words_at (number_of call) to) ≡ true
-  has = plain_working (place.InService call to) (words_at (number_of call) to) refl ∙ of_file_holds call (at_once_of_file call is) to refl
+  has = works (plain_working (place.InService call to) (words_at (number_of call) to) refl ∙ of_file_holds call (at_once_of_file call is) to refl)
 
   pub file_page_stands : StandsFor names (with_extra (with_spaces s sp) n (words_at (number_of call) step.ReadingNumber)) a
   file_page_stands =
@@ -99,7 +99,10 @@ module _ {names : Names} {s : KernelState} {a : AbstractState} {sp : SpacesState
       (words_at (number_of call) to) (place.InService call to)
       (place_at (slot_at s n).registers (number_of call) to v.outside
       ∙ ap (λ (x : Service). place.InService x to) (named_at (slot_at s n) call step.TakingPage v.place))
-      refl (unborne to) refl refl refl (λ working. taken_own h n v.b v.is made)
+      refl (unborne to) refl
+      (ap others_kept v.place ∙ request_alone call (of_file_with_page call (at_once_of_file call is)) step.TakingPage
+      ∙ sym (request_alone call (of_file_with_page call (at_once_of_file call is)) to))
+      refl refl (λ working. taken_own h n v.b v.is made)
       (λ none. absurd (let contradiction : true ≡ false = sym has ∙ none in cc)) (taken_tables h n v.b v.is made)
       (asks_reading (view_of sp home) moved v.b call (at_once_of_file call is) asks_still) (taken_row h n v.b v.is made) in_order
 

@@ -7,10 +7,11 @@ use Rattle.std.proofs.lemmas.Bool.{cases_eq}
 use Rattle.std.proofs.lemmas.Bool.Decides.{nat_tests}
 use Rattle.std.proofs.lemmas.Nat.{mod_below}
 use Rattle.std.proofs.lemmas.Option.{same_Some}
-use Rattle.std.specs.Prelude.{Option, Some, None, IfSome, slice_set, take, drop, length, codes, ⊤, nat_lt}
+use Rattle.std.specs.Prelude.{Option, Some, None, IfSome, slice_set, take, drop, length, slice_index, codes, ⊤, nat_lt, nat_le, not, ◌&&◌}
 use Rattle.jos_base.specs.declared.registers.Regs.{Regs}
 use Rattle.jos_base.specs.declared.memory.PageFault.{PageFault}
-use Rattle.jos_base.specs.declared.numbers.TheConstants.{NENV}
+use Rattle.jos_base.specs.declared.memory.Access.TheVariants.{Read}
+use Rattle.jos_base.specs.declared.numbers.TheConstants.{NENV, PGSIZE}
 use Rattle.jos_base.specs.Below.{some_below}
 use Rattle.jos_base.specs.Environments.{next_id}
 use Rattle.jos_base.specs.SpacesState.{zero_page}
@@ -21,7 +22,7 @@ use Rattle.jos_cpu.specs.declared.events.Gates.TheVariants.{Run}
 use Rattle.jos_cpu.specs.Steps.{step_of}
 use Rattle.jos_cpu.proofs.Agreement.{Agrees}
 use Rattle.jos_cpu.proofs.Through.{step_through}
-use Rattle.fs_layout.specs.FileTree.{FileSystem, remove_path}
+use Rattle.fs_layout.specs.FileTree.{FileSystem, open_path, read_file, remove_path}
 use Rattle.fs_layout.specs.declared.numbers.TheConstants.{FTYPE_REG}
 use Rattle.fs_layout.specs.FileActs.{stat_bytes}
 use Rattle.lib_os.specs.declared.numbers.TheConstants.{DESCRIPTORS}
@@ -30,8 +31,9 @@ use Rattle.lib_os.specs.declared.service.Service.TheVariants as service
 use Rattle.lib_os.specs.AbstractState.{AbstractState, Born, Page, own, named, AbstractSlot, Object, file, terminal, read_end}
 use Rattle.lib_os.specs.AbstractState.{write_end, Request, act, ProgramState, guest, shell, TablePlace}
 use Rattle.lib_os.specs.AbstractState.{Phase, at_guest, faulted, in_service, Stage, entered, gathering, delivering}
-use Rattle.lib_os.specs.AbstractState.{received, bearing, asked, replied, moving, Server, idle, slot_id, with_slot, unborn, born}
-use Rattle.lib_os.specs.AbstractMemory.{stored_in, page_at, with_page}
+use Rattle.lib_os.specs.AbstractState.{received, bearing, asked, replied, moving, taking, Server, idle, slot_id, with_slot, free, unborn, born}
+use Rattle.lib_os.specs.AbstractState.{OpenFile, ImageRead, Spawning, listing, quoting, opening, heading, tabling, loading, closed, dropping, refusing}
+use Rattle.lib_os.specs.AbstractMemory.{stored_in, page_at, page_allows, with_page}
 use Rattle.lib_os.specs.GuestStep.{GuestMemory, born_in, guest_memory, guest_stored, after_event, after_writes}
 use Rattle.lib_os.specs.GuestStep.{guest_step}
 use Rattle.lib_os.specs.Answers.{stored_into, all_stored, delivered_so_far, bytes_stored, bytes_gathered, bytes_delivered}
@@ -43,12 +45,21 @@ use Rattle.lib_os.specs.Descriptors.{close, dup_onto, dup, pipe_on, exit_by, obj
 use Rattle.lib_os.specs.Descriptors.{lowest_free, is_held, is_name, holds_in}
 use Rattle.lib_os.specs.Descriptors.{next_free}
 use Rattle.lib_os.specs.AbstractPipes.{read_over, read_from_pipe, write_pipe}
-use Rattle.lib_os.specs.FileServer.{request_begun, request_taken, ask}
+use Rattle.lib_os.specs.Fence.{in_fence}
+use Rattle.lib_os.specs.FileServer.{request_begun, request_taken, ask, is_count}
 use Rattle.lib_os.specs.FileServices.{after_asking, read_terminal, read_object, read_begun, read_moving, read_step}
 use Rattle.lib_os.specs.FileServices.{write_object, write_with, write_begun, write_gathering, write_moving, write_step}
 use Rattle.lib_os.specs.FileServices.{named_request, seek_begun, seek_step, set_size_begun, set_size_step}
 use Rattle.lib_os.specs.FileServices.{stat_object, stat_begun, stat_step}
 use Rattle.lib_os.specs.FileServices.{path_step, open_asked, open_step, remove_step, sync_step}
+use Rattle.jos_elf.specs.declared.numbers.TheConstants.{ARGS_MAX, EHDR_LEN, E_NOT_EXEC}
+use Rattle.jos_elf.specs.StackPage.{fits_stack}
+use Rattle.lib_os.specs.AbstractSpawn.{Piece, address_gathered, address_taken, answer_in, child_begun, child_born, child_dropped, descriptor_of}
+use Rattle.lib_os.specs.AbstractSpawn.{file_dropped, file_in, file_opened, file_step, has_nul, header_read, listing_step, more_gathered}
+use Rattle.lib_os.specs.AbstractSpawn.{next_string, piece_asked, piece_read, pieces_left, quoting_step, reading_step, spawn_at, spawn_begun}
+use Rattle.jos_elf.specs.Headers.{table_of}
+use Rattle.lib_os.specs.AbstractSpawn.{is_header, is_table, table_size, with_spawning}
+use Rattle.lib_os.specs.AbstractSpawn.{spawn_step, spawned, spawning_step, string_gathered, table_read, words_given}
 use Rattle.lib_os.specs.LibraryCall.{library_step, at_once, only_at_once, fork_step, receive_step}
 use Rattle.lib_os.specs.AbstractFork.{begun_in, child_of}
 use Rattle.lib_os.specs.AbstractRun.{abs_step, pipe_of, program_step, slot_step}
@@ -619,6 +630,145 @@ module _ (a : AbstractState) (n : ℕ) (small : n < NENV) where
         set_left_in (with_slot a child (born (child_of b regs id))) n _ (set_left_in a child _ same_left mine) mine
     fork_left _ = record {}
 
+    -- ---- spawn
+
+    module _ (path argv : ℕ) where
+      abbrev it : Service
+      it = service.Spawn path argv
+
+      -- a request by one who has the descriptors that it had
+      asks_on : (c : Born) (request : Request) → Fits a a.objects a.next_name c.descriptors → (server : Server) → a.server ≡ server →
+          LeftIf (request_taken a n c it request server)
+      asks_on c request fits idle e = set_left_in (record a { server = request_begun n request }) n _
+          (record {
+            files_are = same_left.files_are;
+            opened_are = same_left.opened_are;
+            server_is = asking request e refl;
+            names = same_left.names;
+            objects_are = same_left.objects_are;
+            ends_are = same_left.ends_are;
+            holders = same_left.holders;
+            pages_are = same_left.pages_are;
+          }) fits
+      asks_on c request fits _ e = record {}
+
+      ask_on : (c : Born) (request : Request) → Fits a a.objects a.next_name c.descriptors → LeftIf (ask a n c it request)
+      ask_on c request fits = asks_on c request fits a.server refl
+
+      -- what it is given
+      given_words : (name : List ℕ) (words : List (List ℕ)) → LeftIf (words_given a n b regs it name words)
+      given_words name words = if_some (not (fits_stack words)) _ _ (set_left _ mine) (ask_on (with_spawning b (opening words)) (act (open_path name 0) None) mine)
+
+      more_left : (found : Spawning) (va wanted : ℕ) (taken : List ℕ) → LeftIf (more_gathered a n b regs it found va wanted taken)
+      more_left found va wanted taken =
+          if_some (not (in_fence va 1)) _ _ (set_left _ mine)
+          (if_left (page_allows (page_at b va) Read) _ _ (set_left _ mine) (set_left _ nothing))
+
+      string_left : (found : Spawning) (address : ℕ) (taken : List ℕ) → LeftIf (string_gathered a n b regs it found address taken)
+      string_left found address taken = if_some (nat_le PGSIZE (length taken)) _ _ (set_left _ mine) (more_left found _ _ taken)
+
+      next_left : (name left : List ℕ) (words : List (List ℕ)) → LeftIf (next_string a n b regs it name left words)
+      next_left name [] words = given_words name words
+      next_left name (address ∷ left) words = string_left (quoting name (address ∷ left) words) address []
+
+      quoting_left : (name left : List ℕ) (words : List (List ℕ)) (taken : List ℕ) → LeftIf (quoting_step a n b regs it name left words taken)
+      quoting_left name [] words taken = record {}
+      quoting_left name (address ∷ left) words taken =
+          if_some (has_nul taken) _ _ (next_left name left _) (string_left (quoting name (address ∷ left) words) address taken)
+
+      address_left : (name addresses taken : List ℕ) → LeftIf (address_gathered a n b regs it argv name addresses taken)
+      address_left name addresses taken = more_left (listing name addresses) _ _ taken
+
+      taken_left : (name addresses : List ℕ) (address : ℕ) → LeftIf (address_taken a n b regs it argv name addresses address)
+      taken_left name addresses address =
+          if_some (address == 0) _ _ (next_left name addresses [])
+          (if_some (nat_le ARGS_MAX (length addresses)) _ _ (set_left _ mine) (address_left name _ []))
+
+      listing_left : (name addresses taken : List ℕ) → LeftIf (listing_step a n b regs it argv name addresses taken)
+      listing_left name addresses taken =
+          if_some (nat_lt (length taken) 4) _ _ (address_left name addresses taken) (taken_left name addresses _)
+
+      -- the file
+      dropped_left : (fd error : ℕ) → Left (file_dropped a n b it fd error)
+      dropped_left fd error = set_left _ (without fd)
+
+      opened_left : (fd : ℕ) (words : List (List ℕ)) (f : OpenFile) → LeftIf (file_opened a n b it fd words f)
+      opened_left fd words f = if_some (nat_lt f.size EHDR_LEN) _ _ (dropped_left fd E_NOT_EXEC)
+          (ask_on (with_spawning b (heading fd words)) (act (read_file f.way 0 EHDR_LEN) None) mine)
+
+      header_left : (fd : ℕ) (words : List (List ℕ)) (header : List ℕ) (f : OpenFile) → LeftIf (header_read a n b it fd words header f)
+      header_left fd words header f =
+          if_some (is_header f header) _ _
+          (ask_on (with_spawning b (tabling fd words header))
+          (act (read_file f.way (table_of (slice_index header)) (table_size header)) None) mine) (dropped_left fd E_NOT_EXEC)
+
+      child_left : (fd : ℕ) (image : ImageRead) (slots : List ℕ) → Left (child_begun a n b it fd image slots)
+      child_left fd image [] = dropped_left fd _
+      child_left fd image (child ∷ rest) =
+          set_left_in (record (with_slot a child (unborn (next_id (slot_id (a.slots child)) child) b.id)) { free_slots = rest }) n _
+          (set_left_in a child _ same_left nothing) mine
+
+      table_left : (fd : ℕ) (image : ImageRead) (f : OpenFile) → Left (table_read a n b it fd image f)
+      table_left fd image f = if_left (is_table f image) _ _ (child_left fd image a.free_slots) (dropped_left fd E_NOT_EXEC)
+
+      piece_left : (fd : ℕ) (image : ImageRead) (child : ℕ) (pieces : List (List ℕ)) (f : OpenFile) (list : List Piece) →
+          LeftIf (piece_asked a n b it fd image child pieces f list)
+      piece_left fd image child pieces f [] = set_left _ (without fd)
+      piece_left fd image child pieces f (piece ∷ rest) =
+          ask_on (with_spawning b (loading fd image child pieces)) (act (read_file f.way piece.at piece.len) None) mine
+
+      unborn_left : (fd child error : ℕ) → Left (child_dropped a n b it fd child error)
+      unborn_left fd child error =
+          set_left_in (record (with_slot a child (free (slot_id (a.slots child)))) { free_slots = child ∷ a.free_slots }) n _
+          (set_left_in a child _ same_left nothing) mine
+
+      read_on : (fd : ℕ) (image : ImageRead) (child : ℕ) (pieces : List (List ℕ)) (f : OpenFile) (list : List Piece) (bytes : List ℕ) →
+          LeftIf (piece_read a n b it fd image child pieces f list bytes)
+      read_on fd image child pieces f [] bytes = record {}
+      read_on fd image child pieces f (piece ∷ rest) bytes =
+          if_some (length bytes == piece.len) _ _ (piece_left fd image child _ f rest) (unborn_left fd child E_NOT_EXEC)
+
+      file_left : (stage : Stage) (found : Spawning) (o : Option OpenFile) → LeftIf (file_step a n b regs it stage found o)
+      file_left (replied bytes answer) (opening words) (Some f) = opened_left answer words f
+      file_left (replied bytes answer) (heading fd words) (Some f) = header_left fd words bytes f
+      file_left (replied bytes answer) (tabling fd words header) (Some f) = table_left fd (record { words = words; header = header; table = bytes }) f
+      file_left (taking taken) (loading fd image child pieces) (Some f) = piece_left fd image child pieces f (pieces_left image pieces)
+      file_left (replied bytes answer) (loading fd image child pieces) (Some f) =
+          read_on fd image child pieces f (pieces_left image pieces) bytes
+      file_left _ _ _ = record {}
+
+      reading_left : (stage : Stage) (found : Spawning) → LeftIf (reading_step a n b regs it stage found)
+      reading_left stage found = file_left stage found (file_in (object_of a b (descriptor_of found (answer_in stage))))
+
+      birth_left : (image : ImageRead) (child : ℕ) (pieces : List (List ℕ)) → Left (child_born a n b regs image child pieces)
+      birth_left image child pieces =
+          set_left_in (with_slot a child (born (spawned b image pieces (slot_id (a.slots child))))) n _ (set_left_in a child _ same_left mine) mine
+
+      -- its steps
+      going_left : (stage : Stage) (found : Spawning) → LeftIf (spawning_step a n b regs it argv stage found)
+      going_left asked found = set_left _ mine
+      going_left (taking taken) (listing name addresses) = listing_left name addresses taken
+      going_left (taking taken) (quoting name left words) = quoting_left name left words taken
+      going_left (replied bytes answer) (opening words) =
+          if_some (is_count answer) _ _ (reading_left (replied bytes answer) (opening words)) (set_left _ mine)
+      going_left (taking taken) (closed image child pieces) = birth_left image child pieces
+      going_left (taking taken) (dropping fd error) = dropped_left fd error
+      going_left (taking taken) (refusing error) = set_left _ mine
+      going_left stage found = reading_left stage found
+
+      begun_path : (taken : List ℕ) → LeftIf (spawn_begun a n b regs it path argv taken)
+      begun_path taken = path_left it path taken _ (λ name. address_left name [] [])
+
+      at_found : (stage : Stage) (found : Option Spawning) → LeftIf (spawn_at a n b regs path argv stage found)
+      at_found entered found = begun_path []
+      at_found (gathering taken) found = begun_path taken
+      at_found _ None = record {}
+      at_found stage (Some found) = going_left stage found
+
+      spawn_left : (stage : Stage) (found : Option Spawning) → LeftIf (spawn_step a n b regs path argv stage found)
+      unfolding spawn_step
+      spawn_left stage found = at_found stage found
+
     -- ---- any service
 
     call_left : (call : Service) (stage : Stage) → LeftIf (library_step a n b regs call stage)
@@ -644,7 +794,7 @@ module _ (a : AbstractState) (n : ℕ) (small : n < NENV) where
     call_left service.Sync stage = sync_left service.Sync stage
     call_left (service.Dup old new) stage = once_left stage _ (dup_left old new)
     call_left service.Pipe stage = once_left stage _ (pipe_left (lowest_free b) (next_free b (lowest_free b)))
-    call_left (service.Spawn path argv) stage = record {}
+    call_left (service.Spawn path argv) stage = spawn_left path argv stage b.spawning
     call_left service.Unknown stage = once_left stage _ (set_left _ mine)
 
   -- ---- an instruction

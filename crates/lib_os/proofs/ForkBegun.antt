@@ -26,14 +26,14 @@ use Rattle.lib_os.specs.AbstractState.{AbstractState, AbstractSlot, Born, unborn
 use Rattle.lib_os.specs.Answers.{at_stage}
 use Rattle.lib_os.specs.DescriptorPages.{lasting_words, lock_of}
 use Rattle.lib_os.specs.InOrder.{IsInOrder, AreFree}
-use Rattle.lib_os.specs.LibraryPages.{has_working, region_index}
+use Rattle.lib_os.specs.LibraryPages.{region_index}
 use Rattle.lib_os.specs.PipeEnds.{EndsStandAt, LocksStand, locked_at}
 use Rattle.lib_os.specs.Places.{place_of, words_at}
 use Rattle.lib_os.specs.Rows.{Names, EntryRow, rows_of, counted, logical, logical_by, is_clients, is_of_descriptor, is_programs, pipe_page}
-use Rattle.lib_os.specs.StandsFor.{StandsFor, StandsForSlot, StandsForBorn, StandsForUnborn, StandsAt, IsTabled, AreSlots, IsBorne}
+use Rattle.lib_os.specs.StandsFor.{StandsFor, StandsForSlot, StandsForBorn, StandsForUnborn, StandsAt, IsTabled, AreSlots, IsBorneBy, by_fork}
 use Rattle.lib_os.specs.StandsFor.{IsBearing, view_of, borne_in, is_passed, things_in}
 use Rattle.lib_os.proofs.Bearing.{IsChild, child_borne}
-use Rattle.lib_os.proofs.Children.{borne_moved, same_child}
+use Rattle.lib_os.proofs.Children.{borne_moved, same_child, of_parent}
 use Rattle.lib_os.proofs.EntriesStand.{RowsStand, rows_stand, rows_same, rows_bytes, rows_turned}
 use Rattle.lib_os.proofs.Fences.{fence_below}
 use Rattle.lib_os.proofs.Forked.{child_slot, space_begun, next_id_names, next_id_small}
@@ -41,7 +41,7 @@ use Rattle.lib_os.proofs.Logical.{clients_so, logical_live, logical_some, logica
 use Rattle.lib_os.proofs.Numbered.{named_at}
 use Rattle.lib_os.proofs.PipesStand.{calm_locked, calm_places, descriptors_turned, ends_moved, ends_stay, is_calm, locks_kept}
 use Rattle.lib_os.proofs.Releasing.{row_entry}
-use Rattle.lib_os.proofs.Serving.{IsServed, served, library_moved, plain_copy, plain_upcall, words_of_none}
+use Rattle.lib_os.proofs.Serving.{IsServed, served, library_moved, plain_copy, plain_upcall, words_of_none, pages_kept}
 use Rattle.lib_os.proofs.SlotsStand.{CountsKept, SeenAlike, all_counts, but_pipes, slot_stands, born_stands, live_stands, ids_stand, born_live}
 use Rattle.lib_os.proofs.StatesStand.{Settles, slot_in_order, tabled_set, born_not_first, clients_live, ends_at, server_alike, server_same}
 use Rattle.lib_os.proofs.StatesStand.{old_gone, old_set, turns_set, turns_settle}
@@ -297,7 +297,7 @@ module _ {names : Names} {s : KernelState} {a : AbstractState} (h : StandsFor na
         memory = own.memory;
         library = library_moved (place_of (slot_at s n)) (place_of parent) (slot_at s n).extra parent.extra (rows_of sp (slot_at s n).directory)
             (plain_copy (place_of (slot_at s n)) plain ∙ sym (plain_copy (place_of parent) plain_after))
-            (ap (λ (p : Place). has_working p (slot_at s n).extra) stands ∙ sym (ap (λ (p : Place). has_working p parent.extra) there)) own.library;
+            (ap (λ (p : Place). pages_kept p (slot_at s n).extra) stands ∙ sym (ap (λ (p : Place). pages_kept p parent.extra) there)) own.library;
         regions_have = own.regions_have;
         regions_only = own.regions_only;
         stack = own.stack;
@@ -387,27 +387,28 @@ module _ {names : Names} {s : KernelState} {a : AbstractState} (h : StandsFor na
   named = ap (λ (q : ℕ). q % NENV) (sym v.own.id) ∙ h.tabled.ids n live
 
   abbrev Bears : ℕ → ℕ → ℕ → Type 0
-  Bears j own_id parent_id = IsBorne names sp (slots_after (parent_id % NENV)) (abstract_after (parent_id % NENV)) (slots_after j) own_id parent_id
+  Bears j own_id parent_id = IsBorneBy names sp (slots_after (parent_id % NENV)) (abstract_after (parent_id % NENV)) (slots_after j) own_id parent_id
 
   its_borne : Bears m id b.id
   its_borne =
-      subst (λ (q : ℕ). IsBorne names sp (slots_after q) (abstract_after q) (slots_after m) id b.id) (sym named)
-      (subst (λ (x : Slot). IsBorne names sp (slots_after n) (abstract_after n) x id b.id) (sym child_here)
-      (subst (λ (x : Slot). IsBorne names sp x (abstract_after n) child id b.id) (sym parent_here)
-      (child_borne id bearer_here there refl its_child)))
+      subst (λ (q : ℕ). IsBorneBy names sp (slots_after q) (abstract_after q) (slots_after m) id b.id) (sym named)
+      (subst (λ (x : Slot). IsBorneBy names sp (slots_after n) (abstract_after n) x id b.id) (sym child_here)
+      (subst (λ (x : Slot). IsBorneBy names sp x (abstract_after n) child id b.id) (sym parent_here)
+      (by_fork (child_borne id bearer_here there refl its_child))))
 
   others_borne : (j own_id parent_id : ℕ) → j ≢ n → j ≢ m → a.slots j ≡ unborn own_id parent_id → Bears j own_id parent_id
   others_borne j own_id parent_id ne other is =
       let was = h.children.borne j own_id parent_id is in
+      let parents = of_parent was in
       let p = parent_id % NENV in
       let not_parent : p ≢ n = λ same. none-some own_id
-      (sym (ap borne_in stands) ∙ ap (λ (q : ℕ). borne_in (place_of (slot_at s q))) (sym same) ∙ ap borne_in was.at ∙ was.borne) in
+      (sym (ap borne_in stands) ∙ ap (λ (q : ℕ). borne_in (place_of (slot_at s q))) (sym same) ∙ parents.bears) in
       let not_child : p ≢ m = λ same.
-      false≢true (sym nobody_there ∙ ap (λ (q : ℕ). is_live (a.slots q)) (sym same) ∙ ap (λ (x : AbstractSlot). is_live x) was.born_by) in
+      false≢true (sym nobody_there ∙ ap (λ (q : ℕ). is_live (a.slots q)) (sym same) ∙ ap (λ (x : AbstractSlot). is_live x) parents.born_by) in
       let its_parent = slots_else p not_parent not_child in
       borne_moved (slots_after p) (abstract_after p) (slots_after j) (ap (λ (x : Slot). place_of x) its_parent)
       (ap (λ (x : Slot). x.registers) its_parent) (abstract_else p not_parent not_child)
-      (λ q is. ap (λ (x : Slot). rows_of sp x.directory q) its_parent ∙ ap (λ (row : EntryRow). row q) (rows_kept (slot_at s p).directory))
+      (λ q. ap (λ (x : Slot). rows_of sp x.directory q) its_parent ∙ ap (λ (row : EntryRow). row q) (rows_kept (slot_at s p).directory))
       (same_child (slot_at s j) (slots_after j) (slots_else j ne other)) (seen (slot_at s j).directory) was
 
   same_unborn : (x y z w : ℕ) → unborn x y ≡ unborn z w → (x ≡ z) × (y ≡ w)

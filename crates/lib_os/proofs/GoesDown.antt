@@ -24,7 +24,7 @@ use Rattle.lib_os.specs.AbstractMemory.{has_page_in}
 use Rattle.lib_os.specs.AbstractState.{AbstractState, Born}
 use Rattle.lib_os.specs.Fence.{in_fence}
 use Rattle.lib_os.specs.InOrder.{IsInOrder}
-use Rattle.lib_os.specs.LibraryPages.{has_copy, has_working, is_library_region}
+use Rattle.lib_os.specs.LibraryPages.{has_copy, has_working, is_library_region, has_spawns}
 use Rattle.lib_os.specs.Places.{place_of, words_at}
 use Rattle.lib_os.specs.Rows.{Names, EntryRow, counted, lasting, rows_of, logical, page_seen, is_of_descriptor, is_pipe_page, is_programs}
 use Rattle.lib_os.specs.StandsFor.{StandsFor, StandsForBorn, StandsAt, StandsAtStep, IsBearing, view_of, upcall_at}
@@ -34,7 +34,7 @@ use Rattle.lib_os.proofs.EntriesStand.{RowsStand, rows_same, rows_stand, seen_no
 use Rattle.lib_os.proofs.Fences.{fence_below}
 use Rattle.lib_os.proofs.Numbered.{named_at}
 use Rattle.lib_os.proofs.PipesStand.{descriptors_turned, is_calm, is_calm_step}
-use Rattle.lib_os.proofs.Serving.{library_moved}
+use Rattle.lib_os.proofs.Serving.{library_moved, pages_kept}
 use Rattle.lib_os.proofs.Slots.{slot_back, upd-back}
 use Rattle.lib_os.proofs.SlotsStand.{CountsKept, SeenAlike}
 use Rattle.lib_os.proofs.StatesStand.{CountsAlike, set_counts, slot_in_order}
@@ -145,6 +145,7 @@ passed_from (step.OpenAwaiting id fd) p = every p
 passed_from (step.OpenClearing id fd) p = every p
 passed_from (step.ReadingOpened id fd) p = every p
 passed_from (step.Piped at) p = every p
+passed_from (step.Spawning at) p = every p
 
 stack_kept : is_programs (page_number UXSTACK) ≡ false
 unfolding in_fence
@@ -361,7 +362,7 @@ module _ (k : Slot) (at next : Step) (stands : place_of k ≡ place.InService se
     memory = own.memory;
     library = library_moved (place_of k) (place_of (moved k next)) k.extra (moved k next).extra (rows_of s k.directory)
         (ap has_copy stands ∙ sym (ap has_copy moved_place))
-        (ap (λ (p : Place). has_working p k.extra) stands ∙ sym (ap (λ (p : Place). has_working p (moved k next).extra) moved_place))
+        (ap (λ (p : Place). pages_kept p k.extra) stands ∙ sym (ap (λ (p : Place). pages_kept p (moved k next).extra) moved_place))
         own.library;
     regions_have = own.regions_have;
     regions_only = own.regions_only;
@@ -397,7 +398,8 @@ module _ (k : Slot) (at next : Step) (stands : place_of k ≡ place.InService se
               by_working true here = nowhere (ap (rows_of s k.directory) (eqb-true p (page_number UTEMP) here) ∙ working)
               by_working false beside =
                   nowhere (own.library.none p outside no_descriptor (λ same. let too : p ≡ page_number UXSTACK = same in omega (arith, lower, too))
-                  (eqb-false p (page_number PFTEMP) other) (eqb-false p (page_number UTEMP) beside))
+                  (eqb-false p (page_number PFTEMP) other) (eqb-false p (page_number UTEMP) beside)
+                  (ap (λ (q : Place). has_spawns q k.extra p) stands))
 
 -- a child is what it is by its parent's registers and space
 pub child_still : {names : Names} {s : SpacesState} {parent : Slot} {b : Born} {at : Step} {k : Slot} (after : Slot) →

@@ -33,7 +33,7 @@ use Rattle.lib_os.specs.Places.{handler_step_in, place_in_words, place_of, step_
 use Rattle.lib_os.specs.Rows.{AreBytes, IsPage, counted, is_of_descriptor, is_programs, lasting, page_by, rows_of, seen_where}
 use Rattle.lib_os.specs.Services.{named_service, service_of}
 use Rattle.lib_os.specs.StandingLaws.{IsHalfCopied, SomeCopyStands}
-use Rattle.lib_os.specs.StandsFor.{view_of, borne_in, HasChildren, IsBorne, StandsForUnborn}
+use Rattle.lib_os.specs.StandsFor.{view_of, borne_in, HasChildren, IsBorne, IsBorneBy, by_fork, StandsForUnborn}
 use Rattle.lib_os.specs.StandsInHandler.{at_program, copies, IsCopiedTo, IsToCopy}
 use Rattle.lib_os.proofs.Listed.{Spaces, EntryFits, SpacesFit, StateFits, EnvironmentFits, Pair, spaces_of, listed, own_fits, copied_fits}
 use Rattle.lib_os.proofs.Listed.{server_bare, server_slot, server_fits, running_slot, born_in, environment_fits, the_names, state_of, abstract_of}
@@ -218,6 +218,7 @@ first_fits = record {
   copy = λ has. absurd (let contradiction : false ≡ true = has in cc);
   no_copy = λ none. refl;
   no_working = refl;
+  no_spawns = λ p. refl;
   stack = refl;
   flags = refl;
   stands = (record { program = refl; phase = refl; silent = refl; awake = refl }, omega arith);
@@ -270,6 +271,7 @@ second_fits = record {
   copy = λ has. record { entry = own_entry 33; stands = refl; own_page = refl; writes = refl };
   no_copy = λ none. absurd (let contradiction : true ≡ false = none in cc);
   no_working = refl;
+  no_spawns = λ p. refl;
   stack = refl;
   flags = refl;
   stands = record {
@@ -419,7 +421,7 @@ no_table is = let contradiction : false ≡ true = is in cc
 -- the child is borne by its parent
 abbrev IsBorneHere : ℕ → Pair → Type 0
 IsBorneHere n pair = (id parent : ℕ) → pair.1 ≡ unborn id parent →
-    IsBorne the_names (spaces_of spaces) (listed pairs no_pair (parent % NENV)).0 (listed pairs no_pair (parent % NENV)).1 pair.0 id parent
+    IsBorneBy the_names (spaces_of spaces) (listed pairs no_pair (parent % NENV)).0 (listed pairs no_pair (parent % NENV)).1 pair.0 id parent
 
 abbrev HasItsChild : ℕ → Pair → Type 0
 HasItsChild n pair = (id : ℕ) (b : Born) → pair.1 ≡ born b → borne_in (place_of pair.0) ≡ Some id →
@@ -431,8 +433,8 @@ not_unborn_born b id parent is = cc
 third_borne : IsBorneHere 3 (child_slot, unborn 0x1003 0x1001)
 third_borne id parent is =
     let same = same_unborn 0x1003 0x1001 id parent is in
-    subst (λ (q : ℕ). IsBorne the_names (spaces_of spaces) (listed pairs no_pair (q % NENV)).0 (listed pairs no_pair (q % NENV)).1 child_slot id q) same.1
-    (subst (λ (q : ℕ). IsBorne the_names (spaces_of spaces) parent_slot (born parent_is) child_slot q 0x1001) same.0 is_child)
+    subst (λ (q : ℕ). IsBorneBy the_names (spaces_of spaces) (listed pairs no_pair (q % NENV)).0 (listed pairs no_pair (q % NENV)).1 child_slot id q) same.1
+    (subst (λ (q : ℕ). IsBorneBy the_names (spaces_of spaces) parent_slot (born parent_is) child_slot q 0x1001) same.0 (by_fork is_child))
 
 first_has_it : HasItsChild 1 (parent_slot, born parent_is)
 unfolding place_in_words words_at service_of named_service step_in

@@ -1,6 +1,6 @@
 -- Bytes that the file server puts into the page of a request while its client waits for the reply are seen by nobody: nothing is known of that page,
 -- which the client has at UTEMP, whatever it has asked for; and no other client has its frame.
-use Rattle.std.proofs.Common.{◌≡◌, ◌∙◌, inl, inr, ◌+◌, ◌*◌, ◌<◌, ◌≤◌, ◌==◌, ℕ, Bool, true, false, List, [], ◌∷◌, length}
+use Rattle.std.proofs.Common.{◌≡◌, ◌∙◌, ◌⊎◌, inl, inr, ◌+◌, ◌*◌, ◌<◌, ◌≤◌, ◌==◌, ℕ, Bool, true, false, List, [], ◌∷◌, length}
 use Rattle.std.proofs.Common.{Option, Some, None, Result, Ok, Err, refl, sym, ap, subst, arith}
 use Rattle.std.specs.Prelude.{bit_and}
 use Rattle.std.specs.Int.{w32, to_le_bytes}
@@ -19,33 +19,38 @@ use Rattle.jos_base.specs.SystemCalls.{handled}
 use Rattle.jos_base.specs.UserMemory.{reach_in, touched}
 use Rattle.jos_base.specs.Words.{page_number, page_offset, upd}
 use Rattle.jos_base.proofs.Walks.{walked_below}
-use Rattle.lib_os.specs.declared.numbers.TheConstants.{REQUEST}
+use Rattle.lib_os.specs.declared.numbers.TheConstants.{REQUEST, SPAWN_GIVEN, SPAWN_STACK}
 use Rattle.lib_os.specs.declared.place.Place.{Place}
 use Rattle.lib_os.specs.declared.place.Place.TheVariants as place
 use Rattle.lib_os.specs.declared.place.Step.{Step}
+use Rattle.lib_os.specs.declared.place.Step.TheVariants as step
 use Rattle.lib_os.specs.declared.service.Service.{Service}
 use Rattle.lib_os.specs.declared.service.Service.TheVariants as service
+use Rattle.lib_os.specs.declared.spawn_steps.SpawnStep.{SpawnStep}
 use Rattle.lib_os.specs.AbstractState.{AbstractState, Born, born}
 use Rattle.lib_os.specs.AskedFor.{IsThere}
 use Rattle.lib_os.specs.InOrder.{IsInOrder}
 use Rattle.lib_os.specs.LibraryPages.{IsOwnWritable, View, has_working}
 use Rattle.lib_os.specs.Places.{place_of}
-use Rattle.lib_os.specs.Rows.{EntryRow, IsPage, Names, Rows, rows_of}
+use Rattle.lib_os.specs.Rows.{EntryRow, IsPage, Names, Rows, logical, rows_of}
 use Rattle.lib_os.specs.InService.{IsLowestFree}
+use Rattle.lib_os.specs.StandsAtSpawn.{StandsAtSpawn, awaits_bytes as spawn_awaits_bytes, awaits_file as spawn_awaits_file}
 use Rattle.lib_os.specs.StandsFor.{IsAwaitingFile, IsCounting, StandsAt, StandsFor, StandsForBorn}
 use Rattle.lib_os.specs.StandsFor.{awaits, awaits_bytes, awaits_file, view_of}
 use Rattle.lib_os.specs.UserCalls.{CallStep, IsStep, Output, accessing, by_access, faulting, giving, gone, got, store, store_byte, to_handler}
 use Rattle.lib_os.specs.UserCalls.{with_bytes_put}
-use Rattle.lib_os.proofs.AskedPlaces.{AskedPlace, AwaitingPlace, asked_place, asked_step, awaiting_place, awaiting_step, is_requests}
-use Rattle.lib_os.proofs.BytesKept.{PutsBytes, unseen_rewritten}
+use Rattle.lib_os.proofs.AskedPlaces.{AskedPlace, AwaitingPlace, SpawnPlace, asked_place, asked_step, awaiting_place, awaiting_step, is_requests}
+use Rattle.lib_os.proofs.BytesKept.{PutsBytes, own_beside, rewritten_devices, unseen_rewritten}
 use Rattle.lib_os.proofs.BytesPut.{bytes_put, page_put, put_is, put_whole, spaces_put}
 use Rattle.lib_os.proofs.CopiesStored.{IsRewritten}
 use Rattle.lib_os.proofs.Effects.{Quiet}
 use Rattle.lib_os.proofs.EntryWords.{row_entry}
-use Rattle.lib_os.proofs.Logical.{is_plain, logical_plain}
+use Rattle.lib_os.proofs.Logical.{is_plain, is_remapped, logical_beside, logical_plain}
 use Rattle.lib_os.proofs.PageBytes.{bytes_more, bytes_none}
 use Rattle.lib_os.proofs.PageTaken.{working_no_descriptor, working_outside, working_page}
-use Rattle.lib_os.proofs.SlotsStand.{born_at}
+use Rattle.lib_os.proofs.SlotsStand.{born_at, told_kept}
+use Rattle.lib_os.proofs.SpawnStays.{SameAt, SameTold, asked_file_kept, asked_part_kept, for_kept, free_or_none_kept, stack_kept}
+use Rattle.lib_os.proofs.SpawnWaits.{SpawnAwaits, SpawnHasAsked, asks_file, asks_part, expects_file, expects_part}
 use Rattle.lib_os.proofs.StatesStand.{clients_live, rows_counts}
 use Rattle.lib_os.proofs.Touching.{touched_quiet}
 
@@ -187,21 +192,62 @@ module _ {names : Names} {s : KernelState} {a : AbstractState} (h : StandsFor na
   mine : StandsForBorn names s.spaces k b
   mine = born_at h client b at
 
-  plain : is_plain (place_of k) ≡ true
-  plain = by_phase has_asked
+  -- its page counts as it stands
+  counted : logical s.spaces s.environments.slots client working_page ≡ rows_of s.spaces k.directory working_page
+  counted = by_phase has_asked
     where
-      by_phase : IsThere b call → is_plain (place_of k) ≡ true
-      by_phase (inl phase) =
-          let it = asked_place (place_of k) v k b call mine.at phase in
-          ap is_plain it.at ∙ requests_plain call it.asks_it (asked_step call it.id it.fd)
-      by_phase (inr phase) =
-          let it = awaiting_place (place_of k) v k b call mine.at phase in
-          ap is_plain it.at ∙ requests_plain call it.asks_it (awaiting_step call it.id it.fd)
+      plainly : is_plain (place_of k) ≡ true → logical s.spaces s.environments.slots client working_page ≡ rows_of s.spaces k.directory working_page
+      plainly plain = logical_plain s.spaces s.environments.slots client (clients_live h client b at) plain working_page
+
+      in_spawn : (path argv : ℕ) (at_step : SpawnStep) → place_of k ≡ place.InService (service.Spawn path argv) (step.Spawning at_step) →
+          logical s.spaces s.environments.slots client working_page ≡ rows_of s.spaces k.directory working_page
+      in_spawn path argv at_step is =
+          logical_beside s.spaces s.environments.slots client (clients_live h client b at) working_page (λ same. omega (arith, same))
+          (ap (λ (q : Place). is_remapped q working_page) is)
+
+      by_asked : AskedPlace (place_of k) k b call ⊎ SpawnPlace (place_of k) call (SpawnHasAsked v k b) →
+          logical s.spaces s.environments.slots client working_page ≡ rows_of s.spaces k.directory working_page
+      by_asked (inl it) = plainly (ap is_plain it.at ∙ requests_plain call it.asks_it (asked_step call it.id it.fd))
+      by_asked (inr it) = in_spawn it.path it.argv it.step_is it.at
+
+      by_awaited : AwaitingPlace (place_of k) v k b call ⊎ SpawnPlace (place_of k) call (SpawnAwaits v k b) →
+          logical s.spaces s.environments.slots client working_page ≡ rows_of s.spaces k.directory working_page
+      by_awaited (inl it) = plainly (ap is_plain it.at ∙ requests_plain call it.asks_it (awaiting_step call it.id it.fd))
+      by_awaited (inr it) = in_spawn it.path it.argv it.step_is it.at
+
+      by_phase : IsThere b call → logical s.spaces s.environments.slots client working_page ≡ rows_of s.spaces k.directory working_page
+      by_phase (inl phase) = by_asked (asked_place (place_of k) v k b call mine.at phase)
+      by_phase (inr phase) = by_awaited (awaiting_place (place_of k) v k b call mine.at phase)
 
   -- so that it stands as well where the page has other bytes
-  still_at : (w : View) → w.row ≡ v.row → StandsAt (place_of k) w k b
-  still_at w rows = by_phase has_asked
+  still_at : (w : View) → w.row ≡ v.row → SameTold v w → SameAt v w (page_number SPAWN_GIVEN) → SameAt v w (page_number SPAWN_STACK) →
+      StandsAt (place_of k) w k b
+  still_at w rows told given_own stack_own = by_phase has_asked
     where
+      spawn_asks_still : {path argv : ℕ} {at_step : SpawnStep} → SpawnHasAsked v k b path argv at_step → StandsAtSpawn w k b path argv at_step
+      spawn_asks_still {path = path} {argv = argv} (asks_file esp fd id self so) =
+          (self, asked_file_kept v w rows told given_own stack_own k b k.status k.runs b.memory b.regions b.descriptors path argv esp fd so)
+      spawn_asks_still {path = path} {argv = argv} (asks_part wanted id self so) =
+          (self, asked_part_kept v w rows told given_own stack_own k b k.status k.runs b.memory b.regions b.descriptors path argv wanted so)
+
+      spawn_waits_still : {path argv : ℕ} {at_step : SpawnStep} → SpawnAwaits v k b path argv at_step → StandsAtSpawn w k b path argv at_step
+      spawn_waits_still (expects_file esp fd id self so) = (
+        self,
+        record {
+          words = so.words;
+          stack = stack_kept v w rows stack_own so.words esp so.stack;
+          so = spawn_awaits_file so.awaiting_it so.is (free_or_none_kept v w rows fd so.free);
+        },
+      )
+      spawn_waits_still {path = path} {argv = argv} (expects_part wanted id self so) = (
+        self,
+        record {
+          count = so.count;
+          so = for_kept v w rows told given_own stack_own k b k.status k.runs b.memory b.regions b.descriptors path argv wanted so.count so.so;
+          awaits = spawn_awaits_bytes so.awaiting_it;
+        },
+      )
+
       asks_still : (call : Service) → is_requests call ≡ true → AskedPlace (place_of k) k b call → StandsAt (place_of k) w k b
       asks_still (service.OpenFile path mode) is it =
           let has = subst (λ (p : Place). StandsAt p v k b) it.at mine.at in
@@ -253,8 +299,16 @@ module _ {names : Names} {s : KernelState} {a : AbstractState} (h : StandsFor na
       waits_still _ is it = absurd (false≢true is)
 
       by_phase : IsThere b call → StandsAt (place_of k) w k b
-      by_phase (inl phase) = let it = asked_place (place_of k) v k b call mine.at phase in asks_still call it.asks_it it
-      by_phase (inr phase) = let it = awaiting_place (place_of k) v k b call mine.at phase in waits_still call it.asks_it it
+      by_phase (inl phase) = by_asked (asked_place (place_of k) v k b call mine.at phase)
+        where
+          by_asked : AskedPlace (place_of k) k b call ⊎ SpawnPlace (place_of k) call (SpawnHasAsked v k b) → StandsAt (place_of k) w k b
+          by_asked (inl it) = asks_still call it.asks_it it
+          by_asked (inr it) = subst (λ (p : Place). StandsAt p w k b) (sym it.at) (spawn_asks_still it.does)
+      by_phase (inr phase) = by_awaited (awaiting_place (place_of k) v k b call mine.at phase)
+        where
+          by_awaited : AwaitingPlace (place_of k) v k b call ⊎ SpawnPlace (place_of k) call (SpawnAwaits v k b) → StandsAt (place_of k) w k b
+          by_awaited (inl it) = waits_still call it.asks_it it
+          by_awaited (inr it) = subst (λ (p : Place). StandsAt p w k b) (sym it.at) (spawn_waits_still it.does)
 
   module _ (own entry : Entry) (kept : rows_of s.spaces k.directory (page_number UTEMP) ≡ Some own)
       (lent : rows_of s.spaces (slot_at s 0).directory (page_number REQUEST) ≡ Some entry) (same : own.frame ≡ entry.frame) where
@@ -273,16 +327,24 @@ module _ {names : Names} {s : KernelState} {a : AbstractState} (h : StandsFor na
     page_whole =
         subst (λ (f : ℕ). IsPage (s.spaces.pages f)) (sym its_frame)
         (h.whole client working_page page.entry
-        (logical_plain s.spaces s.environments.slots client (clients_live h client b at) plain working_page ∙ page.stands))
+        (counted ∙ page.stands))
 
     -- It has other bytes.
     rewritten_stands : (sp : SpacesState) (bytes : List ℕ) → IsPage bytes → IsRewritten s.spaces sp entry.frame bytes → IsInOrder (with_spaces s sp) →
         StandsFor names (with_spaces s sp) a
     rewritten_stands sp bytes whole rewritten in_order =
-        unseen_rewritten h client b at plain working_page working_outside working_no_descriptor page.entry page.stands page.own_page page.writes bytes
-        whole (subst (λ (f : ℕ). IsRewritten s.spaces sp f bytes) its_frame rewritten) in_order
-        (λ m ne. rows_counts h.in_order.frames in_order.frames rewritten.rows (slot_at s m))
-        (still_at (view_of sp k.directory) (ap (λ (all : Rows). all k.directory) rewritten.rows))
+        let of_page = subst (λ (f : ℕ). IsRewritten s.spaces sp f bytes) its_frame rewritten in
+        let rows : rows_of sp k.directory ≡ rows_of s.spaces k.directory = ap (λ (all : Rows). all k.directory) rewritten.rows in
+        unseen_rewritten h client b at working_page counted working_outside working_no_descriptor page.entry page.stands page.own_page page.writes bytes
+        whole of_page in_order (λ m ne. rows_counts h.in_order.frames in_order.frames rewritten.rows (slot_at s m))
+        (still_at (view_of sp k.directory) rows
+        (told_kept v (view_of sp k.directory) rows
+        (rewritten_devices h client b at working_page counted working_outside working_no_descriptor page.entry page.stands page.own_page page.writes bytes
+        whole of_page in_order))
+        (λ x stands own_too. own_beside h client b at working_page counted working_outside working_no_descriptor page.entry page.stands page.own_page
+        page.writes bytes whole of_page in_order (page_number SPAWN_GIVEN) x (λ same. omega (arith, same)) stands)
+        (λ x stands own_too. own_beside h client b at working_page counted working_outside working_no_descriptor page.entry page.stands page.own_page
+        page.writes bytes whole of_page in_order (page_number SPAWN_STACK) x (λ same. omega (arith, same)) stands))
 
     put_stands : (o byte : ℕ) → o < PGSIZE → byte < 256 → (mid : KernelState) (output : Output) →
         IsStep (store_byte s 0 (page_number REQUEST * PGSIZE + o) byte) (Ok tt) mid output → IsInOrder mid → StandsFor names mid a

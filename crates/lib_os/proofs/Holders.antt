@@ -33,8 +33,8 @@ use Rattle.lib_os.specs.DescriptorPages.{HasObject, IsOpenFile, Things, number_o
 use Rattle.lib_os.specs.Descriptors.{holds_in, is_held, is_name}
 use Rattle.lib_os.specs.FileServer.{is_held_by}
 use Rattle.lib_os.specs.GuestStep.{born_in}
-use Rattle.lib_os.specs.Rows.{IsNamed, MayBeHad, Names, ShowsBy, descriptor_page, is_of_descriptor, is_programs, is_shared, lasting, rows_of, EntryRow, HasThing, as_cow, as_own, counted, cow_perm, descriptor_at, descriptor_seen, is_clients, is_making, is_pipe_page, logical, logical_by, makes, name_of, own_perm, page_by, pipe_page, shown_at, may_write}
-use Rattle.lib_os.specs.StandsFor.{StandsFor, StandsForSlot, is_passed, things_in, StandsAt, seen_unless, view_of}
+use Rattle.lib_os.specs.Rows.{IsNamed, MayBeHad, Names, ShowsBy, descriptor_page, is_of_descriptor, is_shared, lasting, rows_of, EntryRow, HasThing, as_cow, as_own, counted, cow_perm, descriptor_at, descriptor_seen, is_clients, is_making, is_pipe_page, logical, logical_by, makes, name_of, own_perm, page_by, pipe_page, shown_at, may_write}
+use Rattle.lib_os.specs.StandsFor.{StandsFor, StandsForSlot, things_in, StandsAt, seen_unless, view_of}
 use Rattle.lib_os.specs.PipeEnds.{is_dropped, is_made, is_on_its_way, pipe_named}
 use Rattle.lib_os.specs.StandsAtPipe.{StandsAtPipe}
 use Rattle.lib_os.specs.LibraryPages.{View}
@@ -44,9 +44,11 @@ use Rattle.lib_os.proofs.DescriptorLooks.{entry_bits, is_descriptors}
 use Rattle.lib_os.proofs.EntriesCount.{Counts, entry_counts}
 use Rattle.lib_os.proofs.EntryWords.{row_entry}
 use Rattle.lib_os.proofs.FilesLeft.{name-same, named-so, some-passes}
+use Rattle.lib_os.proofs.KeptPages.{beside_childs, descriptor_no_spawns}
 use Rattle.lib_os.proofs.Logical.{clients_are, logical_live}
 use Rattle.lib_os.proofs.SlotsStand.{born_at, born_live}
 use Rattle.lib_os.proofs.StatesStand.{born_not_first, clients_live, ends_at}
+use Rattle.lib_os.proofs.Children.{IsOfParent, of_parent}
 
 -- ---- how often a frame is named
 
@@ -210,6 +212,11 @@ counted_shared (place.InService service.Pipe (step.Piped at)) row fd x below is 
     let page : is_of_descriptor (descriptor_page fd) ≡ true = grind (arith, nat_tests) in
     let making : is_making at (descriptor_page fd) ≡ false = λ i. page i && off i in
     ap (λ (c : Bool). if c then option_map as_own (row (descriptor_page fd)) else row (descriptor_page fd)) making ∙ is
+counted_shared (place.InService (service.Spawn path argv) (step.Spawning at)) row fd x below is shared_page unmade =
+    let page : is_of_descriptor (descriptor_page fd) ≡ true = grind (arith, nat_tests) in
+    ap (λ (c : Bool). if c then None else row (descriptor_page fd))
+    (beside_childs at (descriptor_page fd) (descriptor_no_spawns (descriptor_page fd) page))
+    ∙ is
 counted_shared _ row fd x below is shared_page unmade = is
 
 module _ {names : Names} {s : KernelState} {a : AbstractState} (h : StandsFor names s a) (n : ℕ) (b : Born) (at : a.slots n ≡ born b) (fd : ℕ) where
@@ -361,22 +368,22 @@ module _ {names : Names} {s : KernelState} {a : AbstractState} (h : StandsFor na
     by_slot unmade other (born b) at is k =
         let small : m < NENV = let named_by = h.tabled.ids m live in omega (arith, named_by) in its_holder m b small at unmade is
     by_slot unmade other (unborn id parent) at is k =
-        by_passed (is_passed (h.children.borne m id parent at).step p) refl
+        by_passed (c.passed p) refl
       where
-        by_passed : (t : Bool) → is_passed (h.children.borne m id parent at).step p ≡ t → is_held a (names.name x.frame) ≡ true
+        c : IsOfParent s.spaces (slot_at s (parent % NENV)) (a.slots (parent % NENV)) (slot_at s m) id parent
+        c = of_parent (h.children.borne m id parent at)
+
+        by_passed : (t : Bool) → c.passed p ≡ t → is_held a (names.name x.frame) ≡ true
         by_passed true passed =
-            let c = h.children.borne m id parent at in
-            its_holder (parent % NENV) c.b (omega arith) c.born_by (ap (λ (q : Place). is_made q fd) c.at) (sym (c.handed p descriptor passed) ∙ is)
-        by_passed false off =
-            let c = h.children.borne m id parent at in
-            absurd (none-some x (sym (c.rest p (second_so (is_programs p) (is_of_descriptor p) descriptor) off) ∙ is))
+            its_holder (parent % NENV) c.b (omega arith) c.born_by (c.unmade fd) (sym (c.handed p descriptor passed) ∙ is)
+        by_passed false off = absurd (none-some x (sym (c.rest p descriptor off) ∙ is))
 
   pub other_entry : (d p : ℕ) (x : Entry) → s.spaces.entries d p ≡ Some x → x.frame ≡ e.frame → d ≢ home →
       (name : ℕ) × HeldAs a number name
   other_entry d p x is same other =
       by_pipe (is_pipe_page found.page) refl
     where
-      found : Counts s d p (lasting x)
+      found : Counts s a d p (lasting x)
       found = entry_counts h d p (lasting x) other (row_of_entry d p x is)
 
       things : Things
@@ -416,7 +423,7 @@ module _ {names : Names} {s : KernelState} {a : AbstractState} (h : StandsFor na
       held no_pipe =
           let client = clients_are found.slot (slot_at s found.slot) found.client in
           let row : rows_of s.spaces (slot_at s found.slot).directory p ≡ Some (lasting x) =
-          ap (λ (q : ℕ). rows_of s.spaces q p) found.home ∙ row_of_entry d p x is in
+          ap (λ (q : ℕ). rows_of s.spaces q p) (found.shared_home had.shared) ∙ row_of_entry d p x is in
           ap (λ (f : ℕ). is_held a (names.name f)) found.frame
           ∙ (let descriptor : is_of_descriptor p ≡ true = ap is_of_descriptor (sym at_page) ∙ had.descriptor in
           let none : is_pipe_page p ≡ false = ap is_pipe_page (sym at_page) ∙ no_pipe in

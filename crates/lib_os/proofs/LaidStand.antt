@@ -89,7 +89,7 @@ module _ {names : Names} {s : KernelState} {a : AbstractState} {sp : SpacesState
   own_elsewhere lacked q r x ne hx own_too =
       bytes_kept x (frames_apart h e.frame lacked q r x hx (λ found.
       other_frame before h.apart n p found.slot found.page found.entry e
-      (λ same too. ne (sym found.home ∙ ap (λ (m : ℕ). (slot_at s m).directory) same)) counts_here writes found.counts (found.own own_too)))
+      (λ same too. ne (sym (found.home n b at same))) counts_here writes found.counts (found.own own_too)))
 
   -- it is no shared frame
   shared_elsewhere : (m q : ℕ) (x : Entry) → before m q ≡ Some x → is_shared x.perm ≡ true → x.frame ≢ e.frame
@@ -118,11 +118,11 @@ module _ {names : Names} {s : KernelState} {a : AbstractState} {sp : SpacesState
   shared_kept lacked q r x ne hx shared_too =
       bytes_kept x (frames_apart h e.frame lacked q r x hx (λ found. by_bits found (found.shared shared_too)))
     where
-      by_bits : (found : Counts s q r x) → (is_shared found.entry.perm ≡ true) ⊎ (found.entry.perm ≡ own_perm) → found.entry.frame ≢ e.frame
+      by_bits : (found : Counts s a q r x) → (is_shared found.entry.perm ≡ true) ⊎ (found.entry.perm ≡ own_perm) → found.entry.frame ≢ e.frame
       by_bits found (inl is) = shared_elsewhere found.slot found.page found.entry found.counts is
       by_bits found (inr bits) =
           other_frame before h.apart n p found.slot found.page found.entry e
-          (λ same too. ne (sym found.home ∙ ap (λ (m : ℕ). (slot_at s m).directory) same)) counts_here writes found.counts (ap is_shared bits)
+          (λ same too. ne (sym (found.home n b at same))) counts_here writes found.counts (ap is_shared bits)
 
   -- nothing that is seen of other spaces differs, where the file server lacks the frame
   pub laid_others : ServerLacks s e.frame → (q : ℕ) → q ≢ d → SeenAlike names names s.spaces sp q

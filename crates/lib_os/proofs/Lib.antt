@@ -1,6 +1,7 @@
 pub mod Effects
 pub mod SharedCount
 pub mod SlotsSet
+pub mod SpawnTells
 pub mod WordsTell
 pub mod DescriptorWords
 pub mod BuiltServices
@@ -10,6 +11,9 @@ pub mod Listed
 pub mod SomeState
 pub mod HalfCopied
 pub mod Puts
+pub mod KeptPages
+pub mod ChildsPages
+pub mod SpawnedPages
 pub mod Logical
 pub mod Touching
 pub mod UsesKept
@@ -19,6 +23,12 @@ pub mod Removing
 pub mod Slots
 pub mod Calls
 pub mod Sends
+pub mod SpawnStays
+pub mod SpawnPath
+pub mod SpawnWaits
+pub mod SpawnStops
+pub mod SpawnReplies
+pub mod SpawnedReplied
 pub mod SlotsStand
 pub mod PipesStand
 pub mod Children

@@ -25,7 +25,7 @@ use Rattle.lib_os.specs.declared.place.Place.{Place}
 use Rattle.lib_os.specs.AbstractState.{AbstractState, Born, AbstractSlot, free, unborn, born, serving, Phase, guest, idle, terminal}
 use Rattle.lib_os.specs.Fence.{in_fence, is_resident}
 use Rattle.lib_os.specs.InOrder.{HasOneUse}
-use Rattle.lib_os.specs.LibraryPages.{LibraryPages, IsOwnWritable, has_copy, has_working, is_library_region, region_index}
+use Rattle.lib_os.specs.LibraryPages.{LibraryPages, IsOwnWritable, has_copy, has_working, is_library_region, region_index, has_spawns}
 use Rattle.lib_os.specs.PipeEnds.{EndsStandAt, is_made}
 use Rattle.lib_os.specs.Places.{place_of, place_in_words, is_handlers}
 use Rattle.lib_os.specs.Rows.{Names, EntryRow, lasting, rows_of, counted, logical, page_seen, is_programs, is_shared, IsUsers, Agree, AgreeWhereShared, IsPage}
@@ -473,6 +473,7 @@ born_in l id d registers phase = record {
   regions = λ r. r == region_index UTEXT;
   descriptors = λ fd. None;
   phase = phase;
+  spawning = None;
   blocked = false;
 }
 
@@ -556,6 +557,7 @@ pub record EnvironmentFits (l : Spaces) (id d : ℕ) (registers program : Regs) 
   pub copy : has_copy at ≡ true → IsOwnWritable (rows_of (spaces_of l) d) (page_number PFTEMP)
   pub no_copy : has_copy at ≡ false → rows_of (spaces_of l) d (page_number PFTEMP) ≡ None
   pub no_working : has_working at words ≡ false
+  pub no_spawns : (p : ℕ) → has_spawns at words p ≡ false
   pub stack : is_handlers registers.esp || not (is_resident registers.esp) ≡ true
   pub flags : registers.eflags ≡ user_flags registers.eflags
   pub stands : StandsAt at (view_of (spaces_of l) d) (running_slot id d registers words) (born_in l id d program phase)
@@ -580,7 +582,8 @@ environment_stands l id d registers program words phase at h = record {
     descriptors = λ p entry descriptor is. absurd (none-some entry (sym (no_descriptor l d h.known p descriptor) ∙ is));
     working = λ is. absurd (false≢true (sym h.no_working ∙ is));
     no_working = λ is. none_unknown l d h.known (page_number UTEMP) working_outside (λ same. omega (arith, same)) (λ same. omega (arith, same));
-    none = λ p outside closed no_stack no_copy no_working. none_unknown l d h.known p outside no_stack no_copy;
+    spawns = λ p is. absurd (false≢true (sym (h.no_spawns p) ∙ is));
+    none = λ p outside closed no_stack no_copy no_working no_spawns. none_unknown l d h.known p outside no_stack no_copy;
   });
   regions_have = λ r is. has_region l d r h.table is;
   regions_only = known_region l d h.regions;

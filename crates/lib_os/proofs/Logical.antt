@@ -25,6 +25,8 @@ use Rattle.lib_os.specs.Fence.{in_fence, is_inside, is_page_inside}
 use Rattle.lib_os.specs.Places.{place_of}
 use Rattle.lib_os.specs.Rows.{is_clients, EntryRow, rows_of, counted, logical_by, logical, is_of_descriptor, is_programs, is_shared, as_cow, cow_perm}
 use Rattle.lib_os.specs.Rows.{as_own, descriptor_at, is_making, makes}
+use Rattle.lib_os.specs.SpawnPages.{is_childs}
+use Rattle.lib_os.proofs.KeptPages.{unborne_childs}
 use Rattle.lib_os.proofs.WordsTell.{is_in_handler}
 
 -- ---- pages that a program may have
@@ -195,6 +197,7 @@ fork_plain (step.OpenAwaiting id fd) row plain p = refl
 fork_plain (step.OpenClearing id fd) row plain p = refl
 fork_plain (step.ReadingOpened id fd) row plain p = refl
 fork_plain (step.Piped at) row plain p = refl
+fork_plain (step.Spawning at) row plain p = refl
 
 -- at the other steps of service pipe none is its own
 pub unmade_makes : (at : PipeStep) → makes_pages at ≡ false → (fd : ℕ) → makes at fd ≡ false
@@ -218,6 +221,12 @@ pipe_plain : (at : Step) (row : EntryRow) → is_making_pipe (place.InService se
 unfolding counted
 pipe_plain (step.Piped at) row none p = ap (λ (c : Bool). if c then option_map as_own (row p) else row p) (unmade_making at none p)
 pipe_plain _ row none p = refl
+
+spawn_plain : (path argv : ℕ) (at : Step) (row : EntryRow) → borne_in (place.InService (service.Spawn path argv) at) ≡ None → (p : ℕ) →
+    counted (place.InService (service.Spawn path argv) at) row p ≡ row p
+unfolding counted
+spawn_plain path argv (step.Spawning at) row none p = ap (λ (c : Bool). if c then None else row p) (unborne_childs at none p)
+spawn_plain path argv _ row none p = refl
 
 service_plain : (s : Service) (at : Step) (row : EntryRow) → is_plain (place.InService s at) ≡ true → (p : ℕ) →
     counted (place.InService s at) row p ≡ row p
@@ -243,7 +252,8 @@ service_plain (service.Remove path) at row plain p = refl
 service_plain service.Sync at row plain p = refl
 service_plain (service.Dup old new) at row plain p = refl
 service_plain service.Pipe at row plain p = pipe_plain at row (plain_unmade (place.InService service.Pipe at) plain) p
-service_plain (service.Spawn path argv) at row plain p = refl
+service_plain (service.Spawn path argv) at row plain p =
+    spawn_plain path argv at row (plain_unborne (place.InService (service.Spawn path argv) at) plain) p
 service_plain service.Unknown at row plain p = refl
 
 pub counted_plain : (at : Place) (row : EntryRow) → is_plain at ≡ true → (p : ℕ) → counted at row p ≡ row p
@@ -252,11 +262,17 @@ counted_plain place.Guest row plain p = refl
 counted_plain (place.InService s at) row plain p = service_plain s at row plain p
 counted_plain (place.InHandler at) row plain p = handler_plain at row plain p
 
--- The page of this number counts otherwise than it stands: fork is about to map it onto itself, or service pipe makes it.
+-- The page of this number counts otherwise than it stands: fork is about to map it onto itself, or service pipe makes it, or it is spawn's child's.
 abbrev pub is_remapped : Place → ℕ → Bool
 is_remapped (place.InService service.Fork (step.Remap id page)) p = p == page
 is_remapped (place.InService service.Pipe (step.Piped at)) p = is_making at p
+is_remapped (place.InService (service.Spawn path argv) (step.Spawning at)) p = is_childs at p
 is_remapped _ p = false
+
+-- it is spawn's child's
+abbrev pub is_childs_page : Place → ℕ → Bool
+is_childs_page (place.InService (service.Spawn path argv) (step.Spawning at)) p = is_childs at p
+is_childs_page _ p = false
 
 fork_unremapped : (at : Step) (p : ℕ) → is_plain (place.InService service.Fork at) ≡ true → is_remapped (place.InService service.Fork at) p ≡ false
 fork_unremapped step.Entered p plain = refl
@@ -322,10 +338,16 @@ fork_unremapped (step.OpenAwaiting id fd) p plain = refl
 fork_unremapped (step.OpenClearing id fd) p plain = refl
 fork_unremapped (step.ReadingOpened id fd) p plain = refl
 fork_unremapped (step.Piped at) p plain = refl
+fork_unremapped (step.Spawning at) p plain = refl
 
 pipe_unremapped : (at : Step) (p : ℕ) → is_making_pipe (place.InService service.Pipe at) ≡ false → is_remapped (place.InService service.Pipe at) p ≡ false
 pipe_unremapped (step.Piped at) p none = unmade_making at none p
 pipe_unremapped _ p none = refl
+
+spawn_unremapped : (path argv : ℕ) (at : Step) (p : ℕ) → borne_in (place.InService (service.Spawn path argv) at) ≡ None →
+    is_remapped (place.InService (service.Spawn path argv) at) p ≡ false
+spawn_unremapped path argv (step.Spawning at) p none = unborne_childs at none p
+spawn_unremapped path argv _ p none = refl
 
 pub plain_unremapped : (at : Place) (p : ℕ) → is_plain at ≡ true → is_remapped at p ≡ false
 plain_unremapped place.Guest p plain = refl
@@ -350,31 +372,43 @@ plain_unremapped (place.InService (service.Remove path) at) p plain = refl
 plain_unremapped (place.InService service.Sync at) p plain = refl
 plain_unremapped (place.InService (service.Dup old new) at) p plain = refl
 plain_unremapped (place.InService service.Pipe at) p plain = pipe_unremapped at p (plain_unmade (place.InService service.Pipe at) plain)
-plain_unremapped (place.InService (service.Spawn path argv) at) p plain = refl
+plain_unremapped (place.InService (service.Spawn path argv) at) p plain =
+    spawn_unremapped path argv at p (plain_unborne (place.InService (service.Spawn path argv) at) plain)
 plain_unremapped (place.InService service.Unknown at) p plain = refl
 plain_unremapped (place.InService service.Fork at) p plain = fork_unremapped at p plain
 
--- There it counts as a page that is copied when it is written, or where a pipe is made as a page of its maker's own.
-pub counted_remapped : (at : Place) (row : EntryRow) (p : ℕ) → is_remapped at p ≡ true → is_making_pipe at ≡ false →
+-- There it counts as a page that is copied when it is written, or where a pipe is made as a page of its maker's own; and not, where it is a child's.
+pub counted_remapped : (at : Place) (row : EntryRow) (p : ℕ) → is_remapped at p ≡ true → is_making_pipe at ≡ false → is_childs_page at p ≡ false →
     counted at row p ≡ option_map as_cow (row p)
 unfolding counted
-counted_remapped (place.InService service.Fork (step.Remap id page)) row p is unmade =
+counted_remapped (place.InService service.Fork (step.Remap id page)) row p is unmade mine =
     ap (λ (c : Bool). if c then option_map as_cow (row p) else row p) is
-counted_remapped (place.InService service.Pipe (step.Piped at)) row p is unmade =
+counted_remapped (place.InService service.Pipe (step.Piped at)) row p is unmade mine =
     absurd (let contradiction : true ≡ false = sym is ∙ unmade_making at unmade p in cc)
-counted_remapped _ row p is unmade = absurd (let contradiction : false ≡ true = is in cc)
+counted_remapped (place.InService (service.Spawn path argv) (step.Spawning at)) row p is unmade mine =
+    absurd (let contradiction : true ≡ false = sym is ∙ mine in cc)
+counted_remapped _ row p is unmade mine = absurd (let contradiction : false ≡ true = is in cc)
+
+pub counted_childs : (at : Place) (row : EntryRow) (p : ℕ) → is_childs_page at p ≡ true → counted at row p ≡ None
+unfolding counted
+counted_childs (place.InService (service.Spawn path argv) (step.Spawning at)) row p is = ap (λ (c : Bool). if c then None else row p) is
+counted_childs _ row p is = absurd (let contradiction : false ≡ true = is in cc)
 
 pub counted_made : (at : Place) (row : EntryRow) (p : ℕ) → is_remapped at p ≡ true → is_making_pipe at ≡ true →
     counted at row p ≡ option_map as_own (row p)
 unfolding counted
 counted_made (place.InService service.Pipe (step.Piped at)) row p is making = ap (λ (c : Bool). if c then option_map as_own (row p) else row p) is
 counted_made (place.InService service.Fork (step.Remap id page)) row p is making = absurd (let contradiction : false ≡ true = making in cc)
+counted_made (place.InService (service.Spawn path argv) (step.Spawning at)) row p is making =
+    absurd (let contradiction : false ≡ true = making in cc)
 counted_made _ row p is making = absurd (let contradiction : false ≡ true = is in cc)
 
 -- such a page is a descriptor's, or that of a pipe
 pub made_descriptors : (at : Place) (p : ℕ) → is_remapped at p ≡ true → is_making_pipe at ≡ true → is_of_descriptor p ≡ true
 made_descriptors (place.InService service.Pipe (step.Piped at)) p is making = (both _ _ is).0
 made_descriptors (place.InService service.Fork (step.Remap id page)) p is making = absurd (let contradiction : false ≡ true = making in cc)
+made_descriptors (place.InService (service.Spawn path argv) (step.Spawning at)) p is making =
+    absurd (let contradiction : false ≡ true = making in cc)
 made_descriptors _ p is making = absurd (let contradiction : false ≡ true = is in cc)
 
 pub unborne_unremapped : (at : Place) (p : ℕ) → borne_in at ≡ None → is_making_pipe at ≡ false → is_remapped at p ≡ false
@@ -474,12 +508,19 @@ fork_elsewhere (step.OpenAwaiting id fd) row p other = refl
 fork_elsewhere (step.OpenClearing id fd) row p other = refl
 fork_elsewhere (step.ReadingOpened id fd) row p other = refl
 fork_elsewhere (step.Piped at) row p other = refl
+fork_elsewhere (step.Spawning at) row p other = refl
 
 pipe_elsewhere : (at : Step) (row : EntryRow) (p : ℕ) → is_remapped (place.InService service.Pipe at) p ≡ false →
     counted (place.InService service.Pipe at) row p ≡ row p
 unfolding counted
 pipe_elsewhere (step.Piped at) row p other = ap (λ (c : Bool). if c then option_map as_own (row p) else row p) other
 pipe_elsewhere _ row p other = refl
+
+spawn_elsewhere : (path argv : ℕ) (at : Step) (row : EntryRow) (p : ℕ) → is_remapped (place.InService (service.Spawn path argv) at) p ≡ false →
+    counted (place.InService (service.Spawn path argv) at) row p ≡ row p
+unfolding counted
+spawn_elsewhere path argv (step.Spawning at) row p other = ap (λ (c : Bool). if c then None else row p) other
+spawn_elsewhere path argv _ row p other = refl
 
 service_elsewhere : (s : Service) (at : Step) (row : EntryRow) (p : ℕ) → is_remapped (place.InService s at) p ≡ false →
     counted (place.InService s at) row p ≡ row p
@@ -505,7 +546,7 @@ service_elsewhere (service.Remove path) at row p other = refl
 service_elsewhere service.Sync at row p other = refl
 service_elsewhere (service.Dup old new) at row p other = refl
 service_elsewhere service.Pipe at row p other = pipe_elsewhere at row p other
-service_elsewhere (service.Spawn path argv) at row p other = refl
+service_elsewhere (service.Spawn path argv) at row p other = spawn_elsewhere path argv at row p other
 service_elsewhere service.Unknown at row p other = refl
 
 pub counted_elsewhere : (at : Place) (row : EntryRow) (p : ℕ) → p ≢ page_number PFTEMP → is_remapped at p ≡ false → counted at row p ≡ row p
@@ -640,6 +681,7 @@ fork_some (step.OpenAwaiting id fd) row p x is = itself (row p) x is
 fork_some (step.OpenClearing id fd) row p x is = itself (row p) x is
 fork_some (step.ReadingOpened id fd) row p x is = itself (row p) x is
 fork_some (step.Piped at) row p x is = itself (row p) x is
+fork_some (step.Spawning at) row p x is = itself (row p) x is
 
 own_stands : (o : Option Entry) (x : Entry) → option_map as_own o ≡ Some x → StandsAs o x
 own_stands None x is = absurd (none-some x is)
@@ -660,6 +702,16 @@ pipe_some (step.Piped at) row p x is = by_page (is_making at p) is
     by_page true is = own_stands (row p) x is
     by_page false is = itself (row p) x is
 pipe_some _ row p x is = itself (row p) x is
+
+spawn_some : (path argv : ℕ) (at : Step) (row : EntryRow) (p : ℕ) (x : Entry) →
+    counted (place.InService (service.Spawn path argv) at) row p ≡ Some x → StandsAs (row p) x
+unfolding counted
+spawn_some path argv (step.Spawning at) row p x is = by_page (is_childs at p) is
+  where
+    by_page : (c : Bool) → (if c then None else row p) ≡ Some x → StandsAs (row p) x
+    by_page true is = absurd (none-some x is)
+    by_page false is = itself (row p) x is
+spawn_some path argv _ row p x is = itself (row p) x is
 
 service_some : (s : Service) (at : Step) (row : EntryRow) (p : ℕ) (x : Entry) → counted (place.InService s at) row p ≡ Some x → StandsAs (row p) x
 unfolding counted
@@ -684,7 +736,7 @@ service_some (service.Remove path) at row p x is = itself (row p) x is
 service_some service.Sync at row p x is = itself (row p) x is
 service_some (service.Dup old new) at row p x is = itself (row p) x is
 service_some service.Pipe at row p x is = pipe_some at row p x is
-service_some (service.Spawn path argv) at row p x is = itself (row p) x is
+service_some (service.Spawn path argv) at row p x is = spawn_some path argv at row p x is
 service_some service.Unknown at row p x is = itself (row p) x is
 
 pub counted_some : (at : Place) (row : EntryRow) (p : ℕ) (x : Entry) → counted at row p ≡ Some x → StandsAs (row p) x

@@ -28,7 +28,7 @@ use Rattle.lib_os.specs.Answers.{refused, back_with}
 use Rattle.lib_os.specs.Fence.{is_page_inside}
 use Rattle.lib_os.specs.InOrder.{IsInOrder}
 use Rattle.lib_os.specs.LibraryCall.{library_step}
-use Rattle.lib_os.specs.LibraryPages.{has_copy, has_working}
+use Rattle.lib_os.specs.LibraryPages.{has_copy}
 use Rattle.lib_os.specs.LibrarySteps.{gone_back}
 use Rattle.lib_os.specs.Places.{place_in_words, handler_step_in, place_of, words_at, is_handlers}
 use Rattle.lib_os.specs.Services.{service_of}
@@ -43,7 +43,7 @@ use Rattle.lib_os.proofs.Logical.{is_plain, unborne_plain, page_inside_programs}
 use Rattle.lib_os.proofs.PagesStand.{given_stands}
 use Rattle.lib_os.proofs.PipesStand.{calm_places, calm_unmade, descriptors_turned, is_calm}
 use Rattle.lib_os.proofs.Sends.{received_in, with_message}
-use Rattle.lib_os.proofs.Serving.{service_step, step_in, holds_page, plain_upcall, plain_copy, plain_working, library_moved}
+use Rattle.lib_os.proofs.Serving.{service_step, step_in, holds_page, plain_upcall, plain_copy, plain_working, library_moved, kept_where, pages_kept}
 use Rattle.lib_os.proofs.SlotsStand.{CountsKept, minds_page, born_at, born_live}
 use Rattle.lib_os.proofs.StatesStand.{slot_changed, slot_was_in_order, stopped_settles}
 use Rattle.lib_os.proofs.Waiters.{IsTaken}
@@ -83,7 +83,7 @@ waiting_place k va from id outside names_it =
     place_at k.registers 9 (step.ReadingValue id) outside ∙ ap (λ (x : Service). place.InService x (step.ReadingValue id)) names_it
 
 waiting_own : {names : Names} {s : SpacesState} {k : Slot} {b : Born} (va from id : ℕ) → StandsForBorn names s k b →
-    is_handlers k.registers.esp ≡ false → holds_page (place_of k) ≡ false → is_calm (place_of k) ≡ true →
+    is_handlers k.registers.esp ≡ false → holds_page (place_of k) ≡ kept_where false → is_calm (place_of k) ≡ true →
     IsAboutToWait k b va from id → service_of (record k.registers { eax = 9 }) ≡ service.Receive va from →
     StandsForBorn names s (waiting_in_slot k va from id)
     (record b { phase = in_service (service.Receive va from) receiving; blocked = true })
@@ -112,7 +112,7 @@ waiting_own {names = names} {s = s} {k = k} {b = b} va from id own_part outside 
       descriptors = descriptors_turned names s k.directory (place_of k) (place_of j) b.descriptors calm (ap is_calm at) own_part.descriptors;
       memory = own_part.memory;
       library = library_moved (place_of k) (place_of j) k.extra j.extra (rows_of s k.directory) (plain_copy (place_of k) plain ∙ sym (ap has_copy at))
-          (plain_working (place_of k) k.extra plain ∙ holds ∙ sym (ap (λ (p : Place). has_working p j.extra) at)) own_part.library;
+          (plain_working (place_of k) k.extra plain ∙ holds ∙ sym (ap (λ (p : Place). pages_kept p j.extra) at)) own_part.library;
       regions_have = own_part.regions_have;
       regions_only = own_part.regions_only;
       stack = own_part.stack;
@@ -122,7 +122,7 @@ waiting_own {names = names} {s = s} {k = k} {b = b} va from id own_part outside 
 
 pub waits_stand : {names : Names} {s : KernelState} {a : AbstractState} → StandsFor names s a → (n : ℕ) (b : Born) →
     a.slots n ≡ born b → is_handlers (slot_at s n).registers.esp ≡ false → borne_in (place_of (slot_at s n)) ≡ None →
-    holds_page (place_of (slot_at s n)) ≡ false → is_calm (place_of (slot_at s n)) ≡ true → (va from id : ℕ) → IsAboutToWait (slot_at s n) b va from id →
+    holds_page (place_of (slot_at s n)) ≡ kept_where false → is_calm (place_of (slot_at s n)) ≡ true → (va from id : ℕ) → IsAboutToWait (slot_at s n) b va from id →
     service_of (record (slot_at s n).registers { eax = 9 }) ≡ service.Receive va from →
     StandsFor names
     (with_slot_at s n (record (slot_at s n) {
@@ -193,7 +193,7 @@ told_own {names = names} {s = s} {k = k} {c = c} {d = d} sender taken id value p
           (ap is_calm (told_at k id value perm ∙ taken.at)) own_part.descriptors;
       memory = own_part.memory;
       library = library_moved (place_of k) (place_of j) k.extra j.extra (rows_of s k.directory) (sym (ap has_copy (told_at k id value perm)))
-          (sym (ap (λ (p : Place). has_working p k.extra) (told_at k id value perm))) own_part.library;
+          (sym (ap (λ (p : Place). pages_kept p k.extra) (told_at k id value perm))) own_part.library;
       regions_have = own_part.regions_have;
       regions_only = own_part.regions_only;
       stack = own_part.stack;
@@ -335,7 +335,7 @@ module _ {names : Names} {s : KernelState} {a : AbstractState} {sp : SpacesState
 
 module _ {names : Names} {s : KernelState} {a : AbstractState} (h : StandsFor names s a) (n : ℕ) (b : Born) (at : a.slots n ≡ born b)
     (outside : is_handlers (slot_at s n).registers.esp ≡ false) (unborne : borne_in (place_of (slot_at s n)) ≡ None)
-    (holds : holds_page (place_of (slot_at s n)) ≡ false) (calm : is_calm (place_of (slot_at s n)) ≡ true) (va from : ℕ) (r : HasReceived (slot_at s n) b va from) where
+    (holds : holds_page (place_of (slot_at s n)) ≡ kept_where false) (calm : is_calm (place_of (slot_at s n)) ≡ true) (va from : ℕ) (r : HasReceived (slot_at s n) b va from) where
   -- its step
   pub answer_step : abs_step a n ≡ Some (received_answer a n b r.regs r.message)
   unfolding library_step

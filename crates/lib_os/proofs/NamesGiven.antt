@@ -11,10 +11,11 @@ use Rattle.lib_os.specs.DescriptorPages.{Things}
 use Rattle.lib_os.specs.PipeEnds.{EndsStandAt}
 use Rattle.lib_os.specs.Places.{place_of}
 use Rattle.lib_os.specs.Rows.{AreNamed, IsNamed, Names, ShowsBy, is_of_descriptor, is_pipe_page, is_shared, logical, rows_of}
-use Rattle.lib_os.specs.StandsFor.{HasChildren, IsBorne, StandsFor, StandsForSlot, things_in}
+use Rattle.lib_os.specs.StandsFor.{HasChildren, IsBorneBy, StandsFor, StandsForSlot, things_in}
 use Rattle.lib_os.proofs.PipesStand.{ends_seen}
-use Rattle.lib_os.proofs.SlotsStand.{SeenAlike, born_stands, but_pipes, live_stands, seen_alike}
+use Rattle.lib_os.proofs.SlotsStand.{SeenAlike, born_stands, but_pipes, live_stands}
 use Rattle.jos_base.proofs.Maps.{upd-other}
+use Rattle.lib_os.proofs.Children.{borne_moved, same_child}
 
 -- the frame has the name, which is an object's and no pipe's
 abbrev pub named_too : Names → ℕ → ℕ → Names
@@ -86,26 +87,12 @@ module _ {names : Names} {s : KernelState} {a : AbstractState} (h : StandsFor na
   children_stand = record { borne = borne; have = h.children.have }
     where
       borne : (m id parent : ℕ) → a.slots m ≡ unborn id parent →
-          IsBorne after s.spaces (slot_at s (parent % NENV)) (a.slots (parent % NENV)) (slot_at s m) id parent
+          IsBorneBy after s.spaces (slot_at s (parent % NENV)) (a.slots (parent % NENV)) (slot_at s m) id parent
       borne m id parent at =
-          let c = h.children.borne m id parent at in
           let client = not_first m (unborn id parent) at (λ i same. let contradiction : unborn id parent ≡ serving i = same in cc) in
           let live : is_live (a.slots m) ≡ true = ap (λ (x : AbstractSlot). is_live x) at in
-          record {
-            b = c.b;
-            born_by = c.born_by;
-            named = c.named;
-            step = c.step;
-            at = c.at;
-            borne = c.borne;
-            registers = c.registers;
-            upcall = c.upcall;
-            passed = λ p inside passed. seen_alike (seen m client live) p ∙ c.passed p inside passed;
-            handed = c.handed;
-            rest = c.rest;
-            library = c.library;
-            tables = c.tables;
-          }
+          borne_moved (slot_at s (parent % NENV)) (a.slots (parent % NENV)) (slot_at s m) refl refl refl (λ q. refl)
+          (same_child (slot_at s m) (slot_at s m) refl) (seen m client live) (h.children.borne m id parent at)
 
   -- the pages of pipes stand beside their ends
   ends_stand : (m : ℕ) → EndsStandAt after a.objects (place_of (slot_at s m)) (rows_of s.spaces (slot_at s m).directory) (a.slots m)

@@ -4,7 +4,7 @@
 use Rattle.std.proofs.Common.{◌≡◌, ◌≢◌, ◌∙◌, ◌+◌, ◌-◌, ◌*◌, ◌/◌, ◌%◌, ◌<◌, ◌≤◌, ◌==◌, ◌||◌, ℕ, zero, suc, Bool, true, false}
 use Rattle.std.proofs.Common.{List, [], ◌∷◌, length}
 use Rattle.std.proofs.Common.{refl, sym, ap, subst, arith}
-use Rattle.std.specs.Prelude.{Option, Some, None, is_some, nat_le, nat_lt, not, ◌&&◌, if◌then◌else◌}
+use Rattle.std.specs.Prelude.{Option, Some, None, is_some, nat_le, nat_lt, not, slice_index, ◌&&◌, if◌then◌else◌}
 use Rattle.std.specs.List.{Contains}
 use Rattle.std.specs.Option.{option_map}
 use Rattle.jos_base.specs.declared.numbers.TheConstants.{FDTABLE, NENV, NPTENTRIES, UTEMP}
@@ -17,27 +17,38 @@ use Rattle.jos_base.specs.SystemCalls.{has_write}
 use Rattle.jos_base.specs.Words.{is_exactly, page_number}
 use Rattle.fs_layout.specs.declared.numbers.TheConstants.{MAXBLOCKS}
 use Rattle.lib_os.specs.declared.numbers.TheConstants.{DESCRIPTORS, DISKMAP, MAXOPEN, OPEN_RECORDS, PFTEMP, REQUEST, UXSTACK}
+use Rattle.lib_os.specs.declared.numbers.TheConstants.{SPAWN_GIVEN, SPAWN_HERE, SPAWN_STACK}
+use Rattle.jos_base.specs.declared.memory.PageFault.{PageFault}
+use Rattle.jos_base.specs.declared.registers.Regs.{Regs}
+use Rattle.jos_elf.specs.Headers.{entry_count_of}
+use Rattle.lib_os.specs.declared.place.HandlerStep.{HandlerStep}
+use Rattle.lib_os.specs.declared.place.HandlerStep.TheVariants as handler
+use Rattle.lib_os.specs.declared.service.Service.{Service}
+use Rattle.lib_os.specs.AbstractSpawn.{image_memory, spawned_memory}
+use Rattle.lib_os.specs.SpawnedChild.{IsSpawned, Loads, bytes_replied, is_closed, is_loading, passing}
+use Rattle.lib_os.specs.StandsInHandler.{CopiesOrEnds, EndsAt, StandsBeneath, at_program, copies as by_copy, ends as by_end, in_delivery, in_handing}
 use Rattle.lib_os.specs.AbstractState.{AbstractState, Born, Page, own, named, AbstractSlot, free, unborn, born, serving, TablePlace}
 use Rattle.lib_os.specs.declared.place.PipeStep.{PipeStep}
 use Rattle.lib_os.specs.declared.place.PipeStep.TheVariants as pipe
 use Rattle.lib_os.specs.declared.place.Place.{Place}
 use Rattle.lib_os.specs.declared.place.Place.TheVariants as place
+use Rattle.lib_os.specs.declared.place.Step.{Step}
 use Rattle.lib_os.specs.declared.place.Step.TheVariants as step
 use Rattle.lib_os.specs.declared.service.Service.TheVariants as service
 use Rattle.lib_os.specs.AbstractRun.{pipe_of}
-use Rattle.lib_os.specs.AbstractState.{Object, file, read_end, terminal, write_end}
+use Rattle.lib_os.specs.AbstractState.{Object, file, read_end, terminal, write_end, Phase, in_service, bearing, Spawning, Stage, closed, loading}
 use Rattle.lib_os.specs.PipeEnds.{is_given, is_made, is_on_its_way, pipe_named}
 use Rattle.lib_os.specs.AbstractMemory.{has_page_in}
 use Rattle.lib_os.specs.InOrder.{HasOneUse}
 use Rattle.lib_os.specs.Need.{NeedIsReached, HasUse, in_list, in_entry, as_directory, as_table, EachHasUse, pool_of, need}
-use Rattle.lib_os.specs.Need.{slot_need, born_need, parent_need}
-use Rattle.lib_os.specs.LibraryPages.{is_library_region, IsOwnWritable, has_copy, has_working, region_index}
+use Rattle.lib_os.specs.Need.{slot_need, born_need, child_need, parent_need, spawned_need}
+use Rattle.lib_os.specs.LibraryPages.{View, is_library_region, IsOwnWritable, has_copy, has_spawns, has_working, keeps_beneath, region_index}
 use Rattle.lib_os.specs.Need.{server_need, count_below, is_own, someone, born_passes, has_end_of, has_object_of, has_page_of, is_end_at, is_end_of, is_page_of}
 use Rattle.lib_os.specs.Places.{place_of}
 use Rattle.lib_os.specs.Rows.{Names, EntryRow, IsNamed, rows_of, lasting, is_shared, may_write, page_by, page_seen, seen_where, is_programs}
 use Rattle.lib_os.specs.Rows.{descriptor_at, descriptor_page, descriptor_perm, is_making, is_of_descriptor, makes, pipe_page}
-use Rattle.lib_os.specs.StandsFor.{StandsFor, StandsForSlot, StandsForBorn, StandsForServer, StandsForUnborn, IsBorne, is_passed, has_stack}
-use Rattle.lib_os.specs.StandsFor.{HasServer, is_servers_page, is_servers_region, things_in, view_of}
+use Rattle.lib_os.specs.StandsFor.{StandsFor, StandsForSlot, StandsForBorn, StandsForServer, StandsForUnborn, IsBorne, IsBorneBy, by_fork, by_spawn, is_passed, has_stack}
+use Rattle.lib_os.specs.StandsFor.{HasServer, is_servers_page, is_servers_region, things_in, view_of, borne_at, IsBearing, StandsAt, StandsAtStep}
 use Rattle.std.proofs.lemmas.Bool.{false≢true}
 use Rattle.std.proofs.lemmas.Bool.Decides.{nat_tests}
 use Rattle.std.proofs.lemmas.Option.{none-some, same_Some}
@@ -45,6 +56,10 @@ use Rattle.lib_os.proofs.Covering.{no_more_frames, filled, times_in}
 use Rattle.lib_os.proofs.BytesRead.{remapped}
 use Rattle.lib_os.proofs.EndsHeld.{born_not_first, given_from, live as live_born, seen_as}
 use Rattle.lib_os.proofs.EntryWords.{row_entry}
+use Rattle.lib_os.proofs.Children.{spawns_so}
+use Rattle.lib_os.proofs.SpawnedPages.{own_among, parents_page, regions_among}
+use Rattle.lib_os.proofs.KeptPages.{has_spawns_so, is_spawns, number_aside}
+use Rattle.lib_os.proofs.Working.{spawns_are}
 use Rattle.lib_os.proofs.Logical.{clients_so, is_plain, is_remapped, logical_beside, logical_plain}
 use Rattle.lib_os.proofs.Serving.{words_of_none}
 use Rattle.lib_os.proofs.SharedCount.{stands_shared}
@@ -173,6 +188,33 @@ is_working p = is_at (Some (page_number UTEMP)) (0 + p)
 abbrev is_librarys : ℕ → ℕ
 is_librarys p = is_stack p + (is_copy p + is_working p)
 
+-- the pages that spawn keeps beside them
+abbrev is_given_page : ℕ → ℕ
+is_given_page p = is_at (Some (page_number SPAWN_GIVEN)) (0 + p)
+
+abbrev is_childs_stack : ℕ → ℕ
+is_childs_stack p = is_at (Some (page_number SPAWN_STACK)) (0 + p)
+
+abbrev is_here_page : ℕ → ℕ
+is_here_page p = is_at (Some (page_number SPAWN_HERE)) (0 + p)
+
+-- where no copy is made
+abbrev is_kept : ℕ → ℕ
+is_kept p = is_stack p + (is_working p + (is_given_page p + (is_childs_stack p + is_here_page p)))
+
+five_kept : total page_limit is_kept ≤ 5
+five_kept =
+    let first = total-sum page_limit is_stack (λ p. is_working p + (is_given_page p + (is_childs_stack p + is_here_page p))) in
+    let second = total-sum page_limit is_working (λ p. is_given_page p + (is_childs_stack p + is_here_page p)) in
+    let third = total-sum page_limit is_given_page (λ p. is_childs_stack p + is_here_page p) in
+    let fourth = total-sum page_limit is_childs_stack is_here_page in
+    let stack = at_most_once page_limit 0 (Some (page_number UXSTACK)) in
+    let working = at_most_once page_limit 0 (Some (page_number UTEMP)) in
+    let given = at_most_once page_limit 0 (Some (page_number SPAWN_GIVEN)) in
+    let childs = at_most_once page_limit 0 (Some (page_number SPAWN_STACK)) in
+    let here = at_most_once page_limit 0 (Some (page_number SPAWN_HERE)) in
+    omega (arith, first, second, third, fourth, stack, working, given, childs, here)
+
 three_beside : total page_limit is_librarys ≤ 3
 three_beside =
     let sum = total-sum page_limit is_stack (λ p. is_copy p + is_working p) in
@@ -215,14 +257,22 @@ made_beside ends =
     let other = at_most_once page_limit 0 (Some (pipe_page ends.1)) in
     omega (arith, first, second, third, fourth, stack, reading, writing, one, other)
 
--- beside the pages of a program
+-- beside the pages of a program, by whether the handler of page faults has a copy
+abbrev beside_by : Bool → ℕ → ℕ
+beside_by true p = is_librarys p
+beside_by false p = is_kept p
+
 abbrev beside : Place → ℕ → ℕ
 beside (place.InService service.Pipe (step.Piped at)) p = is_stack p + is_made_of (ends_made at) p
-beside _ p = is_librarys p
+beside at p = beside_by (has_copy at) p
+
+five_by : (c : Bool) → total page_limit (beside_by c) ≤ 5
+five_by true = let three = three_beside in omega (arith, three)
+five_by false = five_kept
 
 five_beside : (at : Place) → total page_limit (beside at) ≤ 5
 five_beside (place.InService service.Pipe (step.Piped at)) = made_beside (ends_made at)
-five_beside _ = let three = three_beside in omega (arith, three)
+five_beside at = five_by (has_copy at)
 
 -- a page of a descriptor's, or of its pipe's
 pages_of : (p e : ℕ) → is_of_descriptor p ≡ true → descriptor_at p ≡ e → 1 ≤ is_page_at (descriptor_page e) p + is_page_at (pipe_page e) p
@@ -265,9 +315,42 @@ ends_of _ p of is = absurd (false≢true is)
 
 -- ---- an environment's pages
 
-own_wanted : (names : Names) (s : SpacesState) (k : Slot) (b : Born) → StandsForBorn names s k b → (p : ℕ) →
+-- beneath the handler, where that copies, stands no spawn
+beneath_alone : (v : View) (k : Slot) (b : Born) → StandsBeneath v k b → (p : ℕ) → keeps_beneath k.extra p ≡ false
+beneath_alone v k b (at_program h) p = ap (λ (words : List ℕ). keeps_beneath words p) h.words
+beneath_alone v k b (in_delivery s done word at h) p =
+    sym (spawns_are k.registers k.extra p) ∙ ap (λ (q : Place). has_spawns q k.extra p) at ∙ by_service s
+  where
+    by_service : (s : Service) → has_spawns (place.InService s (step.Delivering done word)) k.extra p ≡ false
+    by_service (service.Spawn path argv) = refl
+    by_service _ = refl
+beneath_alone v k b (in_handing s done count word at h) p =
+    sym (spawns_are k.registers k.extra p) ∙ ap (λ (q : Place). has_spawns q k.extra p) at ∙ by_service s
+  where
+    by_service : (s : Service) → has_spawns (place.InService s (step.PuttingBytes done count word)) k.extra p ≡ false
+    by_service (service.Spawn path argv) = refl
+    by_service _ = refl
+
+ends_uncopied : (h : HandlerStep) (fault : PageFault) (regs : Regs) → has_copy (place.InHandler h) ≡ true → EndsAt h fault regs → ⊥
+ends_uncopied (handler.Loading va index) fault regs copy at = at
+ends_uncopied (handler.Storing va index word) fault regs copy at = at
+ends_uncopied (handler.MappingOver va) fault regs copy at = at
+ends_uncopied (handler.Unmapping va) fault regs copy at = at
+ends_uncopied _ fault regs copy at = absurd (false≢true copy)
+
+copies_alone : (at : Place) (v : View) (k : Slot) (b : Born) → has_copy at ≡ true → StandsAt at v k b → (p : ℕ) → has_spawns at k.extra p ≡ false
+copies_alone (place.InHandler step) v k b copy stands p = by_way stands.way
+  where
+    by_way : CopiesOrEnds step v k b stands.fault stands.regs → keeps_beneath k.extra p ≡ false
+    by_way (by_copy way) = beneath_alone v (record k { registers = stands.regs }) b way.beneath p
+    by_way (by_end way) = absurd (ends_uncopied step stands.fault stands.regs copy way.at)
+copies_alone _ v k b copy stands p = absurd (false≢true copy)
+
+-- where spawn keeps no page
+own_wanted : (names : Names) (s : SpacesState) (k : Slot) (b : Born) → StandsForBorn names s k b →
+    ((p : ℕ) → has_spawns (place_of k) k.extra p ≡ false) → (p : ℕ) →
     bit_of (is_some (page_own s k p)) ≤ bit_of (is_own (page_seen names s k.directory p)) + is_librarys p
-own_wanted names s k b h p = by_inside (is_programs p) refl
+own_wanted names s k b h none_kept p = by_inside (is_programs p) refl
   where
     nothing : (t : Bool) → rows_of s k.directory p ≡ None → bit_of (is_some (where_so t (own_frame (rows_of s k.directory p)))) ≡ 0
     nothing false none = refl
@@ -286,7 +369,8 @@ own_wanted names s k b h p = by_inside (is_programs p) refl
             omega (arith, zeros)
         by_descriptor false no_descriptor =
             let none =
-            h.library.none p outside no_descriptor (grind (arith, nat_tests, stack)) (grind (arith, nat_tests, copy)) (grind (arith, nat_tests, working)) in
+            h.library.none p outside no_descriptor (grind (arith, nat_tests, stack)) (grind (arith, nat_tests, copy)) (grind (arith, nat_tests, working))
+            (none_kept p) in
             let zeros = nothing (is_live k) none in
             omega (arith, zeros)
 
@@ -297,12 +381,74 @@ own_wanted names s k b h p = by_inside (is_programs p) refl
         let beside = by_page (page_number UXSTACK == 0 + p) (page_number PFTEMP == 0 + p) (page_number UTEMP == 0 + p) refl refl refl is in
         omega (arith, beside)
 
+-- where no copy is made
+own_kept : (names : Names) (s : SpacesState) (k : Slot) (b : Born) → StandsForBorn names s k b → has_copy (place_of k) ≡ false → (p : ℕ) →
+    bit_of (is_some (page_own s k p)) ≤ bit_of (is_own (page_seen names s k.directory p)) + is_kept p
+own_kept names s k b h uncopied p = by_inside (is_programs p) refl
+  where
+    nothing : (t : Bool) → rows_of s k.directory p ≡ None → bit_of (is_some (where_so t (own_frame (rows_of s k.directory p)))) ≡ 0
+    nothing false none = refl
+    nothing true none = ap (λ (o : Option Entry). bit_of (is_some (own_frame o))) none
+
+    none_kept : is_spawns p ≡ false → has_spawns (place_of k) k.extra p ≡ false
+    none_kept other = by_test (has_spawns (place_of k) k.extra p) refl
+      where
+        by_test : (t : Bool) → has_spawns (place_of k) k.extra p ≡ t → t ≡ false
+        by_test false is = refl
+        by_test true is = absurd (false≢true (sym other ∙ has_spawns_so (place_of k) k.extra p is))
+
+    none_there : is_programs p ≡ false → is_of_descriptor p ≡ false → p ≢ page_number UXSTACK → p ≢ page_number UTEMP → is_spawns p ≡ false →
+        (t : Bool) → (p == page_number PFTEMP) ≡ t → rows_of s k.directory p ≡ None
+    none_there outside no_descriptor stack working other true copy =
+        let same : p ≡ page_number PFTEMP = grind (arith, nat_tests) in ap (rows_of s k.directory) same ∙ h.library.no_copy uncopied
+    none_there outside no_descriptor stack working other false copy =
+        h.library.none p outside no_descriptor stack (grind (arith, nat_tests)) working (none_kept other)
+
+    by_page : (c d e f g : Bool) → (page_number UXSTACK == 0 + p) ≡ c → (page_number UTEMP == 0 + p) ≡ d → (page_number SPAWN_GIVEN == 0 + p) ≡ e →
+        (page_number SPAWN_STACK == 0 + p) ≡ f → (page_number SPAWN_HERE == 0 + p) ≡ g → is_programs p ≡ false →
+        bit_of (is_some (page_own s k p)) ≤ bit_of c + (bit_of d + (bit_of e + (bit_of f + bit_of g)))
+    by_page true d e f g stack working given childs here outside = let one = bit_small (is_some (page_own s k p)) in omega (arith, one)
+    by_page false true e f g stack working given childs here outside = let one = bit_small (is_some (page_own s k p)) in omega (arith, one)
+    by_page false false true f g stack working given childs here outside = let one = bit_small (is_some (page_own s k p)) in omega (arith, one)
+    by_page false false false true g stack working given childs here outside = let one = bit_small (is_some (page_own s k p)) in omega (arith, one)
+    by_page false false false false true stack working given childs here outside = let one = bit_small (is_some (page_own s k p)) in omega (arith, one)
+    by_page false false false false false stack working given childs here outside = by_descriptor (is_of_descriptor p) refl
+      where
+        no_given : (p == page_number SPAWN_GIVEN) ≡ false
+        no_given = grind (arith, nat_tests, given)
+
+        no_childs : (p == page_number SPAWN_STACK) ≡ false
+        no_childs = grind (arith, nat_tests, childs)
+
+        no_here : (p == page_number SPAWN_HERE) ≡ false
+        no_here = grind (arith, nat_tests, here)
+
+        by_descriptor : (t : Bool) → is_of_descriptor p ≡ t → bit_of (is_some (page_own s k p)) ≤ 0
+        by_descriptor true descriptor =
+            let zeros = descriptor_unowned (is_live k) (rows_of s k.directory p) (λ e is. h.library.descriptors p e descriptor is) in
+            omega (arith, zeros)
+        by_descriptor false no_descriptor =
+            let none =
+            none_there outside no_descriptor (grind (arith, nat_tests, stack)) (grind (arith, nat_tests, working))
+            (λ i. no_given i || no_childs i || no_here i) (p == page_number PFTEMP) refl in
+            let zeros = nothing (is_live k) none in
+            omega (arith, zeros)
+
+    by_inside : (inside : Bool) → is_programs p ≡ inside → bit_of (is_some (page_own s k p))
+        ≤ bit_of (is_own (seen_where inside (option_map (page_by names s.pages) (rows_of s k.directory p)))) + is_kept p
+    by_inside true is = let mine = so_of_page names s.pages (is_live k) (rows_of s k.directory p) in omega (arith, mine)
+    by_inside false is =
+        let beside =
+        by_page (page_number UXSTACK == 0 + p) (page_number UTEMP == 0 + p) (page_number SPAWN_GIVEN == 0 + p) (page_number SPAWN_STACK == 0 + p)
+        (page_number SPAWN_HERE == 0 + p) refl refl refl refl refl is in
+        omega (arith, beside)
+
 -- without a copy, and without a page in which bytes are kept, only the stack is beside the program's
 stack_alone : (names : Names) (s : SpacesState) (k : Slot) (b : Born) → StandsForBorn names s k b → has_copy (place_of k) ≡ false →
-    has_working (place_of k) k.extra ≡ false → (p : ℕ) →
+    has_working (place_of k) k.extra ≡ false → ((p : ℕ) → has_spawns (place_of k) k.extra p ≡ false) → (p : ℕ) →
     bit_of (is_some (page_own s k p)) ≤ bit_of (is_own (page_seen names s k.directory p)) + is_stack p
-stack_alone names s k b h copy working p =
-    by_tests (page_number PFTEMP == 0 + p) (page_number UTEMP == 0 + p) refl refl (own_wanted names s k b h p)
+stack_alone names s k b h copy working none_kept p =
+    by_tests (page_number PFTEMP == 0 + p) (page_number UTEMP == 0 + p) refl refl (own_wanted names s k b h none_kept p)
   where
     nothing : (t : Bool) → rows_of s k.directory p ≡ None → bit_of (is_some (where_so t (own_frame (rows_of s k.directory p)))) ≡ 0
     nothing false none = refl
@@ -326,6 +472,11 @@ page_wanted names s k b h p = by_place (place_of k) refl
     unmade : is_made_page (place_of k) p ≡ false → bit_of (is_some (page_of s k p)) ≡ bit_of (is_some (page_own s k p))
     unmade off = ap (λ (o : Option ℕ). bit_of (is_some o)) (unmade_page s k p off)
 
+    own_by : (c : Bool) → has_copy (place_of k) ≡ c →
+        bit_of (is_some (page_own s k p)) ≤ bit_of (is_own (page_seen names s k.directory p)) + beside_by c p
+    own_by true copy = own_wanted names s k b h (copies_alone (place_of k) (view_of s k.directory) k b copy h.at) p
+    own_by false copy = own_kept names s k b h copy p
+
     by_place : (at : Place) → place_of k ≡ at → bit_of (is_some (page_of s k p)) ≤ bit_of (is_own (page_seen names s k.directory p)) + beside at p
     by_place (place.InService service.Pipe (step.Piped at)) is = by_made (is_making at p) refl
       where
@@ -337,11 +488,12 @@ page_wanted names s k b h p = by_place (place_of k) refl
             let most = bit_small (is_some (page_of s k p)) in
             omega (arith, one, most)
         by_made false off =
-            let most = stack_alone names s k b h (ap has_copy is) (ap (λ (q : Place). has_working q k.extra) is) p in
+            let most = stack_alone names s k b h (ap has_copy is) (ap (λ (q : Place). has_working q k.extra) is)
+            (λ r. ap (λ (q : Place). has_spawns q k.extra r) is) p in
             let same = unmade (ap (λ (q : Place). is_made_page q p) is ∙ off) in
             omega (arith, most, same)
     by_place at is =
-        let most = own_wanted names s k b h p in
+        let most = own_by (has_copy at) (ap has_copy is) in
         let same = unmade (ap (λ (q : Place). is_made_page q p) is ∙ never (is_of_descriptor p)) in
         omega (arith, most, same)
 
@@ -648,19 +800,138 @@ module _ (names : Names) (s : SpacesState) (parent : Slot) (parent_is : Abstract
       let beside = three_beside in
       omega (arith, one, tables, pages, sum, beside)
 
+-- ---- a child that spawn makes
+
+module _ (names : Names) (s : SpacesState) (parent : Slot) (parent_is : AbstractSlot) (k : Slot) (id parent_id : ℕ)
+    (c : IsSpawned names s parent parent_is k id parent_id) (guest : place_of k ≡ place.Guest) (pieces : List (List ℕ)) where
+  abbrev child_memory : ℕ → Option Page
+  child_memory = image_memory c.image pieces
+
+  spawned_nothing : (t : Bool) (p : ℕ) → rows_of s k.directory p ≡ None → bit_of (is_some (where_so t (own_frame (rows_of s k.directory p)))) ≡ 0
+  spawned_nothing false p none = refl
+  spawned_nothing true p none = ap (λ (o : Option Entry). bit_of (is_some (own_frame o))) none
+
+  spawned_page : StandsForBorn names s parent c.b → (p : ℕ) → bit_of (is_some (page_own s k p)) ≤ bit_of (is_own (child_memory p)) + is_stack p
+  spawned_page h p = by_inside (is_programs p) refl
+    where
+      by_handed : is_of_descriptor p ≡ true → (t : Bool) → nat_le c.progress.passed p ≡ t → bit_of (is_some (page_own s k p)) ≡ 0
+      by_handed descriptor true passed =
+          descriptor_unowned (is_live k) (rows_of s k.directory p)
+          (λ e is. h.library.descriptors p e descriptor (sym (c.handed p descriptor passed) ∙ is))
+      by_handed descriptor false off = spawned_nothing (is_live k) p (c.rest p descriptor off)
+
+      by_stack : (t : Bool) → (page_number UXSTACK == 0 + p) ≡ t → is_programs p ≡ false → bit_of (is_some (page_own s k p)) ≤ bit_of t
+      by_stack true stack outside = bit_small (is_some (page_own s k p))
+      by_stack false stack outside = by_descriptor (is_of_descriptor p) refl
+        where
+          by_descriptor : (t : Bool) → is_of_descriptor p ≡ t → bit_of (is_some (page_own s k p)) ≤ 0
+          by_descriptor true descriptor = let none = by_handed descriptor (nat_le c.progress.passed p) refl in omega (arith, none)
+          by_descriptor false no_descriptor =
+              let none = spawned_nothing (is_live k) p (c.none p outside no_descriptor (grind (arith, nat_tests, stack))) in omega (arith, none)
+
+      of_image : is_programs p ≡ true → bit_of (is_some (page_own s k p)) ≤ bit_of (is_own (child_memory p))
+      of_image inside =
+          let seen : page_seen names s k.directory p ≡ option_map (page_by names s.pages) (rows_of s k.directory p) =
+          ap (λ (t : Bool). seen_where t (option_map (page_by names s.pages) (rows_of s k.directory p))) inside in
+          let mine = subst (λ (x : Option Page). bit_of (is_some (page_own s k p)) ≤ bit_of (is_own x)) (sym seen ∙ c.memory p inside)
+          (so_of_page names s.pages (is_live k) (rows_of s k.directory p)) in
+          let among = own_among c.b c.image c.progress c.file pieces p in
+          omega (arith, mine, among)
+
+      by_inside : (inside : Bool) → is_programs p ≡ inside → bit_of (is_some (page_own s k p)) ≤ bit_of (is_own (child_memory p)) + is_stack p
+      by_inside true is = let mine = of_image is in omega (arith, mine)
+      by_inside false is = let beside = by_stack (page_number UXSTACK == 0 + p) refl is in omega (arith, beside)
+
+  spawned_wanted : StandsForBorn names s parent c.b → (p : ℕ) → bit_of (is_some (page_of s k p)) ≤ bit_of (is_own (child_memory p)) + is_stack p
+  spawned_wanted h p =
+      let most = spawned_page h p in
+      let same = ap (λ (o : Option ℕ). bit_of (is_some o))
+      (unmade_page s k p (ap (λ (q : Place). is_made_page q p) guest ∙ never (is_of_descriptor p))) in
+      omega (arith, most, same)
+
+  spawned_frames : StandsForBorn names s parent c.b → slot_frames s k ≤ spawned_need c.b c.image pieces
+  spawned_frames h =
+      let one = bit_small (is_some (directory_of k)) in
+      let tables = total-mono region_limit (λ r. bit_of (is_some (table_of s k r)))
+      (λ r. bit_of (has_page_in (spawned_memory c.b c.image pieces) r || is_library_region r))
+      (λ r lt. so_of_region (is_live k) (s.regions k.directory r) (has_page_in (spawned_memory c.b c.image pieces) r || is_library_region r)
+      (λ table. regions_among c.b c.image (passing (entry_count_of (slice_index c.image.header)) 0) c.file pieces r (c.tables r table))) in
+      let pages = total-mono page_limit (λ p. bit_of (is_some (page_of s k p)))
+      (λ p. bit_of (is_own (child_memory p)) + is_stack p) (λ p lt. spawned_wanted h p) in
+      let sum = total-sum page_limit (λ p. bit_of (is_own (child_memory p))) is_stack in
+      let stack = at_most_once page_limit 0 (Some (page_number UXSTACK)) in
+      omega (arith, one, tables, pages, sum, stack)
+
 -- only the first slot serves
 serving_first : {names : Names} {s : KernelState} {a : AbstractState} → StandsFor names s a → (n id : ℕ) → StandsForServer (slot_at s n) id → 0 ≡ n
 serving_first h n id so = sym (ap (λ (i : ℕ). i % NENV) (so.id_is ∙ so.first)) ∙ h.tabled.ids n so.lives
 
+-- who bears a child at a step of fork is in fork
+in_fork_of : {k : Slot} {b : Born} (child id : ℕ) → ◌≡◌ {A = Option ℕ} (Some child) (Some id) → IsBearing k b child →
+    b.phase ≡ in_service service.Fork (bearing (id % NENV))
+in_fork_of child id is bearing_it = bearing_it.phase ∙ ap (λ (m : ℕ). in_service service.Fork (bearing (m % NENV))) (same_Some child id is)
+
+forks_at : (v : View) (k : Slot) (b : Born) (at : Step) (id : ℕ) → borne_at at ≡ Some id → StandsAtStep v k b service.Fork at →
+    b.phase ≡ in_service service.Fork (bearing (id % NENV))
+forks_at v k b (step.ForkRegion child region) id is h = in_fork_of child id is h.0
+forks_at v k b (step.ForkEntry child page) id is h = in_fork_of child id is h.0
+forks_at v k b (step.MapChild child page perm) id is h = in_fork_of child id is h.0
+forks_at v k b (step.Remap child page) id is h = in_fork_of child id is h.0
+forks_at v k b (step.ChildStack child) id is h = in_fork_of child id is h
+forks_at v k b (step.ChildUpcall child) id is h = in_fork_of child id is h
+forks_at v k b (step.ChildRuns child) id is h = in_fork_of child id is h
+forks_at v k b _ id is h = absurd (none-some id is)
+
 wanted_frames : (names : Names) (s : KernelState) (a : AbstractState) → StandsFor names s a → (n : ℕ) → 0 ≢ n → (slot : AbstractSlot) →
     a.slots n ≡ slot → StandsForSlot names s.spaces (slot_at s n) slot → slot_frames s.spaces (slot_at s n) ≤ slot_need a slot
 wanted_frames names s a h n other (free id) at k = let none = ap (slot_frames s.spaces) k ∙ free_frames s.spaces id in omega (arith, none)
-wanted_frames names s a h n other (unborn id parent) at k =
-    let child = h.children.borne n id parent at in
-    let own = born_at h (parent % NENV) child.b child.born_by in
-    subst (λ (x : AbstractSlot). slot_frames s.spaces (slot_at s n) ≤ parent_need x) (sym child.born_by)
-    (child_frames names s.spaces (slot_at s (parent % NENV)) (a.slots (parent % NENV)) (slot_at s n) id parent child
-    (words_of_none (slot_at s n).registers (slot_at s n).extra k.stack k.words) h.in_order.frames own)
+wanted_frames names s a h n other (unborn id parent) at k = by_way (h.children.borne n id parent at)
+  where
+    parent_at : Slot
+    parent_at = slot_at s (parent % NENV)
+
+    view : View
+    view = view_of s.spaces parent_at.directory
+
+    by_way : IsBorneBy names s.spaces parent_at (a.slots (parent % NENV)) (slot_at s n) id parent →
+        slot_frames s.spaces (slot_at s n) ≤ parent_need (a.slots (parent % NENV))
+    by_way (by_fork child) =
+        let own = born_at h (parent % NENV) child.b child.born_by in
+        let forks : child.b.phase ≡ in_service service.Fork (bearing (id % NENV)) =
+        forks_at view parent_at child.b child.step id child.borne
+        (subst (λ (place : Place). StandsAt place view parent_at child.b) child.at own.at) in
+        subst (λ (x : AbstractSlot). slot_frames s.spaces (slot_at s n) ≤ parent_need x) (sym child.born_by)
+        (subst (λ (phase : Phase). slot_frames s.spaces (slot_at s n) ≤ child_need child.b phase child.b.spawning) (sym forks)
+        (child_frames names s.spaces parent_at (a.slots (parent % NENV)) (slot_at s n) id parent child
+        (words_of_none (slot_at s n).registers (slot_at s n).extra k.stack k.words) h.in_order.frames own))
+    by_way (by_spawn child) =
+        subst (λ (x : AbstractSlot). slot_frames s.spaces (slot_at s n) ≤ parent_need x) (sym child.born_by)
+        (by_loads child.b.spawning (bytes_replied child.b.phase) child.file refl child.loads)
+      where
+        own_part : StandsForBorn names s.spaces parent_at child.b
+        own_part = born_at h (parent % NENV) child.b child.born_by
+
+        guest : place_of (slot_at s n) ≡ place.Guest
+        guest = words_of_none (slot_at s n).registers (slot_at s n).extra k.stack k.words
+
+        so : (stage : Stage) × (child.b.phase ≡ in_service (service.Spawn child.path child.argv) stage)
+        so =
+            spawns_so view parent_at child.b child.path child.argv child.at_step
+            (subst (λ (place : Place). StandsAt place view parent_at child.b) child.at own_part.at)
+
+        by_found : (found : Spawning) (pieces : List (List ℕ)) → child.b.spawning ≡ Some found →
+            child_need child.b (in_service (service.Spawn child.path child.argv) so.0) (Some found) ≡ spawned_need child.b child.image pieces →
+            slot_frames s.spaces (slot_at s n) ≤ child_need child.b child.b.phase child.b.spawning
+        by_found found pieces same needs =
+            let most = spawned_frames names s.spaces parent_at (a.slots (parent % NENV)) (slot_at s n) id parent child guest pieces own_part in
+            let wants : child_need child.b child.b.phase child.b.spawning ≡ spawned_need child.b child.image pieces =
+            (λ i. child_need child.b (so.1 i) (same i)) ∙ needs in
+            omega (arith, most, wants)
+
+        by_loads : (found : Option Spawning) (more bytes : List ℕ) → child.b.spawning ≡ found → Loads (id % NENV) child.image found more bytes →
+            slot_frames s.spaces (slot_at s n) ≤ child_need child.b child.b.phase child.b.spawning
+        by_loads _ _ _ same (is_loading fd pieces more) = by_found (loading fd child.image (id % NENV) pieces) pieces same refl
+        by_loads _ _ _ same (is_closed pieces more) = by_found (closed child.image (id % NENV) pieces) pieces same refl
 wanted_frames names s a h n other (born b) at k = born_frames names s.spaces (slot_at s n) b k
 wanted_frames names s a h n other (serving id) at k = absurd (other (serving_first h n id k))
 
@@ -826,15 +1097,15 @@ module _ (names : Names) (s : KernelState) (a : AbstractState) (h : StandsFor na
           by_given (ap (rows_of s.spaces (slot n).directory) here ∙ stands) (is_given (place_of (slot n)) (descriptor_at p)) refl
 
   -- a shared page of an environment's space has its name, where it is not made, nor the copy that the handler of page faults makes
-  its_name : (n p : ℕ) (e : Entry) (b : Born) → a.slots n ≡ born b → p ≢ page_number PFTEMP →
+  its_name : (n p : ℕ) (e : Entry) (b : Born) → a.slots n ≡ born b → p ≢ page_number PFTEMP → is_spawns p ≡ false →
       rows_of s.spaces (slot n).directory p ≡ Some e → is_shared e.perm ≡ true → is_made_page (place_of (slot n)) p ≡ false →
       IsNamed names s.spaces.pages a.shared (things_in s a) a.next_name p e.frame
-  its_name n p e b at aside stands shared unmade = by_descriptor (is_of_descriptor p) refl
+  its_name n p e b at aside no_spawns stands shared unmade = by_descriptor (is_of_descriptor p) refl
     where
       by_step : is_of_descriptor p ≡ false → (c : Bool) → is_remapped (place_of (slot n)) p ≡ c →
           IsNamed names s.spaces.pages a.shared (things_in s a) a.next_name p e.frame
       by_step none true twice =
-          let it = remapped names s a n b h at p none twice in
+          let it = remapped names s a n b h at p none no_spawns twice in
           let entry_is : it.entry ≡ e = same_Some it.entry e (sym it.stands ∙ stands) in
           absurd (false≢true (sym it.own_page ∙ ap (λ (x : Entry). is_shared x.perm) entry_is ∙ shared))
       by_step none false other =
@@ -856,7 +1127,7 @@ module _ (names : Names) (s : KernelState) (a : AbstractState) (h : StandsFor na
     b = b;
     at = at;
     has = by_inside (is_programs p) refl;
-    name = its_name n p e b at (no_copy (has_copy (place_of (slot n))) refl) stands shared unmade;
+    name = its_name n p e b at (no_copy (has_copy (place_of (slot n))) refl) (no_spawns (is_spawns p) refl) stands shared unmade;
   }
     where
       row : EntryRow
@@ -870,6 +1141,19 @@ module _ (names : Names) (s : KernelState) (a : AbstractState) (h : StandsFor na
       no_working true has same = own_alone row p (page_number UTEMP) e (k.library.working has) same stands shared
       no_working false has same = none-some e (sym (k.library.no_working has) ∙ sym (ap row same) ∙ stands)
 
+      -- it is none that spawn keeps
+      unkept : (c : Bool) → has_spawns (place_of (slot n)) (slot n).extra p ≡ c → has_spawns (place_of (slot n)) (slot n).extra p ≡ false
+      unkept false none = none
+      unkept true has = absurd (own_alone row p p e (k.library.spawns p has) refl stands shared)
+
+      no_spawns : (c : Bool) → is_spawns p ≡ c → is_spawns p ≡ false
+      no_spawns false none = none
+      no_spawns true one =
+          let it = number_aside p one in
+          absurd (none-some e (sym
+          (k.library.none p it.outside it.no_descriptor it.no_stack it.no_copy it.no_working
+          (unkept (has_spawns (place_of (slot n)) (slot n).extra p) refl)) ∙ stands))
+
       by_inside : (inside : Bool) → is_programs p ≡ inside → Has b (names.name e.frame)
       by_inside true inside =
           page_had b p (names.name e.frame) (has_write e.perm) within (k.memory p ∙ seen_shared n p e inside stands shared)
@@ -881,12 +1165,14 @@ module _ (names : Names) (s : KernelState) (a : AbstractState) (h : StandsFor na
           by_descriptor false no_descriptor = absurd (none-some e (sym
               (k.library.none p outside no_descriptor
               (λ same. own_alone row p (page_number UXSTACK) e k.library.stack same stands shared)
-              (no_copy (has_copy (place_of (slot n))) refl) (no_working (has_working (place_of (slot n)) (slot n).extra) refl)) ∙ stands))
+              (no_copy (has_copy (place_of (slot n))) refl) (no_working (has_working (place_of (slot n)) (slot n).extra) refl)
+              (unkept (has_spawns (place_of (slot n)) (slot n).extra p) refl)) ∙ stands))
 
-  -- and in a child's it is one that its parent has
-  of_child : (n p : ℕ) (e : Entry) → 0 ≢ n → is_live (slot n) ≡ true → p < page_limit → rows_of s.spaces (slot n).directory p ≡ Some e →
-      is_shared e.perm ≡ true → (id parent : ℕ) → a.slots n ≡ unborn id parent → StandsForUnborn (slot n) id parent → IsHad p e
-  of_child n p e other live within stands shared id parent is k = record {
+  -- and in that of a child it is one that its parent has, in fork
+  of_forked : (n p : ℕ) (e : Entry) → 0 ≢ n → is_live (slot n) ≡ true → p < page_limit → rows_of s.spaces (slot n).directory p ≡ Some e →
+      is_shared e.perm ≡ true → (id parent : ℕ) → StandsForUnborn (slot n) id parent →
+      IsBorne names s.spaces (slot (parent % NENV)) (a.slots (parent % NENV)) (slot n) id parent → IsHad p e
+  of_forked n p e other live within stands shared id parent k child = record {
     home = parent % NENV;
     below = omega arith;
     b = child.b;
@@ -895,9 +1181,6 @@ module _ (names : Names) (s : KernelState) (a : AbstractState) (h : StandsFor na
     name = h.named n p e (logical_plain s.spaces s.environments.slots n (clients_so n (slot n) other live) (ap is_plain guest) p ∙ stands) shared;
   }
     where
-      child : IsBorne names s.spaces (slot (parent % NENV)) (a.slots (parent % NENV)) (slot n) id parent
-      child = h.children.borne n id parent is
-
       by_stack : (t : Bool) → has_stack child.step ≡ t → p ≢ page_number UXSTACK
       by_stack true has same =
           own_alone (rows_of s.spaces (slot n).directory) p (page_number UXSTACK) e (child.library.stack has) same stands shared
@@ -929,6 +1212,55 @@ module _ (names : Names) (s : KernelState) (a : AbstractState) (h : StandsFor na
           by_descriptor true descriptor = by_handed descriptor (is_passed child.step p) refl
           by_descriptor false no_descriptor =
               absurd (none-some e (sym (child.library.none p outside no_descriptor (by_stack (has_stack child.step) refl)) ∙ stands))
+
+  -- and in spawn
+  of_spawned : (n p : ℕ) (e : Entry) → 0 ≢ n → is_live (slot n) ≡ true → p < page_limit → rows_of s.spaces (slot n).directory p ≡ Some e →
+      is_shared e.perm ≡ true → (id parent : ℕ) → StandsForUnborn (slot n) id parent →
+      IsSpawned names s.spaces (slot (parent % NENV)) (a.slots (parent % NENV)) (slot n) id parent → IsHad p e
+  of_spawned n p e other live within stands shared id parent k child = record {
+    home = parent % NENV;
+    below = omega arith;
+    b = child.b;
+    at = child.born_by;
+    has = by_inside (is_programs p) refl;
+    name = h.named n p e (logical_plain s.spaces s.environments.slots n (clients_so n (slot n) other live) (ap is_plain guest) p ∙ stands) shared;
+  }
+    where
+      by_stack : (t : Bool) → child.progress.handler_stack ≡ t → p ≢ page_number UXSTACK
+      by_stack true has same =
+          own_alone (rows_of s.spaces (slot n).directory) p (page_number UXSTACK) e (child.handler_stack has) same stands shared
+      by_stack false none same =
+          none-some e (sym (child.no_handler_stack none) ∙ sym (ap (rows_of s.spaces (slot n).directory) same) ∙ stands)
+
+      guest : place_of (slot n) ≡ place.Guest
+      guest = words_of_none (slot n).registers (slot n).extra k.stack k.words
+
+      by_handed : is_of_descriptor p ≡ true → (t : Bool) → nat_le child.progress.passed p ≡ t → Has child.b (names.name e.frame)
+      by_handed descriptor true passed =
+          descriptor_had (parent % NENV) p e child.b child.born_by descriptor (sym (child.handed p descriptor passed) ∙ stands)
+          (ap (λ (q : Place). is_made q (descriptor_at p)) child.at)
+      by_handed descriptor false off = absurd (none-some e (sym (child.rest p descriptor off) ∙ stands))
+
+      by_inside : (inside : Bool) → is_programs p ≡ inside → Has child.b (names.name e.frame)
+      by_inside true inside =
+          page_had child.b p (names.name e.frame) (has_write e.perm) within
+          (parents_page child.b child.image child.progress child.file p (names.name e.frame) (has_write e.perm)
+          (sym (child.memory p inside) ∙ seen_shared n p e inside stands shared))
+      by_inside false outside = by_descriptor (is_of_descriptor p) refl
+        where
+          by_descriptor : (t : Bool) → is_of_descriptor p ≡ t → Has child.b (names.name e.frame)
+          by_descriptor true descriptor = by_handed descriptor (nat_le child.progress.passed p) refl
+          by_descriptor false no_descriptor =
+              let apart : p ≢ page_number UXSTACK = by_stack child.progress.handler_stack refl in
+              absurd (none-some e (sym (child.none p outside no_descriptor (grind (arith, nat_tests))) ∙ stands))
+
+  of_child : (n p : ℕ) (e : Entry) → 0 ≢ n → is_live (slot n) ≡ true → p < page_limit → rows_of s.spaces (slot n).directory p ≡ Some e →
+      is_shared e.perm ≡ true → (id parent : ℕ) → a.slots n ≡ unborn id parent → StandsForUnborn (slot n) id parent → IsHad p e
+  of_child n p e other live within stands shared id parent is k = by_way (h.children.borne n id parent is)
+    where
+      by_way : IsBorneBy names s.spaces (slot (parent % NENV)) (a.slots (parent % NENV)) (slot n) id parent → IsHad p e
+      by_way (by_fork child) = of_forked n p e other live within stands shared id parent k child
+      by_way (by_spawn child) = of_spawned n p e other live within stands shared id parent k child
 
   had : (n p : ℕ) (e : Entry) → n < NENV → 0 ≢ n → is_live (slot n) ≡ true → p < page_limit → rows_of s.spaces (slot n).directory p ≡ Some e →
       is_shared e.perm ≡ true → is_made_page (place_of (slot n)) p ≡ false → IsHad p e

@@ -36,6 +36,7 @@ number_of (service.Remove path) = 17
 number_of service.Sync = 18
 number_of (service.Dup old new) = 19
 number_of service.Pipe = 20
+number_of (service.Spawn path argv) = 21
 number_of _ = 22
 
 by_number : (q k : ℕ) (x y : Service) → number_of x ≡ k → (q ≢ k → number_of y ≡ q) → number_of (if q == k then x else y) ≡ q

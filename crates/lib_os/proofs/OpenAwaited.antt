@@ -25,7 +25,7 @@ use Rattle.lib_os.specs.Answers.{answered}
 use Rattle.lib_os.specs.FileServer.{await_reply}
 use Rattle.lib_os.specs.InOrder.{IsInOrder}
 use Rattle.lib_os.specs.LibraryCall.{library_step}
-use Rattle.lib_os.specs.LibraryPages.{View, has_copy, has_working}
+use Rattle.lib_os.specs.LibraryPages.{View, has_copy}
 use Rattle.lib_os.specs.LibrarySteps.{KeepsStanding, gone_back, service_answered}
 use Rattle.lib_os.specs.Places.{place_of, words_at}
 use Rattle.lib_os.specs.Rows.{Names, rows_of}
@@ -43,7 +43,7 @@ use Rattle.lib_os.proofs.Numbered.{named_at}
 use Rattle.lib_os.proofs.PageGiven.{give_removes, given_puts, given_row, given_tables, without_working}
 use Rattle.lib_os.proofs.PageTaken.{working_page, working_stands}
 use Rattle.lib_os.proofs.PipesStand.{calm_places, descriptors_turned, is_calm}
-use Rattle.lib_os.proofs.Serving.{IsServed, holds_page, library_moved, plain_copy, plain_upcall, plain_working, printed_nothing, served, service_step}
+use Rattle.lib_os.proofs.Serving.{IsServed, holds_page, library_moved, plain_copy, plain_upcall, plain_working, printed_nothing, served, service_step, pages_kept, others_kept}
 use Rattle.lib_os.proofs.Slots.{words_put}
 use Rattle.lib_os.proofs.SlotsStand.{born_live}
 use Rattle.lib_os.proofs.StatesStand.{quiet_stands, slot_changed, stopped_settles}
@@ -120,7 +120,7 @@ module _ {names : Names} {s : KernelState} {a : AbstractState} (h : StandsFor na
         memory = own.memory;
         library = library_moved (place_of k) (place_of j) k.extra j.extra (rows_of s.spaces k.directory)
             (plain_copy (place_of k) plain ∙ sym (ap has_copy j_place))
-            (plain_working (place_of k) k.extra plain ∙ ap holds_page stands ∙ sym (ap (λ (p : Place). has_working p j.extra) j_place)) own.library;
+            (plain_working (place_of k) k.extra plain ∙ ap holds_page stands ∙ sym (ap (λ (p : Place). pages_kept p j.extra) j_place)) own.library;
         regions_have = own.regions_have;
         regions_only = own.regions_only;
         stack = own.stack;
@@ -221,7 +221,7 @@ module _ {names : Names} {s : KernelState} {a : AbstractState} {sp : SpacesState
   open_cleared_stands =
       working_stands h n w.b w.is w.own w.outside (ap borne_in w.place) (ap is_calm w.place) (given_puts h n w.b w.is removed) last
       (slot_at s n).registers words
-      (place.InService opens (step.ReadingOpened id fd)) there refl refl refl refl refl
+      (place.InService opens (step.ReadingOpened id fd)) there refl refl refl (ap others_kept w.place) refl refl
       (λ is. absurd (let contradiction : false ≡ true = is in cc)) (λ is. refl) (given_tables h n w.b w.is removed)
       (waited.0, still_has) (given_row h n w.b w.is removed) in_order
 

@@ -39,7 +39,7 @@ use Rattle.lib_os.proofs.PageTaken.{working_back, working_page}
 use Rattle.lib_os.proofs.Paths.{path_ends}
 use Rattle.lib_os.proofs.PipesStand.{is_calm}
 use Rattle.lib_os.proofs.RequestPages.{whole_moved}
-use Rattle.lib_os.proofs.Serving.{IsServed, holds_page, printed_nothing, served, step_in, words_of_none}
+use Rattle.lib_os.proofs.Serving.{IsServed, holds_page, printed_nothing, served, step_in, words_of_none, others_kept}
 
 -- ---- the mode
 
@@ -180,7 +180,7 @@ module _ {names : Names} {s : KernelState} {a : AbstractState} {sp : SpacesState
   full_stands : StandsFor names (service_answered (with_spaces s sp) n (negated E_MAX_OPEN)) (refused a n w.b (slot_at s n).registers E_MAX_OPEN)
   full_stands =
       working_back h n w.b w.is w.own w.outside (ap borne_in w.place) (ap is_calm w.place) (given_puts h n w.b w.is removed) last
-      regs no_extra place.Guest (words_of_none regs no_extra w.outside refl) refl refl refl refl refl refl
+      regs no_extra place.Guest (words_of_none regs no_extra w.outside refl) refl refl refl (ap others_kept w.place) refl refl refl
       looks.whole.is_in.silent looks.whole.is_in.awake refl refl
       (given_tables h n w.b w.is removed) (given_row h n w.b w.is removed) in_order
 

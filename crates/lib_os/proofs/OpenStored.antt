@@ -35,7 +35,7 @@ use Rattle.lib_os.proofs.PageBytes.{word_bytes}
 use Rattle.lib_os.proofs.PageTaken.{working_no_descriptor, working_outside, working_page}
 use Rattle.lib_os.proofs.PipesStand.{is_calm}
 use Rattle.lib_os.proofs.RequestPages.{whole_moved}
-use Rattle.lib_os.proofs.Serving.{IsServed, holds_page, plain_working, served}
+use Rattle.lib_os.proofs.Serving.{IsServed, holds_page, plain_working, served, works}
 use Rattle.lib_os.proofs.SlotsStand.{born_at}
 use Rattle.lib_os.proofs.StatesStand.{clients_live, others_counts}
 use Rattle.lib_os.proofs.WordsTell.{is_in_handler}
@@ -79,7 +79,7 @@ module _ {names : Names} {s : KernelState} {a : AbstractState} (h : StandsFor na
   plain = ap is_plain stands
 
   page : IsOwnWritable (rows_of s.spaces home) working_page
-  page = v.own.library.working (plain_working (place_of (slot_at s n)) (slot_at s n).extra (ap is_in_handler stands) ∙ ap holds_page stands)
+  page = v.own.library.working (works (plain_working (place_of (slot_at s n)) (slot_at s n).extra (ap is_in_handler stands) ∙ ap holds_page stands))
 
   page_counts : logical s.spaces s.environments.slots n working_page ≡ Some page.entry
   page_counts = logical_plain s.spaces s.environments.slots n (clients_live h n v.b v.is) plain working_page ∙ page.stands
@@ -160,7 +160,8 @@ module _ {names : Names} {s : KernelState} {a : AbstractState} (h : StandsFor na
         step_is = puts.step_is;
         stands = λ order last.
             let still : StandsFor names (with_spaces s sp) a =
-            unseen_rewritten h n v.b v.is plain working_page working_outside working_no_descriptor page.entry page.stands page.own_page page.writes
+            unseen_rewritten h n v.b v.is working_page
+            (logical_plain s.spaces s.environments.slots n (clients_live h n v.b v.is) plain working_page) working_outside working_no_descriptor page.entry page.stands page.own_page page.writes
             now now_whole puts.rewritten order (others_counts h n last sp)
             (subst (λ (q : Place). StandsAt q after (slot_at s n) v.b) (sym stands) (record { whole = whole_there; lowest = lowest_there })) in
             words_stand still n (number_of call) v.b v.is (born_at still n v.b v.is) v.outside (ap borne_in stands) (ap is_calm stands) call to

@@ -341,7 +341,7 @@ module _ (a : AbstractState) (n m : ℕ) (ne : m ≢ n) where
     call_left service.Sync stage quiet = sync_left service.Sync stage
     call_left (service.Dup old new) stage quiet = once_left stage _ (dup_left old new)
     call_left service.Pipe stage quiet = once_left stage _ (pipe_left (lowest_free b) (next_free b (lowest_free b)))
-    call_left (service.Spawn path argv) stage quiet = record {}
+    call_left (service.Spawn path argv) stage quiet = absurd (cc)
     call_left service.Unknown stage quiet = once_left stage _ (set_left _)
 
   -- ---- an instruction

@@ -19,13 +19,13 @@ use Rattle.lib_os.proofs.Answering.{back_stands}
 use Rattle.lib_os.proofs.Loading.{loaded}
 use Rattle.lib_os.proofs.PipesStand.{is_calm}
 use Rattle.lib_os.proofs.RequestPages.{asks_with_page}
-use Rattle.lib_os.proofs.Serving.{holds_page, service_step}
+use Rattle.lib_os.proofs.Serving.{holds_page, service_step, kept_where}
 use Rattle.lib_os.proofs.StatesStand.{quiet_stands}
 use Rattle.lib_os.proofs.Touching.{touched_quiet}
 
 module _ {names : Names} {s : KernelState} {a : AbstractState} (h : StandsFor names s a) (n : ℕ) (b : Born) (at : a.slots n ≡ born b)
     (outside : is_handlers (slot_at s n).registers.esp ≡ false) (unborne : borne_in (place_of (slot_at s n)) ≡ None)
-    (holds : holds_page (place_of (slot_at s n)) ≡ false) (calm : is_calm (place_of (slot_at s n)) ≡ true)
+    (holds : holds_page (place_of (slot_at s n)) ≡ kept_where false) (calm : is_calm (place_of (slot_at s n)) ≡ true)
     (call : Service) (with_page : asks_with_page call ≡ true)
     (has : HasReply (slot_at s n) b call) where
   abbrev reply : ℕ

@@ -61,7 +61,7 @@ use Rattle.lib_os.proofs.RequestsTold.{IsAsking, request_may_wait, request_step,
 use Rattle.lib_os.proofs.Sends.{found_where, not_waited_for, page_comes, page_has_no_table}
 use Rattle.lib_os.proofs.ServerAsked.{word_got}
 use Rattle.lib_os.proofs.ServerStands.{IsPlacePage, OthersKept, OwnKept, first_slot, lent, placed_others, placed_own, server_moves}
-use Rattle.lib_os.proofs.Serving.{IsServed, holds_page, library_moved, plain_copy, plain_upcall, plain_working, printed_nothing, served}
+use Rattle.lib_os.proofs.Serving.{IsServed, holds_page, library_moved, plain_copy, plain_upcall, plain_working, printed_nothing, served, kept_where, works}
 use Rattle.lib_os.proofs.Slots.{slot_kept}
 use Rattle.lib_os.proofs.SlotsStand.{born_at, born_live, is_piped}
 use Rattle.lib_os.proofs.StatesStand.{born_not_first, counts_beside, slot_changed, slot_was_in_order, status_stands, stopped_settles}
@@ -163,12 +163,12 @@ pub request_page : {names : Names} {s : KernelState} {a : AbstractState} {n : �
     IsServed names s a n call (asking_step call id fd) → IsOwnWritable (rows_of s.spaces (slot_at s n).directory) (page_number UTEMP)
 request_page {s = s} {n = n} id fd call with_page v =
     v.own.library.working
-    (plain_working (place_of (slot_at s n)) (slot_at s n).extra (ap is_in_handler v.place) ∙ ap holds_page v.place
-    ∙ asking_held call with_page id fd)
+    (works (plain_working (place_of (slot_at s n)) (slot_at s n).extra (ap is_in_handler v.place) ∙ ap holds_page v.place
+    ∙ asking_held call with_page id fd))
 
 -- its own part, where it has asked
 asked_page_own : {names : Names} {s : SpacesState} {k : Slot} {b : Born} (call : Service) → brings_page call ≡ true → (id fd : ℕ) (stage : Stage) →
-    StandsForBorn names s k b → is_handlers k.registers.esp ≡ false → holds_page (place_of k) ≡ true → is_calm (place_of k) ≡ true →
+    StandsForBorn names s k b → is_handlers k.registers.esp ≡ false → holds_page (place_of k) ≡ kept_where true → is_calm (place_of k) ≡ true →
     IsIn k b call stage → id ≡ k.id →
     IsBeside (rows_of s k.directory) call fd → (hands_back call ≡ true → MayPut call) →
     service_of (record k.registers { eax = (number_of call) }) ≡ call →

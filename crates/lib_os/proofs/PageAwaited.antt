@@ -17,7 +17,7 @@ use Rattle.lib_os.specs.AbstractRun.{abs_step}
 use Rattle.lib_os.specs.AbstractState.{AbstractState, Born, born, asked, awaiting, in_service}
 use Rattle.lib_os.specs.FileServer.{await_reply}
 use Rattle.lib_os.specs.LibraryCall.{library_step}
-use Rattle.lib_os.specs.LibraryPages.{has_copy, has_working}
+use Rattle.lib_os.specs.LibraryPages.{has_copy}
 use Rattle.lib_os.specs.Places.{place_of, words_at, is_handlers}
 use Rattle.lib_os.specs.Rows.{Names, rows_of}
 use Rattle.lib_os.specs.Services.{service_of}
@@ -31,7 +31,7 @@ use Rattle.lib_os.specs.StandsInHandler.{MayPut, hands_back}
 use Rattle.lib_os.proofs.AskedPlaces.{awaiting_step}
 use Rattle.lib_os.proofs.PipesStand.{calm_places, calm_unmade, descriptors_turned, is_calm}
 use Rattle.lib_os.proofs.RequestPages.{awaiting_calm, awaiting_held, asks_with_page, request_plain, there_awaited}
-use Rattle.lib_os.proofs.Serving.{service_step, holds_page, plain_upcall, plain_copy, plain_working, library_moved}
+use Rattle.lib_os.proofs.Serving.{service_step, holds_page, plain_upcall, plain_copy, plain_working, library_moved, kept_where, pages_kept}
 use Rattle.lib_os.proofs.Slots.{words_put}
 use Rattle.lib_os.proofs.SlotsStand.{born_at, born_live}
 use Rattle.lib_os.proofs.StatesStand.{slot_changed, stopped_settles}
@@ -58,7 +58,7 @@ abbrev pub page_waiting : Service → Born → Born
 page_waiting call b = record b { phase = in_service call awaiting; blocked = true }
 
 page_awaiting_own : {names : Names} {s : SpacesState} {k : Slot} {b : Born} (call : Service) → asks_with_page call ≡ true → (id : ℕ) → StandsForBorn names s k b →
-    is_handlers k.registers.esp ≡ false → holds_page (place_of k) ≡ true → is_calm (place_of k) ≡ true → id ≡ k.id → HasAsked k b call →
+    is_handlers k.registers.esp ≡ false → holds_page (place_of k) ≡ kept_where true → is_calm (place_of k) ≡ true → id ≡ k.id → HasAsked k b call →
     (hands_back call ≡ true → MayPut call) → service_of (record k.registers { eax = number_of call }) ≡ call →
     StandsForBorn names s (page_awaiting_slot call k id) (page_waiting call b)
 page_awaiting_own {names = names} {s = s} {k = k} {b = b} call with_page id own outside holds calm self has put names_it =
@@ -85,7 +85,7 @@ page_awaiting_own {names = names} {s = s} {k = k} {b = b} call with_page id own 
       memory = own.memory;
       library = library_moved (place_of k) (place_of j) k.extra j.extra (rows_of s k.directory) (plain_copy (place_of k) plain ∙ sym (ap has_copy at))
           (plain_working (place_of k) k.extra plain ∙ holds
-          ∙ sym (ap (λ (p : Place). has_working p j.extra) at
+          ∙ sym (ap (λ (p : Place). pages_kept p j.extra) at
           ∙ plain_working (place.InService call (awaiting_step call id 0)) j.extra refl ∙ awaiting_held call with_page id)) own.library;
       regions_have = own.regions_have;
       regions_only = own.regions_only;
@@ -109,7 +109,7 @@ page_awaiting_call s n rest live =
 
 module _ {names : Names} {s : KernelState} {a : AbstractState} (h : StandsFor names s a) (n : ℕ) (b : Born) (at : a.slots n ≡ born b)
     (outside : is_handlers (slot_at s n).registers.esp ≡ false) (unborne : borne_in (place_of (slot_at s n)) ≡ None)
-    (holds : holds_page (place_of (slot_at s n)) ≡ true) (calm : is_calm (place_of (slot_at s n)) ≡ true)
+    (holds : holds_page (place_of (slot_at s n)) ≡ kept_where true) (calm : is_calm (place_of (slot_at s n)) ≡ true)
     (call : Service) (with_page : asks_with_page call ≡ true) where
   -- its step
   pub page_awaiting_step : HasAsked (slot_at s n) b call → abs_step a n ≡ Some (await_reply a n b call)

@@ -20,8 +20,8 @@ use Rattle.lib_os.proofs.PageGiven.{give_removes, given_puts, given_row, given_t
 use Rattle.lib_os.proofs.PageTaken.{working_page, working_stands}
 use Rattle.lib_os.proofs.PipesStand.{is_calm}
 use Rattle.lib_os.proofs.ReplyRead.{awake_reply}
-use Rattle.lib_os.proofs.RequestPages.{asks_with_page, awaited_there, request_unborne, request_unheld, there_replied}
-use Rattle.lib_os.proofs.Serving.{IsServed, plain_working, served}
+use Rattle.lib_os.proofs.RequestPages.{asks_with_page, awaited_there, request_unborne, request_unheld, there_replied, request_alone}
+use Rattle.lib_os.proofs.Serving.{IsServed, plain_working, served, others_kept, works}
 use Rattle.lib_os.proofs.WordsTell.{place_at}
 
 module _ {names : Names} {s : KernelState} {a : AbstractState} {sp : SpacesState} (h : StandsFor names s a) (n id : ℕ) (call : Service)
@@ -65,13 +65,14 @@ module _ {names : Names} {s : KernelState} {a : AbstractState} {sp : SpacesState
       ∙ ap (λ (x : Service). place.InService x (step.ReadingReply id)) (named_at (slot_at s n) call (step.Clearing id) stands)
 
   gone : has_working (place.InService call (step.ReadingReply id)) words ≡ false
-  gone = plain_working (place.InService call (step.ReadingReply id)) words refl ∙ request_unheld call with_page id
+  gone = works (plain_working (place.InService call (step.ReadingReply id)) words refl ∙ request_unheld call with_page id)
 
   pub page_cleared_stands : StandsFor names (with_extra (with_spaces s sp) n words) a
   page_cleared_stands =
       working_stands h n v.b v.is v.own v.outside (ap borne_in v.place ∙ request_unborne call with_page (step.Clearing id))
       (ap is_calm v.place) (given_puts h n v.b v.is removed) last (slot_at s n).registers words (place.InService call (step.ReadingReply id)) there refl
-      (request_unborne call with_page (step.ReadingReply id)) refl refl refl
+      (request_unborne call with_page (step.ReadingReply id)) refl
+      (ap others_kept v.place ∙ request_alone call with_page (step.Clearing id) ∙ sym (request_alone call with_page (step.ReadingReply id))) refl refl
       (λ is. absurd (let contradiction : false ≡ true = sym gone ∙ is in cc)) (λ is. refl) (given_tables h n v.b v.is removed)
       (there_replied (view_of sp (slot_at s n).directory) moved v.b call with_page id (waited.0, still_has)) (given_row h n v.b v.is removed) in_order
 

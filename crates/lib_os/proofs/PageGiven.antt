@@ -32,7 +32,7 @@ use Rattle.lib_os.proofs.PagesStand.{Puts, bytes_elsewhere}
 use Rattle.lib_os.proofs.PageTaken.{working_page, working_stands}
 use Rattle.lib_os.proofs.PipesStand.{is_calm}
 use Rattle.lib_os.proofs.Removing.{unmapped_removed}
-use Rattle.lib_os.proofs.Serving.{IsServed, served, words_of_none}
+use Rattle.lib_os.proofs.Serving.{IsServed, served, words_of_none, others_kept}
 use Rattle.lib_os.proofs.Slots.{slot_put}
 use Rattle.lib_os.proofs.SlotsStand.{HasTables, born_at}
 use Rattle.lib_os.proofs.Trying.{LivesOn}
@@ -136,7 +136,7 @@ module _ {names : Names} {s : KernelState} {a : AbstractState} {sp : SpacesState
   pub page_given_stands : StandsFor names (service_answered (with_spaces s sp) n (wanted_of len)) a
   page_given_stands =
       working_stands h n v.b v.is v.own v.outside (ap borne_in v.place) (ap is_calm v.place) (given_puts h n v.b v.is removed) last regs no_extra place.Guest
-      (words_of_none regs no_extra v.outside refl) refl refl refl refl refl (λ is. absurd (let contradiction : false ≡ true = is in cc)) (λ is. refl)
+      (words_of_none regs no_extra v.outside refl) refl refl refl (ap others_kept v.place) refl refl (λ is. absurd (let contradiction : false ≡ true = is in cc)) (λ is. refl)
       (given_tables h n v.b v.is removed) given_at (given_row h n v.b v.is removed) in_order
 
 -- ---- what the step comes to

@@ -30,7 +30,7 @@ use Rattle.lib_os.specs.Answers.{back_with}
 use Rattle.lib_os.specs.DescriptorPages.{device_of}
 use Rattle.lib_os.specs.Fence.{in_fence, is_resident}
 use Rattle.lib_os.specs.InOrder.{IsInOrder}
-use Rattle.lib_os.specs.LibraryPages.{IsOwnWritable, LibraryPages, has_working, is_library_region, region_index, HasTaken}
+use Rattle.lib_os.specs.LibraryPages.{IsOwnWritable, LibraryPages, has_working, is_library_region, region_index, HasTaken, has_spawns}
 use Rattle.lib_os.specs.LibrarySteps.{KeepsStanding, TakesAtMost, copies_left, is_to_copy, service_answered, steps_left}
 use Rattle.lib_os.specs.PipeEnds.{EndsStand, LocksStand, is_made, locked_at}
 use Rattle.lib_os.specs.Places.{is_handlers, place_of, words_at}
@@ -54,13 +54,14 @@ use Rattle.lib_os.proofs.PagesStand.{Puts, bytes_elsewhere, elsewhere, other_reg
 use Rattle.lib_os.proofs.PageBytes.{zero_page_whole}
 use Rattle.lib_os.proofs.PipesStand.{PlacesAlike, calm_places, calm_unmade, descriptors_turned, ends_moved, is_calm, locks_beside}
 use Rattle.lib_os.proofs.Placing.{allocated_made}
-use Rattle.lib_os.proofs.Serving.{IsServed, plain_copy, plain_upcall, served}
+use Rattle.lib_os.proofs.Serving.{IsServed, plain_copy, plain_upcall, served, Kept, others_kept, plain_working}
 use Rattle.lib_os.proofs.SlotsStand.{HasTables, SeenAlike, born_at, descriptors_off}
 use Rattle.lib_os.proofs.StatesStand.{clients_live, ends_at, others_count, others_counts, own_moves, slot_in_order}
 use Rattle.lib_os.proofs.Trying.{LivesOn}
 use Rattle.lib_os.proofs.WordsTell.{handler_runs, is_in_handler, place_at}
 use Rattle.jos_base.proofs.Maps.{upd-alike, upd-at}
 use Rattle.jos_base.proofs.Puts.{Elsewhere, put-at, put-other}
+use Rattle.lib_os.proofs.KeptPages.{spawns_aside}
 
 -- ---- the page at UTEMP
 
@@ -131,30 +132,40 @@ module _ {names : Names} {s t : SpacesState} {d : ℕ} {v : Option Entry} (puts 
 
   -- The library's other pages are what they were, where the handler of page faults does not run before and after.
   library_kept : (at after : Place) (words words_after : List ℕ) → is_in_handler at ≡ false → is_in_handler after ≡ false →
+      others_kept at ≡ others_kept after →
       (has_working after words_after ≡ true → IsOwnWritable (rows_of t d) working_page) →
       (has_working after words_after ≡ false → v ≡ None) → LibraryPages at words (rows_of s d) → LibraryPages after words_after (rows_of t d)
-  library_kept at after words words_after outside outside_after working no_working h = record {
+  library_kept at after words words_after outside outside_after others working no_working h = record {
     stack = own_kept (page_number UXSTACK) stack_beside h.stack;
     copy = λ is. absurd (let contradiction : true ≡ false = sym is ∙ plain_copy after outside_after in cc);
     no_copy = λ is. working_beside (page_number PFTEMP) copy_beside ∙ h.no_copy (plain_copy at outside);
     descriptors = λ p entry is stands. h.descriptors p entry is (sym (working_beside p (descriptor_beside p is)) ∙ stands);
     working = working;
     no_working = λ is. working_here ∙ no_working is;
-    none = λ p outside_it no_descriptor no_stack no_copy other.
-        working_beside p other ∙ h.none p outside_it no_descriptor no_stack no_copy other;
+    spawns = λ p is.
+        let was : has_spawns at words p ≡ true = same_others p ∙ is in
+        own_kept p (spawns_aside at words p was).no_working (h.spawns p was);
+    none = λ p outside_it no_descriptor no_stack no_copy other no_spawns.
+        working_beside p other ∙ h.none p outside_it no_descriptor no_stack no_copy other (same_others p ∙ no_spawns);
   }
+    where
+      same_others : (p : ℕ) → has_spawns at words p ≡ has_spawns after words_after p
+      same_others p =
+          ap (λ (k : Kept). k.1 p) (plain_working at words outside) ∙ ap (λ (keeps : ℕ → Bool). keeps p) others
+          ∙ sym (ap (λ (k : Kept). k.1 p) (plain_working after words_after outside_after))
 
   -- What the environment has of its own, where it stands elsewhere in those spaces, by other registers and words, and its
   -- program at another place.
   own_part : (k : Slot) (b : Born) (program : ProgramState) (phase : Phase) (blocked : Bool) (regs : Regs) (words : List ℕ) (after : Place) →
       IsStatusFor k.status blocked → k.directory ≡ d → StandsForBorn names s k b →
       place_of (record k { registers = regs; extra = words }) ≡ after → is_in_handler (place_of k) ≡ false → is_in_handler after ≡ false →
-      is_calm (place_of k) ≡ true → is_calm after ≡ true → regs.esp ≡ k.registers.esp → regs.eflags ≡ k.registers.eflags →
+      is_calm (place_of k) ≡ true → is_calm after ≡ true → others_kept (place_of k) ≡ others_kept after →
+      regs.esp ≡ k.registers.esp → regs.eflags ≡ k.registers.eflags →
       (has_working after words ≡ true → IsOwnWritable (rows_of t d) working_page) → (has_working after words ≡ false → v ≡ None) →
       HasTables t d b.regions →
       StandsAt after (view_of t d) (record k { registers = regs; extra = words }) (record b { program = program; phase = phase; blocked = blocked }) →
       StandsForBorn names t (record k { registers = regs; extra = words }) (record b { program = program; phase = phase; blocked = blocked })
-  own_part k b program phase blocked regs words after runs home h there outside outside_after calm calm_after esp eflags working no_working tables at =
+  own_part k b program phase blocked regs words after runs home h there outside outside_after calm calm_after others esp eflags working no_working tables at =
       let moved : Slot = record k { registers = regs; extra = words } in
       let later : Born = record b { program = program; phase = phase; blocked = blocked } in
       record {
@@ -171,7 +182,7 @@ module _ {names : Names} {s t : SpacesState} {d : ℕ} {v : Option Entry} (puts 
         memory = λ p. h.memory p ∙ subst (λ (e : ℕ). page_seen names s e p ≡ page_seen names t e p) (sym home) (sym (memory_kept p));
         library = subst (λ (p : Place). LibraryPages p words (rows_of t k.directory)) (sym there)
             (subst (λ (e : ℕ). LibraryPages after words (rows_of t e)) (sym home)
-            (library_kept (place_of k) after k.extra words outside outside_after working no_working
+            (library_kept (place_of k) after k.extra words outside outside_after others working no_working
             (subst (λ (e : ℕ). LibraryPages (place_of k) k.extra (rows_of s e)) home h.library)));
         regions_have = subst (λ (e : ℕ). (r : ℕ) → b.regions r ≡ true → is_some (t.regions e r) ≡ true) (sym home) tables.have;
         regions_only = subst (λ (e : ℕ). (r : ℕ) → is_some (t.regions e r) ≡ true → (b.regions r || is_library_region r) ≡ true) (sym home)
@@ -205,7 +216,8 @@ module _ {names : Names} {s : KernelState} {a : AbstractState} {sp : SpacesState
 
   module _ (regs : Regs) (words : List ℕ) (after : Place)
       (there : place_of (record (slot_at s n) { registers = regs; extra = words }) ≡ after) (outside_after : is_in_handler after ≡ false)
-      (unborne_after : borne_in after ≡ None) (calm_after : is_calm after ≡ true) where
+      (unborne_after : borne_in after ≡ None) (calm_after : is_calm after ≡ true)
+      (others_after : others_kept (place_of (slot_at s n)) ≡ others_kept after) where
     abbrev moved : Slot
     moved = record (slot_at s n) { registers = regs; extra = words }
 
@@ -264,7 +276,7 @@ module _ {names : Names} {s : KernelState} {a : AbstractState} {sp : SpacesState
         (own_moves h n b is sp moved b a.shared a.next_name refl (record { id = refl; env_type = refl; turns = refl; calm = λ runs. runs }) unborne
         (ap borne_in there ∙ unborne_after) others
         (own_part puts (slot_at s n) b b.program b.phase b.blocked regs words after own.runs refl own there unhandled outside_after calm calm_after
-        esp eflags working no_working tables at)
+        others_after esp eflags working no_working tables at)
         (rows_same (put (logical s.spaces s.environments.slots) n working_page v) (logical sp (upd s.environments.slots n moved)) counts
         (rows_put (rows_stand h) row))
         (slot_in_order (with_spaces s sp) n moved refl refl in_order) (others_counts h n last sp) (ends b (λ fd. refl)) locks (omega arith)
@@ -281,7 +293,7 @@ module _ {names : Names} {s : KernelState} {a : AbstractState} {sp : SpacesState
         (record { id = refl; env_type = refl; turns = refl; calm = λ runs. runs }) unborne (ap borne_in there ∙ unborne_after) others
         (own_part puts (slot_at s n) b (guest regs) at_guest false regs words after
         (subst (λ (blocked : Bool). IsStatusFor (slot_at s n).status blocked) awake own.runs) refl own there unhandled outside_after calm calm_after
-        esp eflags
+        others_after esp eflags
         (λ has. absurd (let contradiction : false ≡ true = sym (ap (λ (p : Place). has_working p words) at_program) ∙ has in cc)) (λ none. gone) tables
         (subst (λ (p : Place). StandsAt p (view_of sp dir) moved (record b { program = guest regs; phase = at_guest; blocked = false })) (sym at_program)
         (record { program = refl; phase = refl; words = no_words; silent = silent; awake = refl })))
@@ -473,7 +485,8 @@ module _ {names : Names} {s : KernelState} {a : AbstractState} {sp : SpacesState
       (place.InService (service.Write fd va len) to)
       (place_at (slot_at s n).registers SERVICE_WRITE to v.outside
       ∙ ap (λ (x : Service). place.InService x to) (named_at (slot_at s n) (service.Write fd va len) step.TakingPage v.place))
-      refl refl refl refl refl (λ is. taken_own h n v.b v.is made) (λ is. absurd (let contradiction : true ≡ false = is in cc)) (taken_tables h n v.b v.is made)
+      refl refl refl (ap others_kept v.place) refl refl (λ is. taken_own h n v.b v.is made) (λ is. absurd (let contradiction : true ≡ false = is in cc))
+      (taken_tables h n v.b v.is made)
       (taken_at, tt) (taken_row h n v.b v.is made) in_order
 
 -- ---- what the step comes to

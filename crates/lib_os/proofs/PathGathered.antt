@@ -284,11 +284,11 @@ module _ {names : Names} {s : KernelState} {a : AbstractState} (h : StandsFor na
   gathered_stands : (word : ℕ) → take moved (to_le_bytes w32 word) ≡ path_taken →
       StandsFor names (with_extra (loaded s n next) n (words_at (number_of call) (step.Keeping done word moved))) path_gathered
   gathered_stands word is =
-      stage_stands loaded_stands n (number_of call) v.b v.is v.outside (ap borne_in v.place ∙ path_unborne call takes (step.Gathering done))
+      stage_stands loaded_stands n (number_of call) v.b v.is v.outside (ap borne_in v.place ∙ path_unborne call takes (step.Gathering done) refl)
       (ap is_calm v.place) call
       (step.Keeping done word moved) (gathering (it.bytes ++ path_taken))
-      (ap holds_page v.place ∙ path_holds call takes (step.Gathering done) ∙ sym (path_holds call takes (step.Keeping done word moved)))
-      (path_unborne call takes (step.Keeping done word moved)) refl (named_at k call (step.Gathering done) v.place)
+      (ap holds_page v.place ∙ path_holds call takes (step.Gathering done) refl ∙ sym (path_holds call takes (step.Keeping done word moved) refl))
+      (path_unborne call takes (step.Keeping done word moved) refl) refl (named_at k call (step.Gathering done) v.place)
       (subst (λ (w : View). StandsAtStep w (told word) (record v.b { phase = in_service call (gathering (it.bytes ++ path_taken)) })
       call (step.Keeping done word moved)) (sym (loaded_view s n next d))
       (path_keeping (view_of s.spaces d) (told word) (record v.b { phase = in_service call (gathering (it.bytes ++ path_taken)) }) call takes done word moved

@@ -1,7 +1,7 @@
 -- The kernel's state goes on standing for the same abstract one where a service keeps bytes of the path that it is given in its page: no other client has the
 -- frame of that, and nothing is seen of it. Then its page has more of them, and it goes on by whether the end of the path is among them.
 use Rattle.std.proofs.Common.{◌≡◌, ◌≢◌, ◌∙◌, ◌==◌, ◌&&◌, ◌||◌, ◌+◌, ◌-◌, ◌*◌, ◌/◌, ◌%◌, ◌^◌, ◌<◌, ◌≤◌, ℕ, zero, suc, Bool, true, false, not}
-use Rattle.std.proofs.Common.{List, ◌∷◌, [], length, Some, refl, sym, ap, subst, arith, if◌then◌else◌}
+use Rattle.std.proofs.Common.{List, ◌∷◌, [], length, None, Some, refl, sym, ap, subst, arith, if◌then◌else◌}
 use Rattle.std.specs.Prelude.{drop, nat_le, nat_lt, slice_index, take}
 use Rattle.std.specs.Int.{w32, to_le_bytes}
 use Rattle.std.specs.List.{position_or_len}
@@ -22,7 +22,7 @@ use Rattle.lib_os.specs.declared.service.Service.{Service}
 use Rattle.lib_os.specs.AbstractState.{AbstractState, gathering, in_service}
 use Rattle.lib_os.specs.FileServices.{is_nul}
 use Rattle.lib_os.specs.InOrder.{IsInOrder}
-use Rattle.lib_os.specs.LibraryPages.{LibraryPages, IsOwnWritable, keeps_path, HasTaken}
+use Rattle.lib_os.specs.LibraryPages.{LibraryPages, IsOwnWritable, HasTaken}
 use Rattle.lib_os.specs.Places.{place_of, words_at}
 use Rattle.lib_os.specs.Rows.{AreBytes, EntryRow, IsPage, Names, Rows, logical, rows_of}
 use Rattle.lib_os.specs.StandsFor.{IsGatheringPath, IsKeepingPath, IsTakingPath, StandsAt, StandsAtStep, StandsFor, borne_in, refuses_next, view_of}
@@ -39,9 +39,9 @@ use Rattle.lib_os.proofs.Numbered.{named_at, number_of}
 use Rattle.lib_os.proofs.PageBytes.{bytes_more, bytes_none, word_bytes}
 use Rattle.lib_os.proofs.Paths.{follows_inside, gathers_path}
 use Rattle.lib_os.proofs.PathServices.{has_path, keeping_path, path_before, path_gathering, path_holds, path_keeping, path_plain, path_unborne, path_whole}
-use Rattle.lib_os.proofs.PathServices.{path_works, whole_calm, whole_kept, whole_step}
+use Rattle.lib_os.proofs.PathServices.{path_works, whole_calm, whole_holds, whole_step, whole_unborne}
 use Rattle.lib_os.proofs.PipesStand.{is_calm, is_calm_step}
-use Rattle.lib_os.proofs.Serving.{IsServed, holds_page, served}
+use Rattle.lib_os.proofs.Serving.{IsServed, holds_page, served, kept_where}
 use Rattle.lib_os.proofs.SlotsStand.{born_at}
 use Rattle.lib_os.proofs.StatesStand.{clients_live, others_counts}
 use Rattle.jos_base.proofs.Maps.{upd-at}
@@ -190,10 +190,15 @@ module _ {names : Names} {s : KernelState} {a : AbstractState} (h : StandsFor na
   page =
       let library : LibraryPages (place.InService call (step.Keeping done word left)) (slot_at s n).extra row =
       subst (λ (q : Place). LibraryPages q (slot_at s n).extra row) stands v.own.library in
-      library.working (path_works call takes (step.Keeping done word left) (slot_at s n).extra)
+      library.working (path_works call takes (step.Keeping done word left) refl (slot_at s n).extra)
+
+  counted : logical s.spaces s.environments.slots n working_page ≡ row working_page
+  counted =
+      logical_plain s.spaces s.environments.slots n (clients_live h n v.b v.is) (ap is_plain stands ∙ path_plain call takes (step.Keeping done word left) refl)
+      working_page
 
   page_counts : logical s.spaces s.environments.slots n working_page ≡ Some page.entry
-  page_counts = logical_plain s.spaces s.environments.slots n (clients_live h n v.b v.is) (ap is_plain stands ∙ path_plain call takes (step.Keeping done word left)) working_page ∙ page.stands
+  page_counts = counted ∙ page.stands
 
   page_whole : IsPage (s.spaces.pages page.entry.frame)
   page_whole = h.whole n working_page page.entry page_counts
@@ -245,7 +250,7 @@ module _ {names : Names} {s : KernelState} {a : AbstractState} (h : StandsFor na
     -- behind the store the same is so, with more bytes in the page
     still : StandsFor names (with_spaces s sp) a
     still =
-        unseen_rewritten h n v.b v.is (ap is_plain stands ∙ path_plain call takes (step.Keeping done word left)) working_page working_outside working_no_descriptor page.entry page.stands page.own_page
+        unseen_rewritten h n v.b v.is working_page counted working_outside working_no_descriptor page.entry page.stands page.own_page
         page.writes now now_whole puts.rewritten order (others_counts h n last sp)
         (subst (λ (q : Place). StandsAt q (view_of sp home) (slot_at s n) v.b) (sym stands)
         (path_keeping (view_of sp home) (slot_at s n) v.b call takes done word left (record {
@@ -263,14 +268,14 @@ module _ {names : Names} {s : KernelState} {a : AbstractState} (h : StandsFor na
           kept = taken done (omega arith);
         })))
 
-    goes_on : (to : Step) → keeps_path to ≡ true → is_calm_step to ≡ true →
+    goes_on : (to : Step) → holds_page (place.InService call to) ≡ kept_where true → borne_in (place.InService call to) ≡ None → is_calm_step to ≡ true →
         StandsAtStep (view_of sp home) (record (slot_at s n) { extra = words_at (number_of call) to }) v.b call to →
         StandsFor names (with_extra (with_spaces s sp) n (words_at (number_of call) to)) a
-    goes_on to keeps calm so =
+    goes_on to keeps unborne calm so =
         words_stand still n (number_of call) v.b v.is (born_at still n v.b v.is) v.outside
-        (ap borne_in stands ∙ path_unborne call takes (step.Keeping done word left)) (ap is_calm stands) call to
-        (ap holds_page stands ∙ path_holds call takes (step.Keeping done word left) ∙ sym (path_holds call takes to ∙ keeps))
-        (path_unborne call takes to) calm (named_at (slot_at s n) call (step.Keeping done word left) stands) so
+        (ap borne_in stands ∙ path_unborne call takes (step.Keeping done word left) refl) (ap is_calm stands) call to
+        (ap holds_page stands ∙ path_holds call takes (step.Keeping done word left) refl ∙ sym keeps)
+        unborne calm (named_at (slot_at s n) call (step.Keeping done word left) stands) so
 
     -- ---- the end is put
 
@@ -281,7 +286,7 @@ module _ {names : Names} {s : KernelState} {a : AbstractState} (h : StandsFor na
         let place : position_or_len is_nul it.bytes ≤ done + at.0 =
         end_before it.bytes (done + at.0) (ap is_nul (sym (next at.0 at.1)) ∙ at.2) in
         let many = it.many in
-        goes_on (whole_step call) (whole_kept call) (whole_calm call)
+        goes_on (whole_step call) (whole_holds call takes) (whole_unborne call takes) (whole_calm call)
         (path_whole (view_of sp home) (record (slot_at s n) { extra = words_at (number_of call) (whole_step call) }) v.b call takes (record {
           bytes = it.bytes;
           is_in = record { program = it.is_in.program; phase = it.is_in.phase; silent = it.is_in.silent; awake = it.is_in.awake };
@@ -347,12 +352,14 @@ module _ {names : Names} {s : KernelState} {a : AbstractState} (h : StandsFor na
                 StandsFor names (with_extra (with_spaces s sp) n
                 (words_at (number_of call) (if c then step.BufferRegion (length it.bytes) 0 else step.Gathering (length it.bytes)))) a
             by_page follows true test =
-                goes_on (step.BufferRegion (length it.bytes) 0) refl refl
+                goes_on (step.BufferRegion (length it.bytes) 0) (path_holds call takes (step.BufferRegion (length it.bytes) 0) refl)
+                (path_unborne call takes (step.BufferRegion (length it.bytes) 0) refl) refl
                 (path_before (view_of sp home) (record (slot_at s n) { extra = words_at (number_of call) (step.BufferRegion (length it.bytes) 0) }) v.b call takes
                 (length it.bytes) 0 (taking (words_at (number_of call) (step.BufferRegion (length it.bytes) 0)) follows, tt))
             by_page follows false test =
                 let words = words_at (number_of call) (step.Gathering (length it.bytes)) in
-                goes_on (step.Gathering (length it.bytes)) refl refl
+                goes_on (step.Gathering (length it.bytes)) (path_holds call takes (step.Gathering (length it.bytes)) refl)
+                (path_unborne call takes (step.Gathering (length it.bytes)) refl) refl
                 (gathers_path (view_of sp home) (record (slot_at s n) { extra = words }) v.b call (length it.bytes) (taking words follows)
                 (next_allowed follows test))
 
@@ -363,7 +370,8 @@ module _ {names : Names} {s : KernelState} {a : AbstractState} (h : StandsFor na
             by_next true follows = by_page follows ((path + length it.bytes) % 2 ^ 32 % PGSIZE == 0) refl
             by_next false ends =
                 let words = words_at (number_of call) (step.Gathering (length it.bytes)) in
-                goes_on (step.Gathering (length it.bytes)) refl refl
+                goes_on (step.Gathering (length it.bytes)) (path_holds call takes (step.Gathering (length it.bytes)) refl)
+                (path_unborne call takes (step.Gathering (length it.bytes)) refl) refl
                 (path_gathering (view_of sp home) (record (slot_at s n) { extra = words }) v.b call takes (length it.bytes)
                 (subst (λ (t : Bool). IsGatheringPath t (view_of sp home) (record (slot_at s n) { extra = words }) v.b call (length it.bytes)) (sym ends)
                 (record {
@@ -381,7 +389,8 @@ module _ {names : Names} {s : KernelState} {a : AbstractState} (h : StandsFor na
       goes_keeping : kept < left →
           StandsFor names (with_extra (with_spaces s sp) n (words_at (number_of call) (step.Keeping (done + kept) (word / 256) (left - kept)))) a
       goes_keeping more =
-          goes_on (step.Keeping (done + kept) (word / 256) (left - kept)) refl refl
+          goes_on (step.Keeping (done + kept) (word / 256) (left - kept)) (path_holds call takes (step.Keeping (done + kept) (word / 256) (left - kept)) refl)
+          (path_unborne call takes (step.Keeping (done + kept) (word / 256) (left - kept)) refl) refl
           (path_keeping (view_of sp home) (record (slot_at s n) { extra = words_at (number_of call) (step.Keeping (done + kept) (word / 256) (left - kept)) })
           v.b call takes (done + kept) (word / 256) (left - kept) (record {
             bytes = it.bytes;

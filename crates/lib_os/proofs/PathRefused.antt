@@ -12,6 +12,7 @@ use Rattle.jos_base.specs.KernelState.{KernelState, slot_at, with_extra, with_sp
 use Rattle.jos_base.specs.SpacesState.{SpacesState}
 use Rattle.jos_base.specs.Words.{negated}
 use Rattle.fs_layout.specs.declared.numbers.TheConstants.{MAXPATHLEN}
+use Rattle.lib_os.specs.declared.numbers.TheConstants.{SERVICE_SPAWN}
 use Rattle.lib_os.specs.declared.place.Place.TheVariants as place
 use Rattle.lib_os.specs.declared.place.Step.{Step}
 use Rattle.lib_os.specs.declared.place.Step.TheVariants as step
@@ -28,7 +29,7 @@ use Rattle.lib_os.specs.LibraryCall.{library_step}
 use Rattle.lib_os.specs.LibrarySteps.{KeepsStanding, service_answered}
 use Rattle.lib_os.specs.Places.{place_of, words_at}
 use Rattle.lib_os.specs.Rows.{Names}
-use Rattle.lib_os.specs.Services.{named_service, service_of}
+use Rattle.lib_os.specs.Services.{is_built, named_service, service_of}
 use Rattle.lib_os.specs.InService.{IsIn}
 use Rattle.lib_os.specs.StandsFor.{IsGatheringPath, IsRefusingPath, StandsFor, borne_in, view_of}
 use Rattle.lib_os.specs.StandsInHandler.{AreSmall, HasNoEnd, buffer_of, may_follow, stage_with, takes_path}
@@ -41,7 +42,7 @@ use Rattle.lib_os.proofs.PageTaken.{working_back, working_page}
 use Rattle.lib_os.proofs.Paths.{next_asked, path_is_long, path_leaves_fence, path_stepped}
 use Rattle.lib_os.proofs.PathServices.{gathering_path, has_path, path_given, path_holds, path_taking, path_unborne}
 use Rattle.lib_os.proofs.PipesStand.{is_calm}
-use Rattle.lib_os.proofs.Serving.{IsServed, holds_page, printed_nothing, served, step_in, words_of_none}
+use Rattle.lib_os.proofs.Serving.{IsServed, holds_page, printed_nothing, served, step_in, words_of_none, others_kept, kept_alone}
 
 -- ---- the path
 
@@ -49,12 +50,18 @@ use Rattle.lib_os.proofs.Serving.{IsServed, holds_page, printed_nothing, served,
 abbrev path_of : Service → ℕ
 path_of (service.Remove path) = path
 path_of (service.OpenFile path mode) = path
+path_of (service.Spawn path argv) = path
 path_of _ = 0
 
 path_register : (r : Regs) (call : Service) → has_path call ≡ true → service_of (record r { eax = number_of call }) ≡ call → r.edx ≡ buffer_of call
 unfolding service_of named_service
 path_register r (service.Remove path) takes is = ap path_of is
 path_register r (service.OpenFile path mode) takes is = ap path_of is
+path_register r (service.Spawn path argv) takes is = by_built (is_built SERVICE_SPAWN) is
+  where
+    by_built : (c : Bool) → (if c then named_service (record r { eax = SERVICE_SPAWN }) else service.Unknown) ≡ service.Spawn path argv → r.edx ≡ path
+    by_built true is = ap path_of is
+    by_built false is = let contradiction : service.Unknown ≡ service.Spawn path argv = is in absurd cc
 path_register r _ takes is = absurd (false≢true takes)
 
 -- what is given is a word
@@ -117,10 +124,10 @@ module _ (s : KernelState) (n : ℕ) (call : Service) (takes : takes_path call �
         refl,
         (
           h.0,
-          words_stand h.1 n (number_of call) v.b v.is v.own v.outside (ap borne_in v.place ∙ path_unborne call (path_given call takes) step.Entered)
+          words_stand h.1 n (number_of call) v.b v.is v.own v.outside (ap borne_in v.place ∙ path_unborne call (path_given call takes) step.Entered refl)
               (ap is_calm v.place) call step.TakingPage
-              (ap holds_page v.place ∙ path_holds call (path_given call takes) step.Entered ∙ sym (path_holds call (path_given call takes) step.TakingPage))
-              (path_unborne call (path_given call takes) step.TakingPage) refl (named_at (slot_at s n) call step.Entered stands)
+              (ap holds_page v.place ∙ path_holds call (path_given call takes) step.Entered refl ∙ sym (path_holds call (path_given call takes) step.TakingPage refl))
+              (path_unborne call (path_given call takes) step.TakingPage refl) refl (named_at (slot_at s n) call step.Entered stands)
               (path_taking (view_of s.spaces (slot_at s n).directory) (record (slot_at s n) { extra = words }) v.b call (path_given call takes)
               (in_with_words words here, takes, inside)),
         ),
@@ -141,7 +148,7 @@ module _ (s : KernelState) (n : ℕ) (call : Service) (takes : takes_path call �
         (
           h.0,
           back_stands h.1 n v.b v.is (record (slot_at s n).registers { eax = negated E_INVAL })
-              (ap borne_in v.place ∙ path_unborne call (path_given call takes) step.Entered) (ap holds_page v.place ∙ path_holds call (path_given call takes) step.Entered)
+              (ap borne_in v.place ∙ path_unborne call (path_given call takes) step.Entered refl) (ap holds_page v.place ∙ path_holds call (path_given call takes) step.Entered refl)
               (ap is_calm v.place) here.silent here.awake v.outside refl refl,
         ),
       )
@@ -181,9 +188,10 @@ module _ {names : Names} {s : KernelState} {a : AbstractState} {sp : SpacesState
 
   refused_stands : StandsFor names (service_answered (with_spaces s sp) n answer) (refused a n v.b (slot_at s n).registers (path_error done))
   refused_stands =
-      working_back h n v.b v.is v.own v.outside (ap borne_in v.place ∙ path_unborne call takes (step.Gathering done)) (ap is_calm v.place)
+      working_back h n v.b v.is v.own v.outside (ap borne_in v.place ∙ path_unborne call takes (step.Gathering done) refl) (ap is_calm v.place)
       (given_puts h n v.b v.is removed) last regs no_extra place.Guest
-      (words_of_none regs no_extra v.outside refl) refl refl refl refl refl refl it.is_in.silent it.is_in.awake refl refl
+      (words_of_none regs no_extra v.outside refl) refl refl refl
+      (ap others_kept v.place ∙ kept_alone (path_holds call takes (step.Gathering done) refl)) refl refl refl it.is_in.silent it.is_in.awake refl refl
       (given_tables h n v.b v.is removed) (given_row h n v.b v.is removed) in_order
 
 -- what the step comes to

@@ -36,7 +36,7 @@ module _ {names : Names} {s : KernelState} {a : AbstractState} (h : StandsFor na
   taking = before.0
 
   pub unborne : borne_in (place.InService call (step.Faulting done word)) ≡ None
-  unborne = path_unborne call takes (step.Faulting done word)
+  unborne = path_unborne call takes (step.Faulting done word) refl
 
   refused : is_refused_by false (rows_of s.spaces (slot_at s n).directory (page_number (path + done))) ≡ true
   refused =
@@ -50,22 +50,22 @@ module _ {names : Names} {s : KernelState} {a : AbstractState} (h : StandsFor na
 
   abbrev pub path_stopped_after : KernelState
   path_stopped_after =
-      handed_over h n v.b v.is (place.InService call (step.Faulting done word)) v.place refl (path_plain call takes (step.Faulting done word)) refl
+      handed_over h n v.b v.is (place.InService call (step.Faulting done word)) v.place refl (path_plain call takes (step.Faulting done word) refl) refl
       (page_fault (page_at v.b (path + done)) (path + done) Read)
 
   pub path_stopped : load_byte s n ((path + done) % 2 ^ 32) ≡ handing path_stopped_after
   path_stopped =
       ap (load_byte s n) path_place.0
-      ∙ load_byte_faults h n v.b v.is (place.InService call (step.Faulting done word)) v.place refl (path_plain call takes (step.Faulting done word)) refl
+      ∙ load_byte_faults h n v.b v.is (place.InService call (step.Faulting done word)) v.place refl (path_plain call takes (step.Faulting done word) refl) refl
       (page_fault (page_at v.b (path + done)) (path + done) Read) (path + done)
-      (stopped_raised h n v.b v.is call done word v.place (path_plain call takes (step.Faulting done word)) (path + done) path_place.1 false refused)
+      (stopped_raised h n v.b v.is call done word v.place (path_plain call takes (step.Faulting done word) refl) (path + done) path_place.1 false refused)
 
   pub path_stopped_stands : AreSmall (slot_at s n).registers → IsInOrder path_stopped_after → s.last ≡ Some n → StandsFor names path_stopped_after a
   path_stopped_stands small =
-      stopped_stands h n v.b v.is call done word v.place (path_plain call takes (step.Faulting done word)) (path + done)
+      stopped_stands h n v.b v.is call done word v.place (path_plain call takes (step.Faulting done word) refl) (path + done)
       path_place.1 false refused small (slot_at s n).registers.eax
       taking.program taking.silent taking.awake (following call taking.bytes refl taking.wants (ap (λ (m : ℕ). path + m) (sym taking.many)))
 
   pub path_stopped_lowers : hidden_left path_stopped_after n < hidden_left s n
   path_stopped_lowers =
-      stopped_lowers h n v.b v.is call done word v.place (path_plain call takes (step.Faulting done word)) (path + done) path_place.1 false refused
+      stopped_lowers h n v.b v.is call done word v.place (path_plain call takes (step.Faulting done word) refl) (path + done) path_place.1 false refused

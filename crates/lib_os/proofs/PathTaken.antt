@@ -22,10 +22,10 @@ use Rattle.lib_os.proofs.Calls.{PageMade, refusal_is_seen}
 use Rattle.lib_os.proofs.Effects.{Made}
 use Rattle.lib_os.proofs.Numbered.{named_at, number_of}
 use Rattle.lib_os.proofs.PageTaken.{take_asked, taken_none, taken_own, taken_puts, taken_row, taken_tables, working_page, working_perm, working_stands}
-use Rattle.lib_os.proofs.PathServices.{has_path, path_before, path_unborne, path_works, taking_path}
+use Rattle.lib_os.proofs.PathServices.{has_path, path_before, path_unborne, path_works, taking_path, path_holds}
 use Rattle.lib_os.proofs.PipesStand.{is_calm}
 use Rattle.lib_os.proofs.Placing.{allocated_made}
-use Rattle.lib_os.proofs.Serving.{IsServed, served}
+use Rattle.lib_os.proofs.Serving.{IsServed, served, others_kept, kept_alone}
 use Rattle.lib_os.proofs.WordsTell.{place_at}
 
 module _ {names : Names} {s : KernelState} {a : AbstractState} {sp : SpacesState} (h : StandsFor names s a) (n : ℕ) (call : Service)
@@ -61,12 +61,14 @@ module _ {names : Names} {s : KernelState} {a : AbstractState} {sp : SpacesState
 
   pub path_page_stands : StandsFor names (with_extra (with_spaces s sp) n (words_at (number_of call) to)) a
   path_page_stands =
-      working_stands h n v.b v.is v.own v.outside (ap borne_in v.place ∙ path_unborne call takes step.TakingPage) (ap is_calm v.place)
+      working_stands h n v.b v.is v.own v.outside (ap borne_in v.place ∙ path_unborne call takes step.TakingPage refl) (ap is_calm v.place)
       (taken_puts h n v.b v.is made) last (slot_at s n).registers (words_at (number_of call) to) (place.InService call to)
       (place_at (slot_at s n).registers (number_of call) to v.outside
       ∙ ap (λ (x : Service). place.InService x to) (named_at (slot_at s n) call step.TakingPage v.place))
-      refl (path_unborne call takes to) refl refl refl (λ is. taken_own h n v.b v.is made)
-      (λ is. absurd (let contradiction : true ≡ false = sym (path_works call takes to (words_at (number_of call) to)) ∙ is in cc))
+      refl (path_unborne call takes to refl) refl
+      (ap others_kept v.place ∙ kept_alone (path_holds call takes step.TakingPage refl) ∙ sym (kept_alone (path_holds call takes to refl))) refl refl
+      (λ is. taken_own h n v.b v.is made)
+      (λ is. absurd (let contradiction : true ≡ false = sym (path_works call takes to refl (words_at (number_of call) to)) ∙ is in cc))
       (taken_tables h n v.b v.is made)
       (path_before (view_of sp (slot_at s n).directory) (record (slot_at s n) { extra = words_at (number_of call) to }) v.b call takes 0 0 (taken_at, tt))
       (taken_row h n v.b v.is made) in_order

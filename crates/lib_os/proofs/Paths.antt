@@ -13,6 +13,7 @@ use Rattle.lib_os.specs.declared.place.Step.TheVariants as step
 use Rattle.lib_os.specs.declared.service.Service.{Service}
 use Rattle.lib_os.specs.declared.service.Service.TheVariants as service
 use Rattle.lib_os.specs.AbstractState.{AbstractState, Born, gathering}
+use Rattle.lib_os.specs.AbstractSpawn.{address_gathered, spawn_step}
 use Rattle.lib_os.specs.Answers.{bytes_gathered, refused}
 use Rattle.lib_os.specs.Fence.{in_fence, is_inside}
 use Rattle.lib_os.specs.FileServices.{is_nul, open_asked, path_step, remove_asked}
@@ -53,15 +54,18 @@ module _ (a : AbstractState) (n : ℕ) (b : Born) (regs : Regs) where
   -- what is done when the path is taken
   abbrev pub next_asked : Service → List ℕ → Option AbstractState
   next_asked (service.OpenFile path mode) = open_asked a n b regs (service.OpenFile path mode) mode
+  next_asked (service.Spawn path argv) = λ name. address_gathered a n b regs (service.Spawn path argv) argv name [] []
   next_asked s = remove_asked a n b s
 
   pub path_stepped : (s : Service) → takes_path s ≡ true → (bytes : List ℕ) →
       library_step a n b regs s (stage_with bytes) ≡ path_step a n b regs s (buffer_of s) bytes (next_asked s)
-  unfolding library_step
+  unfolding library_step spawn_step
   path_stepped (service.Remove path) is [] = refl
   path_stepped (service.Remove path) is (byte ∷ rest) = refl
   path_stepped (service.OpenFile path mode) is [] = rw is refl
   path_stepped (service.OpenFile path mode) is (byte ∷ rest) = refl
+  path_stepped (service.Spawn path argv) is [] = refl
+  path_stepped (service.Spawn path argv) is (byte ∷ rest) = refl
   path_stepped _ is bytes = absurd (false≢true is)
 
 module _ (a : AbstractState) (n : ℕ) (b : Born) (regs : Regs) (call : Service) (path : ℕ) (bytes : List ℕ) (next : List ℕ → Option AbstractState) where

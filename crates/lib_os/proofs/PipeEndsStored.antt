@@ -123,7 +123,7 @@ module _ {names : Names} {s : KernelState} {a : AbstractState} {sp : SpacesState
       by_space r x hx false test =
           let found = entry_counts h q r x (grind (arith, nat_tests)) hx in
           let other : Elsewhere found.slot found.page n p =
-          λ same. absurd (ne (sym found.home ∙ ap (λ (m : ℕ). (slot_at s m).directory) same)) in
+          λ same. absurd (ne (sym (found.home n b is same))) in
           bytes_kept x.frame (λ same. alone found.slot found.page found.entry other found.counts (found.frame ∙ same))
 
       elsewhere : (r : ℕ) (x : Entry) → rows_of s.spaces q r ≡ Some x → sp.pages x.frame ≡ s.spaces.pages x.frame

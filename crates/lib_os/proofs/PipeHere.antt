@@ -22,7 +22,7 @@ use Rattle.lib_os.specs.AbstractState.{AbstractState, Born, at_guest, born, gues
 use Rattle.lib_os.specs.Answers.{answered}
 use Rattle.lib_os.specs.DescriptorPages.{HasPipe}
 use Rattle.lib_os.specs.InOrder.{IsInOrder}
-use Rattle.lib_os.specs.LibraryPages.{View, has_copy, has_working, keeps_moved}
+use Rattle.lib_os.specs.LibraryPages.{View, has_copy, keeps_moved}
 use Rattle.lib_os.specs.Places.{place_of, words_at}
 use Rattle.lib_os.specs.Rows.{HasThing, IsNamed, IsPage, IsUsers, Names, ShowsBy, descriptor_perm, is_shared}
 use Rattle.lib_os.specs.Rows.{logical, pipe_page, rows_of}
@@ -38,7 +38,7 @@ use Rattle.lib_os.proofs.Logical.{is_making_pipe, is_plain, logical_beside, unbo
 use Rattle.lib_os.proofs.Numbered.{named_at, number_of}
 use Rattle.lib_os.proofs.PageWords.{load_page_word}
 use Rattle.lib_os.proofs.PipesStand.{calm_places, calm_unmade, descriptors_turned, is_calm, is_calm_step}
-use Rattle.lib_os.proofs.Serving.{IsServed, holds_page, library_moved, plain_working, served}
+use Rattle.lib_os.proofs.Serving.{IsServed, holds_page, library_moved, plain_working, served, kept_where, pages_kept}
 use Rattle.lib_os.proofs.SlotsStand.{born_at, moves_bytes}
 use Rattle.lib_os.proofs.StatesStand.{clients_live, slot_changed, status_stands}
 use Rattle.lib_os.proofs.WindowWords.{read_at}
@@ -55,7 +55,7 @@ moving_unborne service.Fork at = refl
 moving_unborne _ at = refl
 
 -- each has its page where it keeps the bytes that it moves
-pub moving_holds : (s : Service) → moves_bytes s ≡ true → (at : PipeStep) → holds_page (place.InService s (step.Piped at)) ≡ keeps_moved at
+pub moving_holds : (s : Service) → moves_bytes s ≡ true → (at : PipeStep) → holds_page (place.InService s (step.Piped at)) ≡ kept_where (keeps_moved at)
 moving_holds (service.Read fd va len) moves at = refl
 moving_holds (service.Write fd va len) moves at = refl
 moving_holds s moves at = none_moves s moves
@@ -66,7 +66,7 @@ plain_back (service.Read fd va len) moves answer = refl
 plain_back (service.Write fd va len) moves answer = refl
 plain_back s moves answer = none_moves s moves
 
-holds_back : (s : Service) → moves_bytes s ≡ true → (answer : ℕ) → holds_page (place.InService s (step.Returning answer)) ≡ true
+holds_back : (s : Service) → moves_bytes s ≡ true → (answer : ℕ) → holds_page (place.InService s (step.Returning answer)) ≡ kept_where true
 holds_back (service.Read fd va len) moves answer = refl
 holds_back (service.Write fd va len) moves answer = refl
 holds_back s moves answer = none_moves s moves
@@ -167,7 +167,7 @@ module _ {names : Names} {s : KernelState} {a : AbstractState} (h : StandsFor na
       StandsOnPipe view_here (slot_to to) here.b service to → StandsFor names (with_extra (loaded s n va) n (words_to to)) a
   loads_on va order to keeps_to calm_to so =
       read_goes_on h n service (step.Piped from) here (moving_unborne service from) calm va order (step.Piped to) (moving_unborne service to) calm_to
-      (moving_holds service moves from ∙ keeps ∙ sym (moving_holds service moves to ∙ keeps_to)) (at_pipe view_here (slot_to to) here.b to service moves so)
+      (moving_holds service moves from ∙ ap kept_where keeps ∙ sym (moving_holds service moves to ∙ ap kept_where keeps_to)) (at_pipe view_here (slot_to to) here.b to service moves so)
 
   -- behind a call that changes nothing
   pub calls_on : (to : PipeStep) → keeps_moved to ≡ true → is_calm_step (step.Piped to) ≡ true →
@@ -175,7 +175,7 @@ module _ {names : Names} {s : KernelState} {a : AbstractState} (h : StandsFor na
   calls_on to keeps_to calm_to so =
       words_stand h n (number_of service) here.b here.is (born_at h n here.b here.is) here.outside (ap borne_in here.place ∙ moving_unborne service from)
       (ap is_calm here.place ∙ calm) service (step.Piped to)
-      (ap holds_page here.place ∙ moving_holds service moves from ∙ keeps ∙ sym (moving_holds service moves to ∙ keeps_to)) (moving_unborne service to)
+      (ap holds_page here.place ∙ moving_holds service moves from ∙ ap kept_where keeps ∙ sym (moving_holds service moves to ∙ ap kept_where keeps_to)) (moving_unborne service to)
       calm_to (named_at (slot_at s n) service (step.Piped from) here.place) (at_pipe view_here (slot_to to) here.b to service moves so)
 
   -- ---- its descriptor, and the page of its pipe
@@ -281,9 +281,9 @@ returns_at {names = names} {s = s} {a = a} h n b is call moves from stands keeps
           memory = own.memory;
           library = library_moved (place_of (slot_at s n)) (place_of k) (slot_at s n).extra k.extra (rows_of s.spaces k.directory)
               (ap has_copy stands ∙ sym (ap has_copy there))
-              (ap (λ (q : Place). has_working q (slot_at s n).extra) stands ∙ plain_working (place.InService call (step.Piped from)) (slot_at s n).extra refl
-              ∙ moving_holds call moves from ∙ keeps
-              ∙ sym (ap (λ (q : Place). has_working q k.extra) there ∙ plain_working (place.InService call (step.Returning answer)) k.extra refl
+              (ap (λ (q : Place). pages_kept q (slot_at s n).extra) stands ∙ plain_working (place.InService call (step.Piped from)) (slot_at s n).extra refl
+              ∙ moving_holds call moves from ∙ ap kept_where keeps
+              ∙ sym (ap (λ (q : Place). pages_kept q k.extra) there ∙ plain_working (place.InService call (step.Returning answer)) k.extra refl
               ∙ holds_back call moves answer)) own.library;
           regions_have = own.regions_have;
           regions_only = own.regions_only;

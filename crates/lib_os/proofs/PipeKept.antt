@@ -216,7 +216,8 @@ module _ {names : Names} {s : KernelState} {a : AbstractState} (h : StandsFor na
         let to : PipeStep = pipe.TakingHeld done from in
         let words : List ℕ = words_at (number_of reading) (step.Piped to) in
         let same : StandsFor names (with_spaces s sp) a =
-        unseen_rewritten h n v.b v.is plain working_page working_outside working_no_descriptor own it.kept.stands it.kept.own_page writes bytes
+        unseen_rewritten h n v.b v.is working_page
+        (logical_plain s.spaces s.environments.slots n (clients_live h n v.b v.is) plain working_page) working_outside working_no_descriptor own it.kept.stands it.kept.own_page writes bytes
         (with_byte_whole (s.spaces.pages own.frame) done (byte % 256) (omega arith) whole) puts.rewritten order (others_counts h n last sp)
         (subst (λ (p : Place). StandsAt p after (slot_at s n) v.b) (sym v.place) so_before) in
         words_alike same n (number_of reading) v.b v.is (born_at same n v.b v.is) v.outside (piped_unborne h n reading fd refl here v) reading

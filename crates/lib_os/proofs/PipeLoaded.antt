@@ -44,7 +44,7 @@ use Rattle.lib_os.proofs.Logical.{is_making_pipe, logical_beside, unborne_plain,
 use Rattle.lib_os.proofs.Numbered.{named_at, number_of}
 use Rattle.lib_os.proofs.PageWords.{load_page_word}
 use Rattle.lib_os.proofs.PipesStand.{PipesAlike, descriptors_alike}
-use Rattle.lib_os.proofs.Serving.{IsServed, holds_page, library_moved, plain_copy, plain_upcall, plain_working}
+use Rattle.lib_os.proofs.Serving.{IsServed, holds_page, library_moved, plain_copy, plain_upcall, plain_working, kept_where}
 use Rattle.lib_os.proofs.SlotsStand.{born_at}
 use Rattle.lib_os.proofs.StatesStand.{clients_live, quiet_stands, slot_changed}
 use Rattle.lib_os.proofs.Touching.{touched_quiet}
@@ -78,7 +78,7 @@ piped_on_way call fd given at q =
 
 -- it has its page as long as it moves bytes
 pub piped_held : (call : Service) (fd : ℕ) → descriptor_given call ≡ Some fd → (at : PipeStep) →
-    holds_page (place.InService call (step.Piped at)) ≡ keeps_moved at
+    holds_page (place.InService call (step.Piped at)) ≡ kept_where (keeps_moved at)
 piped_held (service.Read other va len) fd given at = refl
 piped_held (service.Write other va len) fd given at = refl
 piped_held (service.Seek other offset) fd given at = refl
@@ -260,7 +260,7 @@ module _ {names : Names} {s : KernelState} {a : AbstractState} (h : StandsFor na
         StandsFor names (with_extra (loaded s n va) n (words_at (number_of call) (step.Piped to))) a
     piped_goes_on to keeps locks drops drops_after so =
         words_alike reached n (number_of call) v.b v.is (born_at reached n v.b v.is) v.outside piped_unborne call (step.Piped to)
-        (ap holds_page v.place ∙ piped_held call other given from ∙ sym keeps ∙ sym (piped_held call other given to))
+        (ap holds_page v.place ∙ piped_held call other given from ∙ ap kept_where (sym keeps) ∙ sym (piped_held call other given to))
         (given_unborne call other given (step.Piped to)) (named_at (slot_at s n) call (step.Piped from) v.place) piped_makes_none
         (piped_unmade call other given to)
         (subst (λ (p : Place). PipesAlike p (place.InService call (step.Piped to))) (sym v.place)
@@ -277,7 +277,7 @@ module _ {names : Names} {s : KernelState} {a : AbstractState} (h : StandsFor na
         StandsFor names (with_extra (loaded s n va) n (words_at (number_of call) (step.Piped to))) (at_stage a n v.b call stage)
     piped_shows to stage keeps locks drops drops_after so =
         stage_alike reached n (number_of call) v.b v.is v.outside piped_unborne call (step.Piped to) stage
-        (ap holds_page v.place ∙ piped_held call other given from ∙ sym keeps ∙ sym (piped_held call other given to))
+        (ap holds_page v.place ∙ piped_held call other given from ∙ ap kept_where (sym keeps) ∙ sym (piped_held call other given to))
         (given_unborne call other given (step.Piped to)) (named_at (slot_at s n) call (step.Piped from) v.place) piped_makes_none
         (piped_unmade call other given to)
         (subst (λ (p : Place). PipesAlike p (place.InService call (step.Piped to))) (sym v.place)

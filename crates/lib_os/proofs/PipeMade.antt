@@ -68,6 +68,7 @@ use Rattle.lib_os.proofs.SlotsStand.{SeenAlike, born_at, born_live, descriptor_s
 use Rattle.lib_os.proofs.StatesStand.{born_not_first, children_moved, clients_live, ends_at, others_count, others_counts, others_ends, others_stand}
 use Rattle.lib_os.proofs.StatesStand.{old_set, server_alike, server_same, servers_seen, slot_in_order, tabled_set, turns_settle}
 use Rattle.lib_os.proofs.WordsTell.{is_in_handler}
+use Rattle.lib_os.proofs.KeptPages.{spawns_aside}
 
 -- ---- names
 
@@ -226,7 +227,7 @@ module _ {names : Names} {s : KernelState} {a : AbstractState} {sp : SpacesState
       by_space false test =
           let found = entry_counts h d r z (grind (arith, nat_tests)) hz in
           let other : Elsewhere found.slot found.page n q =
-          λ there. absurd (ne (sym found.home ∙ ap (λ (m : ℕ). (slot_at s m).directory) there)) in
+          λ there. absurd (ne (sym (found.home n v.b v.is there))) in
           λ same. alone q y making is found.slot found.page found.entry other found.counts (found.frame ∙ same)
 
   -- nor another of its own pages
@@ -692,7 +693,9 @@ module _ {names : Names} {s : KernelState} {a : AbstractState} {sp : SpacesState
           (x_is ∙ sym row_there ∙ ap (rows_of sp home) (sym here) ∙ hy)
       | inr other ↦ was.descriptors q y descriptor (sym (row_beside q other) ∙ hy)
     ];
-    none = λ q off no_descriptor no_stack no_copy no_working. beside_pipe q no_descriptor ∙ was.none q off no_descriptor no_stack no_copy no_working;
+    spawns = λ q is. own_alike q (spawns_aside at words q is).no_descriptor (was.spawns q is);
+    none = λ q off no_descriptor no_stack no_copy no_working no_spawns.
+        beside_pipe q no_descriptor ∙ was.none q off no_descriptor no_stack no_copy no_working no_spawns;
   }
 
   -- the region had its table

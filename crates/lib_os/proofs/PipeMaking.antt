@@ -41,6 +41,7 @@ use Rattle.lib_os.proofs.Serving.{library_moved, plain_upcall}
 use Rattle.lib_os.proofs.SlotsStand.{HasTables, SeenAlike, born_at, descriptor_shown}
 use Rattle.lib_os.proofs.StatesStand.{clients_live, ends_at, others_count, others_counts, own_moves, slot_in_order}
 use Rattle.lib_os.proofs.WordsTell.{is_in_handler, outside_stack, place_at}
+use Rattle.lib_os.proofs.KeptPages.{spawns_aside}
 
 -- ---- pages that are made
 
@@ -186,8 +187,9 @@ module _ {names : Names} {s : KernelState} {a : AbstractState} (h : StandsFor na
       working = λ has. own_alike _ refl (it.working has);
       no_working = λ has. rows (page_number UTEMP) (making_none to (page_number UTEMP) refl) ∙ it.no_working has;
       descriptors = λ q x descriptor hx. by_page q x descriptor hx (is_making to q) refl;
-      none = λ q off no_descriptor no_stack no_copy no_working.
-          rows q (making_none to q no_descriptor) ∙ it.none q off no_descriptor no_stack no_copy no_working;
+      spawns = λ q is. own_alike q (spawns_aside at words q is).no_descriptor (it.spawns q is);
+      none = λ q off no_descriptor no_stack no_copy no_working no_spawns.
+          rows q (making_none to q no_descriptor) ∙ it.none q off no_descriptor no_stack no_copy no_working no_spawns;
     }
       where
         by_page : (q : ℕ) (x : Entry) → is_of_descriptor q ≡ true → rows_of sp home q ≡ Some x → (c : Bool) → is_making to q ≡ c → x.perm ≡ descriptor_perm

@@ -18,11 +18,12 @@ use Rattle.lib_os.specs.AbstractState.{AbstractSlot, AbstractState, Born, born, 
 use Rattle.lib_os.specs.PipeEnds.{is_given, is_made, is_on_its_way}
 use Rattle.lib_os.specs.Places.{place_of}
 use Rattle.lib_os.specs.Rows.{EntryRow, Names, descriptor_at, is_of_descriptor, is_pipe_page, is_shared, logical, pipe_page, rows_of}
-use Rattle.lib_os.specs.StandsFor.{IsBorne, StandsAt, StandsFor, StandsForServer, StandsForSlot, is_passed, view_of}
+use Rattle.lib_os.specs.StandsFor.{StandsAt, StandsFor, StandsForServer, StandsForSlot, view_of}
 use Rattle.lib_os.proofs.Logical.{clients_are, logical_of}
 use Rattle.lib_os.proofs.SharedCount.{Shares, shares_stands, shares_unmade}
 use Rattle.lib_os.proofs.SlotsStand.{born_at}
 use Rattle.lib_os.proofs.StatesStand.{ends_at}
+use Rattle.lib_os.proofs.Children.{IsOfParent, of_parent}
 
 module _ {names : Names} {s : KernelState} {a : AbstractState} (h : StandsFor names s a) where
   abbrev pub HasEndOf : ℕ → Type 0
@@ -90,18 +91,14 @@ module _ {names : Names} {s : KernelState} {a : AbstractState} (h : StandsFor na
           let k : StandsForServer (slot_at s m) id = subst (λ (slot : AbstractSlot). StandsForSlot names s.spaces (slot_at s m) slot) at so in
           absurd (client.0 (sym (sym (h.tabled.ids m client.1) ∙ ap (λ (i : ℕ). i % NENV) (k.id_is ∙ k.first))))
       by_slot (born b) at so = born_ends m b at fd x below (shares_unmade h m client.0 client.1 p fd x descriptor fd_is has) lies
-      by_slot (unborn id parent) at so = by_passed (is_passed it.step p) refl
+      by_slot (unborn id parent) at so = by_passed (it.passed p) refl
         where
-          it : IsBorne names s.spaces (slot_at s (parent % NENV)) (a.slots (parent % NENV)) (slot_at s m) id parent
-          it = h.children.borne m id parent at
+          it : IsOfParent s.spaces (slot_at s (parent % NENV)) (a.slots (parent % NENV)) (slot_at s m) id parent
+          it = of_parent (h.children.borne m id parent at)
 
-          either_true : (t : Bool) → (t || is_of_descriptor p) ≡ true
-          either_true true = refl
-          either_true false = descriptor
-
-          by_passed : (c : Bool) → is_passed it.step p ≡ c → HasEndOf (names.name x.frame)
+          by_passed : (c : Bool) → it.passed p ≡ c → HasEndOf (names.name x.frame)
           by_passed true passed =
-              born_ends (parent % NENV) it.b it.born_by fd x below (ap (λ (q : Place). is_made q fd) it.at)
+              born_ends (parent % NENV) it.b it.born_by fd x below (it.unmade fd)
               (ap (its_rows (parent % NENV)) (sym page) ∙ sym (it.handed p descriptor passed) ∙ ap (its_rows m) page ∙ lies)
           by_passed false not_yet =
-              absurd (none-some x (sym (it.rest p (either_true _) not_yet) ∙ ap (its_rows m) page ∙ lies))
+              absurd (none-some x (sym (it.rest p descriptor not_yet) ∙ ap (its_rows m) page ∙ lies))

@@ -34,7 +34,7 @@ use Rattle.lib_os.proofs.Numbered.{number_of}
 use Rattle.lib_os.proofs.PipeBytes.{byte_stored, lock_stored, lock_there, same_held, same_stands, with_byte, with_byte_whole, with_word, with_word_whole}
 use Rattle.lib_os.proofs.PipeWritten.{IsWritten, byte_puts, hidden_behind, is_back, is_on_pipes, pipe_address, pipe_has, pipe_whole}
 use Rattle.lib_os.proofs.PipeWritten.{held_on, word_puts}
-use Rattle.lib_os.proofs.Serving.{IsServed, holds_page, served}
+use Rattle.lib_os.proofs.Serving.{IsServed, holds_page, served, kept_where}
 use Rattle.lib_os.proofs.SlotsStand.{ViewAlike, moves_bytes}
 
 -- ---- what is so in a space that is alike but for pipes, with other words
@@ -152,7 +152,7 @@ tell_moving v k b (service.Write fd va len) pipe.TakingBytes is keeps so = absur
 tell_moving v k b (service.Write fd va len) _ is keeps so = so
 tell_moving v k b _ at is keeps so = absurd (let contradiction : false ≡ true = is in cc)
 
-pub moving_holds : (s : Service) (at : PipeStep) → moves_bytes s ≡ true → holds_page (place.InService s (step.Piped at)) ≡ keeps_moved at
+pub moving_holds : (s : Service) (at : PipeStep) → moves_bytes s ≡ true → holds_page (place.InService s (step.Piped at)) ≡ kept_where (keeps_moved at)
 moving_holds (service.Read fd va len) at is = refl
 moving_holds (service.Write fd va len) at is = refl
 moving_holds _ at is = absurd (let contradiction : false ≡ true = is in cc)

@@ -32,7 +32,7 @@ use Rattle.lib_os.proofs.PageTaken.{working_no_descriptor, working_page, working
 use Rattle.lib_os.proofs.PipeLoaded.{is_pipes}
 use Rattle.lib_os.proofs.PipesStand.{is_calm}
 use Rattle.lib_os.proofs.Placing.{allocated_made}
-use Rattle.lib_os.proofs.Serving.{IsServed, served}
+use Rattle.lib_os.proofs.Serving.{IsServed, served, others_kept}
 use Rattle.lib_os.proofs.WordsTell.{place_at}
 
 -- ---- an end is open as it was
@@ -97,7 +97,7 @@ module _ {names : Names} {s : KernelState} {a : AbstractState} {sp : SpacesState
       (slot_at s n).registers (words_at (number_of reading) locking) (place.InService reading locking)
       (place_at (slot_at s n).registers (number_of reading) locking r.outside
       ∙ ap (λ (x : Service). place.InService x locking) (named_at (slot_at s n) reading (step.Piped pipe.TakingBytes) r.place))
-      refl refl refl refl refl (λ working. taken_own h n r.b r.is made)
+      refl refl refl (ap others_kept r.place) refl refl (λ working. taken_own h n r.b r.is made)
       (λ none. absurd (let contradiction : true ≡ false = none in cc)) (taken_tables h n r.b r.is made)
       ((reads_at, r.at.2), tt) (taken_row h n r.b r.is made) in_order
 
@@ -146,7 +146,7 @@ module _ {names : Names} {s : KernelState} {a : AbstractState} {sp : SpacesState
       (slot_at s n).registers (words_at (number_of writing) gathering) (place.InService writing gathering)
       (place_at (slot_at s n).registers (number_of writing) gathering w.outside
       ∙ ap (λ (x : Service). place.InService x gathering) (named_at (slot_at s n) writing (step.Piped pipe.TakingBytes) w.place))
-      refl refl refl refl refl (λ working. taken_own h n w.b w.is made)
+      refl refl refl (ap others_kept w.place) refl refl (λ working. taken_own h n w.b w.is made)
       (λ none. absurd (let contradiction : true ≡ false = none in cc)) (taken_tables h n w.b w.is made)
       (writes_at, tt) (taken_row h n w.b w.is made) in_order
 

@@ -376,7 +376,7 @@ module _ {names : Names} {s : KernelState} {a : AbstractState} (h : StandsFor na
     servers_not : d ≡ (slot_at s 0).directory → x.frame ≢ e.frame
     servers_not first = pipe_has.apart p x (ap (λ (r : ℕ). rows_of s.spaces r p) (sym first) ∙ hx)
 
-    its_sharing : (found : Counts s d p x) → x.frame ≡ e.frame → is_shared found.entry.perm ≡ true
+    its_sharing : (found : Counts s a d p x) → x.frame ≡ e.frame → is_shared found.entry.perm ≡ true
     its_sharing found same =
         same_sharing before h.apart found.slot found.page n (pipe_page fd) found.entry e found.counts pipe_counts (found.frame ∙ same) ∙ pipe_shared_page
 

@@ -23,7 +23,7 @@ use Rattle.lib_os.proofs.Calls.{ipc_recv_is, waits_is}
 use Rattle.lib_os.proofs.Fences.{page_inside_aligned}
 use Rattle.lib_os.proofs.MessagesStand.{waits_stand}
 use Rattle.lib_os.proofs.PipesStand.{is_calm}
-use Rattle.lib_os.proofs.Serving.{holds_page}
+use Rattle.lib_os.proofs.Serving.{holds_page, kept_where}
 use Rattle.lib_os.proofs.Slots.{words_put}
 use Rattle.lib_os.proofs.SlotsStand.{born_at, born_live}
 
@@ -58,7 +58,7 @@ recv_is s n va from rest live page =
 -- the state behind the call, with the words of the step after it
 pub recv_stands : {names : Names} {s : KernelState} {a : AbstractState} → StandsFor names s a → (n : ℕ) (b : Born) →
     a.slots n ≡ born b → is_handlers (slot_at s n).registers.esp ≡ false → borne_in (place_of (slot_at s n)) ≡ None →
-    holds_page (place_of (slot_at s n)) ≡ false → is_calm (place_of (slot_at s n)) ≡ true → (va from id : ℕ) (rest : List ℕ) → IsAboutToWait (slot_at s n) b va from id →
+    holds_page (place_of (slot_at s n)) ≡ kept_where false → is_calm (place_of (slot_at s n)) ≡ true → (va from id : ℕ) (rest : List ℕ) → IsAboutToWait (slot_at s n) b va from id →
     service_of (record (slot_at s n).registers { eax = 9 }) ≡ service.Receive va from → (mid : KernelState) →
     mid ≡ (system s n SYS_IPC_RECV (destination_of va ∷ from ∷ rest)).state →
     StandsFor names (with_extra mid n (words_at 9 (step.ReadingValue id))) (receive a n b (slot_at s n).registers va from)

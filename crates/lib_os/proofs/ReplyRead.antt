@@ -25,7 +25,7 @@ use Rattle.lib_os.specs.Answers.{answered}
 use Rattle.lib_os.specs.FileServer.{await_reply}
 use Rattle.lib_os.specs.InOrder.{IsInOrder}
 use Rattle.lib_os.specs.LibraryCall.{library_step}
-use Rattle.lib_os.specs.LibraryPages.{has_copy, has_working}
+use Rattle.lib_os.specs.LibraryPages.{has_copy}
 use Rattle.lib_os.specs.LibrarySteps.{service_answered, gone_back}
 use Rattle.lib_os.specs.Places.{place_of, words_at, is_handlers}
 use Rattle.lib_os.specs.Rows.{Names, rows_of}
@@ -38,7 +38,7 @@ use Rattle.lib_os.proofs.Calls.{ipc_recv_is, waits_is}
 use Rattle.lib_os.proofs.Loading.{loaded}
 use Rattle.lib_os.proofs.Logical.{is_plain, unborne_plain}
 use Rattle.lib_os.proofs.PipesStand.{calm_places, calm_unmade, descriptors_turned, is_calm}
-use Rattle.lib_os.proofs.Serving.{service_step, holds_page, plain_upcall, plain_copy, plain_working, library_moved}
+use Rattle.lib_os.proofs.Serving.{service_step, holds_page, plain_upcall, plain_copy, plain_working, library_moved, kept_where, pages_kept}
 use Rattle.lib_os.proofs.Slots.{words_put}
 use Rattle.lib_os.proofs.SlotsStand.{born_at, born_live}
 use Rattle.lib_os.proofs.StatesStand.{quiet_stands, slot_changed, stopped_settles}
@@ -66,7 +66,7 @@ abbrev pub waiting : Born → Born
 waiting b = record b { phase = in_service service.Sync awaiting; blocked = true }
 
 awaiting_own : {names : Names} {s : SpacesState} {k : Slot} {b : Born} (id : ℕ) → StandsForBorn names s k b → is_handlers k.registers.esp ≡ false →
-    holds_page (place_of k) ≡ false → is_calm (place_of k) ≡ true → id ≡ k.id → HasAsked k b service.Sync →
+    holds_page (place_of k) ≡ kept_where false → is_calm (place_of k) ≡ true → id ≡ k.id → HasAsked k b service.Sync →
     service_of (record k.registers { eax = SERVICE_SYNC }) ≡ service.Sync → StandsForBorn names s (awaiting_in_slot k id) (waiting b)
 awaiting_own {names = names} {s = s} {k = k} {b = b} id own outside holds calm self has names_it =
     let j : Slot = awaiting_in_slot k id in
@@ -90,7 +90,7 @@ awaiting_own {names = names} {s = s} {k = k} {b = b} id own outside holds calm s
       descriptors = descriptors_turned names s k.directory (place_of k) (place_of j) b.descriptors calm (ap is_calm at) own.descriptors;
       memory = own.memory;
       library = library_moved (place_of k) (place_of j) k.extra j.extra (rows_of s k.directory) (plain_copy (place_of k) plain ∙ sym (ap has_copy at))
-          (plain_working (place_of k) k.extra plain ∙ holds ∙ sym (ap (λ (p : Place). has_working p j.extra) at)) own.library;
+          (plain_working (place_of k) k.extra plain ∙ holds ∙ sym (ap (λ (p : Place). pages_kept p j.extra) at)) own.library;
       regions_have = own.regions_have;
       regions_only = own.regions_only;
       stack = own.stack;
@@ -112,7 +112,7 @@ awaiting_call s n rest live =
 
 module _ {names : Names} {s : KernelState} {a : AbstractState} (h : StandsFor names s a) (n : ℕ) (b : Born) (at : a.slots n ≡ born b)
     (outside : is_handlers (slot_at s n).registers.esp ≡ false) (unborne : borne_in (place_of (slot_at s n)) ≡ None)
-    (holds : holds_page (place_of (slot_at s n)) ≡ false) (calm : is_calm (place_of (slot_at s n)) ≡ true) where
+    (holds : holds_page (place_of (slot_at s n)) ≡ kept_where false) (calm : is_calm (place_of (slot_at s n)) ≡ true) where
   -- its step
   pub awaiting_step : HasAsked (slot_at s n) b service.Sync → abs_step a n ≡ Some (await_reply a n b service.Sync)
   unfolding library_step
@@ -172,7 +172,7 @@ awake_reply k b s runs awake (awaits h) = absurd (never k.status b.blocked runs 
 
 module _ {names : Names} {s : KernelState} {a : AbstractState} (h : StandsFor names s a) (n : ℕ) (b : Born) (at : a.slots n ≡ born b)
     (outside : is_handlers (slot_at s n).registers.esp ≡ false) (unborne : borne_in (place_of (slot_at s n)) ≡ None)
-    (holds : holds_page (place_of (slot_at s n)) ≡ false) (calm : is_calm (place_of (slot_at s n)) ≡ true) (has : HasReply (slot_at s n) b service.Sync) where
+    (holds : holds_page (place_of (slot_at s n)) ≡ kept_where false) (calm : is_calm (place_of (slot_at s n)) ≡ true) (has : HasReply (slot_at s n) b service.Sync) where
   abbrev reply : ℕ
   reply = (slot_at s n).rendezvous.value
 

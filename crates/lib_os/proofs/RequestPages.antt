@@ -1,5 +1,5 @@
 -- The services that ask the file server with a page: at which steps they have it, what is known there, and by which word they ask.
-use Rattle.std.proofs.Common.{◌≡◌, ◌&&◌, ℕ, Bool, true, false, List, None, refl}
+use Rattle.std.proofs.Common.{◌≡◌, ◌&&◌, ℕ, Bool, true, false, List, None, refl, ap}
 use Rattle.std.proofs.lemmas.Bool.{false≢true}
 use Rattle.jos_base.specs.declared.environment.Status.{Status}
 use Rattle.jos_base.specs.Environments.{Slot}
@@ -21,7 +21,7 @@ use Rattle.lib_os.specs.StandsFor.{TellsOfFile, TellsRequest, borne_in, HasWhole
 use Rattle.lib_os.proofs.AskedPlaces.{awaiting_step, asked_step}
 use Rattle.lib_os.proofs.Logical.{is_plain}
 use Rattle.lib_os.proofs.PipesStand.{is_calm_step}
-use Rattle.lib_os.proofs.Serving.{holds_page}
+use Rattle.lib_os.proofs.Serving.{holds_page, kept_where, others_kept}
 use Rattle.lib_os.proofs.SlotsStand.{is_piped}
 
 abbrev pub asks_with_page : Service → Bool
@@ -56,16 +56,16 @@ each_of true true false all = absurd (false≢true all)
 each_of true false w all = absurd (false≢true all)
 each_of false u w all = absurd (false≢true all)
 
-pub request_held : (s : Service) → asks_with_page s ≡ true → (at : Step) → keeps_each at ≡ true → holds_page (place.InService s at) ≡ true
-request_held (service.Remove path) is at keeps = (each_of (keeps_path at) (keeps_request at) (keeps_page at) keeps).0
-request_held (service.Seek fd offset) is at keeps = (each_of (keeps_path at) (keeps_request at) (keeps_page at) keeps).1
-request_held (service.SetSize fd size) is at keeps = (each_of (keeps_path at) (keeps_request at) (keeps_page at) keeps).1
-request_held (service.Read fd va len) is at keeps = (each_of (keeps_path at) (keeps_request at) (keeps_page at) keeps).1
-request_held (service.Stat fd va) is at keeps = (each_of (keeps_path at) (keeps_request at) (keeps_page at) keeps).1
-request_held (service.Write fd va len) is at keeps = (each_of (keeps_path at) (keeps_request at) (keeps_page at) keeps).2
+pub request_held : (s : Service) → asks_with_page s ≡ true → (at : Step) → keeps_each at ≡ true → holds_page (place.InService s at) ≡ kept_where true
+request_held (service.Remove path) is at keeps = ap kept_where (each_of (keeps_path at) (keeps_request at) (keeps_page at) keeps).0
+request_held (service.Seek fd offset) is at keeps = ap kept_where (each_of (keeps_path at) (keeps_request at) (keeps_page at) keeps).1
+request_held (service.SetSize fd size) is at keeps = ap kept_where (each_of (keeps_path at) (keeps_request at) (keeps_page at) keeps).1
+request_held (service.Read fd va len) is at keeps = ap kept_where (each_of (keeps_path at) (keeps_request at) (keeps_page at) keeps).1
+request_held (service.Stat fd va) is at keeps = ap kept_where (each_of (keeps_path at) (keeps_request at) (keeps_page at) keeps).1
+request_held (service.Write fd va len) is at keeps = ap kept_where (each_of (keeps_path at) (keeps_request at) (keeps_page at) keeps).2
 request_held _ is at keeps = absurd (false≢true is)
 
-pub awaiting_held : (s : Service) → asks_with_page s ≡ true → (id : ℕ) → holds_page (place.InService s (awaiting_step s id 0)) ≡ true
+pub awaiting_held : (s : Service) → asks_with_page s ≡ true → (id : ℕ) → holds_page (place.InService s (awaiting_step s id 0)) ≡ kept_where true
 awaiting_held (service.Remove path) is id = refl
 awaiting_held (service.Seek fd offset) is id = refl
 awaiting_held (service.SetSize fd size) is id = refl
@@ -74,7 +74,7 @@ awaiting_held (service.Read fd va len) is id = refl
 awaiting_held (service.Stat fd va) is id = refl
 awaiting_held _ is id = absurd (false≢true is)
 
-pub request_unheld : (s : Service) → asks_with_page s ≡ true → (id : ℕ) → holds_page (place.InService s (step.ReadingReply id)) ≡ false
+pub request_unheld : (s : Service) → asks_with_page s ≡ true → (id : ℕ) → holds_page (place.InService s (step.ReadingReply id)) ≡ kept_where false
 request_unheld (service.Remove path) is id = refl
 request_unheld (service.Seek fd offset) is id = refl
 request_unheld (service.SetSize fd size) is id = refl
@@ -82,6 +82,16 @@ request_unheld (service.Write fd va len) is id = refl
 request_unheld (service.Read fd va len) is id = refl
 request_unheld (service.Stat fd va) is id = refl
 request_unheld _ is id = absurd (false≢true is)
+
+-- it keeps no others
+pub request_alone : (s : Service) → asks_with_page s ≡ true → (at : Step) → others_kept (place.InService s at) ≡ (λ p. false)
+request_alone (service.Remove path) is at = refl
+request_alone (service.Seek fd offset) is at = refl
+request_alone (service.SetSize fd size) is at = refl
+request_alone (service.Write fd va len) is at = refl
+request_alone (service.Read fd va len) is at = refl
+request_alone (service.Stat fd va) is at = refl
+request_alone _ is at = absurd (false≢true is)
 
 -- it bears no child, and entries count as they stand
 pub request_unborne : (s : Service) → asks_with_page s ≡ true → (at : Step) → borne_in (place.InService s at) ≡ None
@@ -127,7 +137,7 @@ pausing_step (service.OpenFile path mode) id fd = step.OpenPausing id fd
 pausing_step _ id fd = step.Pausing id
 
 -- it has its page at each
-pub identifying_held : (s : Service) → brings_page s ≡ true → (fd : ℕ) → holds_page (place.InService s (identifying_step s fd)) ≡ true
+pub identifying_held : (s : Service) → brings_page s ≡ true → (fd : ℕ) → holds_page (place.InService s (identifying_step s fd)) ≡ kept_where true
 identifying_held (service.OpenFile path mode) is fd = refl
 identifying_held (service.Remove path) is fd = refl
 identifying_held (service.Seek given offset) is fd = refl
@@ -137,7 +147,7 @@ identifying_held (service.Read given va len) is fd = refl
 identifying_held (service.Stat given va) is fd = refl
 identifying_held _ is fd = absurd (false≢true is)
 
-pub asking_held : (s : Service) → brings_page s ≡ true → (id fd : ℕ) → holds_page (place.InService s (asking_step s id fd)) ≡ true
+pub asking_held : (s : Service) → brings_page s ≡ true → (id fd : ℕ) → holds_page (place.InService s (asking_step s id fd)) ≡ kept_where true
 asking_held (service.OpenFile path mode) is id fd = refl
 asking_held (service.Remove path) is id fd = refl
 asking_held (service.Seek given offset) is id fd = refl
@@ -147,7 +157,7 @@ asking_held (service.Read given va len) is id fd = refl
 asking_held (service.Stat given va) is id fd = refl
 asking_held _ is id fd = absurd (false≢true is)
 
-pub pausing_held : (s : Service) → brings_page s ≡ true → (id fd : ℕ) → holds_page (place.InService s (pausing_step s id fd)) ≡ true
+pub pausing_held : (s : Service) → brings_page s ≡ true → (id fd : ℕ) → holds_page (place.InService s (pausing_step s id fd)) ≡ kept_where true
 pausing_held (service.OpenFile path mode) is id fd = refl
 pausing_held (service.Remove path) is id fd = refl
 pausing_held (service.Seek given offset) is id fd = refl
@@ -157,7 +167,7 @@ pausing_held (service.Read given va len) is id fd = refl
 pausing_held (service.Stat given va) is id fd = refl
 pausing_held _ is id fd = absurd (false≢true is)
 
-pub asked_held : (s : Service) → brings_page s ≡ true → (id fd : ℕ) → holds_page (place.InService s (asked_step s id fd)) ≡ true
+pub asked_held : (s : Service) → brings_page s ≡ true → (id fd : ℕ) → holds_page (place.InService s (asked_step s id fd)) ≡ kept_where true
 asked_held (service.OpenFile path mode) is id fd = refl
 asked_held (service.Remove path) is id fd = refl
 asked_held (service.Seek given offset) is id fd = refl

@@ -31,7 +31,7 @@ use Rattle.lib_os.proofs.PageTaken.{take_asked, taken_none_from, taken_own, take
 use Rattle.lib_os.proofs.PageTaken.{working_perm, working_stands}
 use Rattle.lib_os.proofs.PipesStand.{is_calm, is_calm_step}
 use Rattle.lib_os.proofs.Placing.{allocated_made}
-use Rattle.lib_os.proofs.Serving.{IsServed, served}
+use Rattle.lib_os.proofs.Serving.{IsServed, served, others_kept}
 use Rattle.lib_os.proofs.WordsTell.{place_at}
 
 -- where it goes on: where no bytes are wanted its page has them all
@@ -109,7 +109,7 @@ module _ {names : Names} {s : KernelState} {a : AbstractState} {sp : SpacesState
       (place.InService call to)
       (place_at (slot_at s n).registers SERVICE_WRITE to v.outside
       ∙ ap (λ (x : Service). place.InService x to) (named_at (slot_at s n) call step.TakingRequest v.place))
-      refl unborne calm refl refl (λ working. taken_own h n v.b v.is made)
+      refl unborne calm (ap others_kept v.place) refl refl (λ working. taken_own h n v.b v.is made)
       (λ none. absurd (let contradiction : true ≡ false = sym keeps ∙ none in cc)) (taken_tables h n v.b v.is made) so (taken_row h n v.b v.is made)
       in_order
 

@@ -35,7 +35,7 @@ use Rattle.lib_os.proofs.Logical.{page_inside_programs}
 use Rattle.lib_os.proofs.MessagesStand.{word_alone, page_stands}
 use Rattle.lib_os.proofs.PipesStand.{is_calm}
 use Rattle.lib_os.proofs.Sends.{received_in, with_message}
-use Rattle.lib_os.proofs.Serving.{holds_page, step_in}
+use Rattle.lib_os.proofs.Serving.{holds_page, step_in, kept_where}
 use Rattle.lib_os.proofs.Slots.{slot_kept}
 use Rattle.lib_os.proofs.SlotsStand.{CountsKept, born_at}
 use Rattle.lib_os.proofs.Waiters.{IsTaken, not_accepted, taken_is_sent}
@@ -165,7 +165,7 @@ module _ {names : Names} {s : KernelState} {a : AbstractState} (h : StandsFor na
 
 -- where its slot is as it was, whatever else is another
 pub answered_stands : {names : Names} {s : KernelState} {a : AbstractState} → StandsFor names s a → (n : ℕ) (b : Born) →
-    a.slots n ≡ born b → (k : Slot) (word : ℕ) → slot_at s n ≡ k → borne_in (place_of k) ≡ None → holds_page (place_of k) ≡ false →
+    a.slots n ≡ born b → (k : Slot) (word : ℕ) → slot_at s n ≡ k → borne_in (place_of k) ≡ None → holds_page (place_of k) ≡ kept_where false →
     is_calm (place_of k) ≡ true → k.rendezvous.receiving ≡ false → b.blocked ≡ false → is_handlers k.registers.esp ≡ false → StandsFor names (service_answered s n word) (answered a n b k.registers word)
 answered_stands {names = names} {s = s} {a = a} h n b at k word same unborne holds calm silent awake outside =
     subst (λ (x : Slot). StandsFor names (service_answered s n word) (answered a n b x.registers word)) same
@@ -175,7 +175,7 @@ answered_stands {names = names} {s = s} {a = a} h n b at k word same unborne hol
     (ap (λ (x : Slot). is_handlers x.registers.esp) same ∙ outside) refl refl)
 
 module _ {names : Names} {s : KernelState} {a : AbstractState} (h : StandsFor names s a) (n : ℕ) (b : Born) (at : a.slots n ≡ born b)
-    (unborne : borne_in (place_of (slot_at s n)) ≡ None) (holds : holds_page (place_of (slot_at s n)) ≡ false)
+    (unborne : borne_in (place_of (slot_at s n)) ≡ None) (holds : holds_page (place_of (slot_at s n)) ≡ kept_where false)
     (calm : is_calm (place_of (slot_at s n)) ≡ true) (silent : (slot_at s n).rendezvous.receiving ≡ false) (awake : b.blocked ≡ false) (outside : is_handlers (slot_at s n).registers.esp ≡ false)
     (t : ℕ) (ne : t ≢ n) (c : Born) (there : a.slots t ≡ born c) (taken : IsTaken (slot_at s t) c b.id) (value : ℕ) (small : value < 2 ^ 32)
     (va : ℕ) where

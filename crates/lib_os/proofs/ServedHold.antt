@@ -11,12 +11,13 @@ use Rattle.lib_os.specs.declared.service.Service.TheVariants as service
 use Rattle.lib_os.specs.AbstractLaws.{AreVacant, ServesWhoAsked, asks_server, client_served, has_asked, is_asking, is_unborn, is_vacant}
 use Rattle.lib_os.specs.AbstractRun.{abs_step, program_step, slot_step}
 use Rattle.lib_os.specs.AbstractState.{AbstractSlot, AbstractState, Born, Phase, ProgramState, Stage, asked, awaiting, born, free, guest, in_service}
-use Rattle.lib_os.specs.AbstractState.{serving, shell, unborn}
+use Rattle.lib_os.specs.AbstractSpawn.{spawn_step}
+use Rattle.lib_os.specs.AbstractState.{Spawning, serving, shell, unborn}
 use Rattle.lib_os.specs.Descriptors.{holds_in}
 use Rattle.lib_os.specs.FileServer.{await_reply}
 use Rattle.lib_os.specs.GuestStep.{born_in}
 use Rattle.lib_os.specs.LibraryCall.{library_step}
-use Rattle.lib_os.proofs.StepsAsk.{Ends, asks, bears, begins, ended, step_ends, still}
+use Rattle.lib_os.proofs.StepsAsk.{Ends, asks, bears, begins, drops, ended, step_ends, still}
 
 -- ---- its own step
 
@@ -28,6 +29,12 @@ module _ (a : AbstractState) (n : ℕ) (b : Born) where
   at_waiting s name =
       ap (λ (slot : AbstractSlot). holds_in (born_in slot) name) (upd-at a.slots n (born (record b { phase = in_service s awaiting; blocked = true })))
 
+  -- spawn waits, whatever it has found out
+  spawn_asked_holds : (regs : Regs) (path argv : ℕ) (found : Option Spawning) → Holds (spawn_step a n b regs path argv asked found)
+  unfolding spawn_step
+  spawn_asked_holds regs path argv None = record {}
+  spawn_asked_holds regs path argv (Some found) = at_waiting (service.Spawn path argv)
+
   asked_holds : (regs : Regs) (s : Service) → asks_server s ≡ true → Holds (library_step a n b regs s asked)
   unfolding library_step
   asked_holds regs (service.OpenFile path mode) is = at_waiting (service.OpenFile path mode)
@@ -38,9 +45,15 @@ module _ (a : AbstractState) (n : ℕ) (b : Born) where
   asked_holds regs (service.SetSize fd size) is = at_waiting (service.SetSize fd size)
   asked_holds regs (service.Remove path) is = at_waiting (service.Remove path)
   asked_holds regs service.Sync is = at_waiting service.Sync
+  asked_holds regs (service.Spawn path argv) is = spawn_asked_holds regs path argv b.spawning
   asked_holds regs _ is = absurd (cc)
 
   -- one who waits has no step
+  spawn_awaiting_holds : (regs : Regs) (path argv : ℕ) (found : Option Spawning) → Holds (spawn_step a n b regs path argv awaiting found)
+  unfolding spawn_step
+  spawn_awaiting_holds regs path argv None = record {}
+  spawn_awaiting_holds regs path argv (Some found) = record {}
+
   awaiting_holds : (regs : Regs) (s : Service) → asks_server s ≡ true → Holds (library_step a n b regs s awaiting)
   unfolding library_step
   awaiting_holds regs (service.OpenFile path mode) is = record {}
@@ -51,6 +64,7 @@ module _ (a : AbstractState) (n : ℕ) (b : Born) where
   awaiting_holds regs (service.SetSize fd size) is = record {}
   awaiting_holds regs (service.Remove path) is = record {}
   awaiting_holds regs service.Sync is = record {}
+  awaiting_holds regs (service.Spawn path argv) is = spawn_awaiting_holds regs path argv b.spawning
   awaiting_holds regs _ is = absurd (cc)
 
   service_holds : (regs : Regs) (s : Service) (stage : Stage) → has_asked (in_service s stage) ≡ true → Holds (library_step a n b regs s stage)
@@ -111,6 +125,9 @@ module _ (a : AbstractState) (h : ServesWhoAsked a) (n m : ℕ) (ne : m ≢ n) (
   other_holds x (bears child new c borne slots_are new_bears no_more free_are server_is) =
       subst (λ (slots : ℕ → AbstractSlot). Same slots) (sym slots_are)
       (two_hold child (born new) (born c) (no_unborn child (h.given.children n child borne)))
+  other_holds x (drops child id c borne slots_are no_more free_are server_is) =
+      subst (λ (slots : ℕ → AbstractSlot). Same slots) (sym slots_are)
+      (two_hold child (free id) (born c) (no_unborn child (h.given.children n child borne)))
 
 -- ---- so it holds on
 

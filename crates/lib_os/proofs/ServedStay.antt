@@ -15,7 +15,8 @@ use Rattle.lib_os.specs.declared.service.Service.{Service}
 use Rattle.lib_os.specs.declared.service.Service.TheVariants as service
 use Rattle.lib_os.specs.AbstractState.{AbstractState, AbstractSlot, Born, free, unborn, born, serving, Object, file, Request, act, seek}
 use Rattle.lib_os.specs.AbstractState.{ProgramState, guest, shell, Phase, in_service, Stage, entered, asked, awaiting, replied}
-use Rattle.lib_os.specs.AbstractState.{Server, leaving, idle, looking, busy, acted}
+use Rattle.lib_os.specs.AbstractState.{Server, leaving, idle, looking, busy, acted, Spawning}
+use Rattle.lib_os.specs.AbstractSpawn.{spawn_step}
 use Rattle.lib_os.specs.GuestStep.{born_in}
 use Rattle.lib_os.specs.FileServer.{request_begun, request_taken, await_reply, looked, after_act, file_opened, with_offset_of, moved_on}
 use Rattle.lib_os.specs.FileServer.{act_done, given, reply_at, reply, served, server_step, is_count}
@@ -27,7 +28,8 @@ use Rattle.lib_os.specs.AbstractLaws.{AreVacant, AreGivenApart, AsksOrLeaves, Le
 use Rattle.jos_base.proofs.Maps.{upd-other, upd-at}
 use Rattle.lib_os.proofs.FilesLeft.{clients_leave_files}
 use Rattle.lib_os.proofs.OpensStay.{opens_by_client, opens_by_server}
-use Rattle.lib_os.proofs.StepsAsk.{Kind, kind, Others, Own, bears_none, as_before, still, ended, asks, begins, bears, Ends, seen_other, step_ends}
+use Rattle.lib_os.proofs.StepsAsk.{Kind, kind, Others, Own, bears_none, bears_still, as_before, still, ended, asks, begins, bears, drops, Ends}
+use Rattle.lib_os.proofs.StepsAsk.{seen_other, step_ends}
 
 false≢true : {A : Type 0} → false ≡ true → A
 false≢true e = absurd (cc)
@@ -82,6 +84,16 @@ module _ (a : AbstractState) (n : ℕ) (b : Born) where
   at_waiting s asks_it =
       ap (λ (slot : AbstractSlot). is_asking slot) (upd-at a.slots n (born (record b { phase = in_service s awaiting; blocked = true }))) ∙ asks_it
 
+  spawn_asked : (regs : Regs) (path argv : ℕ) (found : Option Spawning) → Asks (spawn_step a n b regs path argv asked found)
+  unfolding spawn_step
+  spawn_asked regs path argv None = record {}
+  spawn_asked regs path argv (Some found) = at_waiting (service.Spawn path argv) refl
+
+  spawn_awaits : (regs : Regs) (path argv : ℕ) (found : Option Spawning) → Asks (spawn_step a n b regs path argv awaiting found)
+  unfolding spawn_step
+  spawn_awaits regs path argv None = record {}
+  spawn_awaits regs path argv (Some found) = record {}
+
   asked_waits : (regs : Regs) (s : Service) → asks_server s ≡ true → Asks (library_step a n b regs s asked)
   unfolding library_step
   asked_waits regs (service.OpenFile path mode) is = at_waiting (service.OpenFile path mode) refl
@@ -92,6 +104,7 @@ module _ (a : AbstractState) (n : ℕ) (b : Born) where
   asked_waits regs (service.SetSize fd size) is = at_waiting (service.SetSize fd size) refl
   asked_waits regs (service.Remove path) is = at_waiting (service.Remove path) refl
   asked_waits regs service.Sync is = at_waiting service.Sync refl
+  asked_waits regs (service.Spawn path argv) is = spawn_asked regs path argv b.spawning
   asked_waits regs _ is = absurd (cc)
 
   -- one who waits has no step
@@ -105,6 +118,7 @@ module _ (a : AbstractState) (n : ℕ) (b : Born) where
   awaiting_waits regs (service.SetSize fd size) is = record {}
   awaiting_waits regs (service.Remove path) is = record {}
   awaiting_waits regs service.Sync is = record {}
+  awaiting_waits regs (service.Spawn path argv) is = spawn_awaits regs path argv b.spawning
   awaiting_waits regs _ is = absurd (cc)
 
   waits_on : (regs : Regs) (s : Service) (stage : Stage) → has_asked (in_service s stage) ≡ true → Asks (library_step a n b regs s stage)
@@ -194,6 +208,7 @@ module _ (a : AbstractState) (h : ServesWhoAsked a) (n : ℕ) (b : Born) (at : a
   -- what an environment bears that bears nobody, or is as it was
   own_bore : (slot : AbstractSlot) → Own a n (kind slot) → (child : ℕ) → borne_by slot ≡ Some child → borne_by (a.slots n) ≡ Some child
   own_bore slot (bears_none e vacant made) child is = absurd (let contradiction : ◌≡◌ {A = Option ℕ} None (Some child) = sym e ∙ is in cc)
+  own_bore slot (bears_still e vacant made) child is = sym e ∙ is
   own_bore slot (as_before e) child is = sym (kind_bears slot (a.slots n) e) ∙ is
 
   -- who is served when the server is as it was
@@ -268,7 +283,7 @@ module _ (a : AbstractState) (h : ServesWhoAsked a) (n : ℕ) (b : Born) (at : a
   unborn_only _ is = absurd (cc)
 
   -- it begins to bear a child
-  module _ (child id parent : ℕ) (rest : List ℕ) (c : Born) (list : a.free_slots ≡ child ∷ rest) (bears_it : bears_in c.phase ≡ Some child) where
+  module _ (child id parent : ℕ) (rest : List ℕ) (c : Born) (list : a.free_slots ≡ child ∷ rest) (bears_it : bears_in c.phase c.spawning ≡ Some child) where
     listed : AreVacant a.slots (child ∷ rest)
     listed = subst (λ (l : List ℕ). AreVacant a.slots l) list h.given.vacant
 
@@ -329,9 +344,9 @@ module _ (a : AbstractState) (h : ServesWhoAsked a) (n : ℕ) (b : Born) (at : a
           ]
         ]
 
-  -- its child is born
-  module _ (child : ℕ) (new c : Born) (borne : borne_by (a.slots n) ≡ Some child) (new_bears : bears_in new.phase ≡ None)
-      (bears_no_more : bears_in c.phase ≡ None) where
+  -- its child is born, or is not born at all
+  module _ (child : ℕ) (new : AbstractSlot) (c : Born) (borne : borne_by (a.slots n) ≡ Some child) (new_bears : borne_by new ≡ None)
+      (bears_no_more : bears_in c.phase c.spawning ≡ None) where
     made : is_unborn (a.slots child) ≡ true
     made = h.given.children n child borne
 
@@ -339,28 +354,40 @@ module _ (a : AbstractState) (h : ServesWhoAsked a) (n : ℕ) (b : Born) (at : a
     made_only = unborn_only (a.slots child) made
 
     abbrev birth : ℕ → AbstractSlot
-    birth = now child (other_unborn child made) (born new) c
+    birth = now child (other_unborn child made) new c
 
     bore_birth : (m k : ℕ) → borne_by (birth m) ≡ Some k → (m ≢ n) × (borne_by (a.slots m) ≡ Some k)
     bore_birth m k is = elim (cases_eq m n) [
       | inl same ↦ absurd
           (let contradiction : ◌≡◌ {A = Option ℕ} None (Some k) =
-          sym (ap (λ (slot : AbstractSlot). borne_by slot) (at_own child (other_unborn child made) (born new) c) ∙ bears_no_more)
+          sym (ap (λ (slot : AbstractSlot). borne_by slot) (at_own child (other_unborn child made) new c) ∙ bears_no_more)
           ∙ subst (λ (j : ℕ). borne_by (birth j) ≡ Some k) same is in cc)
-      | inr ne ↦ (ne, bore_two child (other_unborn child made) (born new) c m k ne new_bears is)
+      | inr ne ↦ (ne, bore_two child (other_unborn child made) new c m k ne new_bears is)
     ]
 
     birth_apart : AreGivenApart birth a.free_slots
     birth_apart = record {
       vacant =
           let only = made_only in
-          vacant_two child (other_unborn child made) (born new) c a.free_slots (none_vacant a.slots child only.1 a.free_slots h.given.vacant)
+          vacant_two child (other_unborn child made) new c a.free_slots (none_vacant a.slots child only.1 a.free_slots h.given.vacant)
           h.given.vacant;
       children = λ m k is.
           let bore = bore_birth m k is in
-          unborn_two child (other_unborn child made) (born new) c k
+          unborn_two child (other_unborn child made) new c k
           (λ same. bore.0 (h.given.parents m n k bore.1 (borne ∙ ap (λ (j : ℕ). Some j) (sym same)))) (h.given.children m k bore.1);
       parents = λ m j k is so. let first = bore_birth m k is in let second = bore_birth j k so in h.given.parents m j k first.1 second.1;
+    }
+
+    -- where it is not born its slot is free
+    dropped_apart : is_vacant new ≡ true → AreGivenApart birth (child ∷ a.free_slots)
+    dropped_apart vacant = record {
+      vacant = (
+        ap (λ (slot : AbstractSlot). is_vacant slot) (at_child child (other_unborn child made) new c) ∙ vacant,
+        (let only = made_only in none_vacant a.slots child only.1 a.free_slots h.given.vacant),
+        birth_apart.vacant,
+      );
+      children = birth_apart.children;
+      parents = birth_apart.parents;
     }
 
   -- ---- any step of the environment
@@ -402,12 +429,22 @@ module _ (a : AbstractState) (h : ServesWhoAsked a) (n : ℕ) (b : Born) (at : a
   done_stays small x (bears child new c borne slots_are new_bears no_more free_are server_is) itself = record {
     asked = served_still x.slots x.server server_is
         (subst (λ (slots : ℕ → AbstractSlot). (m : ℕ) → is_asking (a.slots m) ≡ true → is_asking (slots m) ≡ true) (sym slots_are)
-        (let only = made_only child new c borne new_bears no_more in
-        asking_two child (other_unborn child (made child new c borne new_bears no_more)) (born new) c only.0
+        (let only = made_only child (born new) c borne new_bears no_more in
+        asking_two child (other_unborn child (made child (born new) c borne new_bears no_more)) (born new) c only.0
         (subst (λ (slots : ℕ → AbstractSlot). is_asking (a.slots n) ≡ true → is_asking (slots n) ≡ true) slots_are itself)));
     given = subst (λ (list : List ℕ). AreGivenApart x.slots list) (sym free_are)
         (subst (λ (slots : ℕ → AbstractSlot). AreGivenApart slots a.free_slots) (sym slots_are)
-        (birth_apart child new c borne new_bears no_more));
+        (birth_apart child (born new) c borne new_bears no_more));
+  }
+  done_stays small x (drops child id c borne slots_are no_more free_are server_is) itself = record {
+    asked = served_still x.slots x.server server_is
+        (subst (λ (slots : ℕ → AbstractSlot). (m : ℕ) → is_asking (a.slots m) ≡ true → is_asking (slots m) ≡ true) (sym slots_are)
+        (let only = made_only child (free id) c borne refl no_more in
+        asking_two child (other_unborn child (made child (free id) c borne refl no_more)) (free id) c only.0
+        (subst (λ (slots : ℕ → AbstractSlot). is_asking (a.slots n) ≡ true → is_asking (slots n) ≡ true) slots_are itself)));
+    given = subst (λ (list : List ℕ). AreGivenApart x.slots list) (sym free_are)
+        (subst (λ (slots : ℕ → AbstractSlot). AreGivenApart slots (child ∷ a.free_slots)) (sym slots_are)
+        (dropped_apart child (free id) c borne refl no_more refl));
   }
 
   own_stays : n < NENV → (r : Option AbstractState) → IfSome r (Ends a n) → (is_asking (a.slots n) ≡ true → Asks a n b r) → IfSome r ServesStill
@@ -485,14 +522,28 @@ module _ (a : AbstractState) (h : ServesWhoAsked a) where
   born_there (born c) b is = ap (λ (x : Born). born x) (same_Some c b is)
   born_there _ b is = absurd (cc)
 
-  reply_stays : (client answer : ℕ) (bytes : List ℕ) (object : Option ℕ) (b : Born) (phase : Phase) → a.slots client ≡ born b →
+  -- whom a client bears it bears behind the reply
+  reply_bears : (s : Service) (found : Option Spawning) (bytes : List ℕ) (answer : ℕ) →
+      bears_in (in_service s (replied bytes answer)) found ≡ bears_in (in_service s awaiting) found
+  reply_bears service.Fork found bytes answer = refl
+  reply_bears (service.Spawn path argv) found bytes answer = refl
+  reply_bears _ found bytes answer = refl
+
+  given_spawning : (b : Born) (object fd : Option ℕ) (answer : ℕ) → (given b object fd answer).0.spawning ≡ b.spawning
+  given_spawning b (Some name) (Some fd) answer = refl
+  given_spawning b (Some name) None answer = refl
+  given_spawning b None fd answer = refl
+
+  reply_stays : (client answer : ℕ) (bytes : List ℕ) (object : Option ℕ) (b : Born) (phase : Phase) → b.phase ≡ phase → a.slots client ≡ born b →
       IfSome (reply_at a client b answer bytes object phase) ServesStill
-  reply_stays client answer bytes object b (in_service s awaiting) at = record {
+  reply_stays client answer bytes object b (in_service s awaiting) phase_is at = record {
     asked = λ other is. absurd (cc);
     given = given_still a h client b at slots others
-        (λ child is. absurd
-        (let contradiction : ◌≡◌ {A = Option ℕ} None (Some child) =
-        sym (ap (λ (slot : AbstractSlot). borne_by slot) (upd-at a.slots client (born answered_one))) ∙ is in cc))
+        (λ child is.
+        ap (λ (slot : AbstractSlot). borne_by slot) at ∙ ap (λ (phase : Phase). bears_in phase b.spawning) phase_is
+        ∙ sym (reply_bears s b.spawning bytes to.1)
+        ∙ ap (λ (found : Option Spawning). bears_in (in_service s (replied bytes to.1)) found) (sym (given_spawning b object (lowest_free b) answer))
+        ∙ sym (ap (λ (slot : AbstractSlot). borne_by slot) (upd-at a.slots client (born answered_one))) ∙ is)
         a.free_slots (free_still a h client b at slots others);
   }
     where
@@ -507,12 +558,12 @@ module _ (a : AbstractState) (h : ServesWhoAsked a) where
 
       others : Others a client slots
       others m ne = seen_other a.slots client (born answered_one) m ne
-  reply_stays client answer bytes object b _ at = record {}
+  reply_stays client answer bytes object b _ phase_is at = record {}
 
   answer_stays : (client answer : ℕ) (bytes : List ℕ) (object : Option ℕ) (o : Option Born) → born_in (a.slots client) ≡ o →
       IfSome (reply a client answer bytes object o) ServesStill
   answer_stays client answer bytes object None is = replied_stays
-  answer_stays client answer bytes object (Some b) is = reply_stays client answer bytes object b b.phase (born_there (a.slots client) b is)
+  answer_stays client answer bytes object (Some b) is = reply_stays client answer bytes object b b.phase refl (born_there (a.slots client) b is)
 
   server_stays : (server : Server) → a.server ≡ server → IfSome (served a server) ServesStill
   server_stays leaving is = same_slots _ refl refl (λ client so. absurd (cc))

@@ -20,7 +20,6 @@ use Rattle.fs_layout.specs.FileActs.{there, with_new_file, write_act, write_to}
 use Rattle.fs_layout.specs.FileTree.{FileAct, FileSystem, NamedNode, Node, a_directory, a_file, named_at, node_at, open_path, read_file, remove_path}
 use Rattle.fs_layout.specs.FileTree.{directory_size, file_size, listed, set_file_size, stat_file, sync_files, write_file}
 use Rattle.lib_os.specs.declared.numbers.TheConstants.{DESCRIPTORS, DISKMAP, MAXOPEN, OPEN_RECORDS, REQUEST}
-use Rattle.lib_os.specs.declared.place.Place.{Place}
 use Rattle.lib_os.specs.AbstractState.{AbstractSlot, AbstractState, Born, Object, OpenFile, Request, Server, TablePlace, act, acted, born, busy, file}
 use Rattle.lib_os.specs.AbstractState.{free, idle, leaving, looking, read_end, seek, serving, terminal, unborn, write_end}
 use Rattle.lib_os.specs.DescriptorPages.{HasObject, Things, number_of}
@@ -28,8 +27,8 @@ use Rattle.lib_os.specs.Descriptors.{holds_in, is_held, is_name}
 use Rattle.lib_os.specs.FileServer.{act_done, file_opened, is_count, is_file_open, is_held_by, looked, low_mode, moved_on, offset_in}
 use Rattle.lib_os.specs.FileServer.{served, server_step, with_offset}
 use Rattle.lib_os.specs.GuestStep.{born_in}
-use Rattle.lib_os.specs.Rows.{AreNamed, IsNamed, Names, ShowsBy, descriptor_page, is_of_descriptor, is_programs, logical, rows_of, is_clients, is_pipe_page, is_shared}
-use Rattle.lib_os.specs.StandsFor.{IsServerStatus, StandsFor, StandsForSlot, is_passed, is_servers_page, things_in}
+use Rattle.lib_os.specs.Rows.{AreNamed, IsNamed, Names, ShowsBy, descriptor_page, is_of_descriptor, logical, rows_of, is_clients, is_pipe_page, is_shared}
+use Rattle.lib_os.specs.StandsFor.{IsServerStatus, StandsFor, StandsForSlot, is_servers_page, things_in}
 use Rattle.lib_os.specs.PipeEnds.{EndsStandAt, is_made}
 use Rattle.lib_os.specs.Places.{place_of}
 use Rattle.lib_os.specs.AbstractRun.{pipe_of}
@@ -39,6 +38,7 @@ use Rattle.lib_os.proofs.PipesStand.{ends_moved, same_places}
 use Rattle.lib_os.proofs.FilesLeft.{name-same}
 use Rattle.lib_os.proofs.Logical.{clients_are, logical_of}
 use Rattle.lib_os.proofs.ServerReplies.{server_goes_on, status_at}
+use Rattle.lib_os.proofs.Children.{IsOfParent, of_parent}
 
 -- ---- an act leaves as many blocks
 
@@ -131,16 +131,16 @@ module _ {names : Names} {s : KernelState} {a : AbstractState} (h : StandsFor na
       absurd (other (sym (sym (h.tabled.ids m live) ∙ ap (λ (i : ℕ). i % NENV) (k.id_is ∙ k.first))))
   slots_held m p x other live descriptor no_pipe unmade (born b) at is k =
       let small : m < NENV = let named_by = h.tabled.ids m live in omega (arith, named_by) in its_holder m p x b small at descriptor no_pipe unmade is
-  slots_held m p x other live descriptor no_pipe unmade (unborn id parent) at is k = by_passed (is_passed (h.children.borne m id parent at).step p) refl
+  slots_held m p x other live descriptor no_pipe unmade (unborn id parent) at is k = by_passed (c.passed p) refl
     where
-      by_passed : (t : Bool) → is_passed (h.children.borne m id parent at).step p ≡ t → is_held a (names.name x.frame) ≡ true
+      c : IsOfParent s.spaces (slot_at s (parent % NENV)) (a.slots (parent % NENV)) (slot_at s m) id parent
+      c = of_parent (h.children.borne m id parent at)
+
+      by_passed : (t : Bool) → c.passed p ≡ t → is_held a (names.name x.frame) ≡ true
       by_passed true passed =
-          let c = h.children.borne m id parent at in
-          its_holder (parent % NENV) p x c.b (omega arith) c.born_by descriptor no_pipe
-          (ap (λ (q : Place). is_made q (p - page_number FDTABLE)) c.at) (sym (c.handed p descriptor passed) ∙ is)
-      by_passed false off =
-          let c = h.children.borne m id parent at in
-          absurd (none-some x (sym (c.rest p (second_so (is_programs p) (is_of_descriptor p) descriptor) off) ∙ is))
+          its_holder (parent % NENV) p x c.b (omega arith) c.born_by descriptor no_pipe (c.unmade (p - page_number FDTABLE))
+          (sym (c.handed p descriptor passed) ∙ is)
+      by_passed false off = absurd (none-some x (sym (c.rest p descriptor off) ∙ is))
 
   counted_held : (n p : ℕ) (x : Entry) → logical s.spaces s.environments.slots n p ≡ Some x → is_shared x.perm ≡ true → is_of_descriptor p ≡ true →
       is_pipe_page p ≡ false → is_held a (names.name x.frame) ≡ true

@@ -43,7 +43,7 @@ use Rattle.lib_os.proofs.OthersCopies.{plain_wait}
 use Rattle.lib_os.proofs.OthersKept.{system_stay}
 use Rattle.lib_os.proofs.Sends.{found_where, not_waited_for, word_comes}
 use Rattle.lib_os.proofs.ServerStands.{first_slot}
-use Rattle.lib_os.proofs.Serving.{IsServed, holds_page, library_moved, plain_copy, plain_upcall, plain_working, printed_nothing, served, step_in}
+use Rattle.lib_os.proofs.Serving.{IsServed, holds_page, library_moved, plain_copy, plain_upcall, plain_working, printed_nothing, served, step_in, kept_where}
 use Rattle.lib_os.proofs.Slots.{slot_kept}
 use Rattle.lib_os.proofs.SlotsStand.{born_at, born_live}
 use Rattle.lib_os.proofs.StatesStand.{born_not_first, server_set, slot_changed, status_stands, stopped_settles}
@@ -132,7 +132,7 @@ asking_may_wait a n b k at is_in not_idle quantum =
 
 -- its own part
 asked_own : {names : Names} {s : SpacesState} {k : Slot} {b : Born} (id : ℕ) → StandsForBorn names s k b →
-    is_handlers k.registers.esp ≡ false → holds_page (place_of k) ≡ false → is_calm (place_of k) ≡ true → IsIn k b service.Sync entered → id ≡ k.id →
+    is_handlers k.registers.esp ≡ false → holds_page (place_of k) ≡ kept_where false → is_calm (place_of k) ≡ true → IsIn k b service.Sync entered → id ≡ k.id →
     service_of (record k.registers { eax = SERVICE_SYNC }) ≡ service.Sync →
     StandsForBorn names s (record k { extra = words_at SERVICE_SYNC (step.Awaiting id) }) (record b { phase = in_service service.Sync asked })
 asked_own {names = names} {s = s} {k = k} {b = b} id own outside holds calm is_in self names_it =

@@ -13,18 +13,19 @@ use Rattle.jos_base.specs.Messages.{Rendezvous, accepts, wanting}
 use Rattle.jos_base.specs.SpacesState.{SpacesState}
 use Rattle.std.specs.Prelude.{slice_index}
 use Rattle.jos_base.specs.Reach.{Entry}
-use Rattle.jos_base.specs.Words.{negated, page_number}
+use Rattle.jos_base.specs.Words.{negated, page_number, upd}
 use Rattle.fs_layout.specs.FileActs.{file_act}
 use Rattle.fs_layout.specs.FileTree.{sync_files}
 use Rattle.lib_os.specs.declared.numbers.TheConstants.{REQUEST, SHORT_QUANTUM}
 use Rattle.lib_os.specs.declared.place.Place.{Place}
 use Rattle.lib_os.specs.declared.place.Place.TheVariants as place
+use Rattle.lib_os.specs.declared.place.Step.TheVariants as step
 use Rattle.lib_os.specs.declared.service.Service.{Service}
 use Rattle.lib_os.specs.declared.service.Service.TheVariants as service
 use Rattle.lib_os.specs.AbstractRun.{abs_step, may_wait, reply_may_wait, slot_may_wait, slot_step}
-use Rattle.lib_os.specs.AskedFor.{IsThere}
+use Rattle.lib_os.specs.AskedFor.{IsThere, OpensBy, handed_in, is_opening}
 use Rattle.lib_os.specs.AbstractState.{AbstractSlot, AbstractState, Born, Phase, Server, act, acted, asked, awaiting, born, busy, idle, in_service}
-use Rattle.lib_os.specs.AbstractState.{guest, leaving, replied, with_born}
+use Rattle.lib_os.specs.AbstractState.{Spawning, guest, leaving, replied, with_born}
 use Rattle.lib_os.specs.FileServer.{act_done, reply, reply_at, reply_to, served, server_step}
 use Rattle.lib_os.specs.GuestStep.{born_in}
 use Rattle.lib_os.specs.LibraryPages.{IsOwnWritable, View, has_copy, has_working}
@@ -32,22 +33,25 @@ use Rattle.lib_os.specs.MadeCalls.{SetsWords}
 use Rattle.lib_os.specs.Places.{handler_step_in, place_in_words, place_of}
 use Rattle.lib_os.specs.Rows.{AreBytes, Names, rows_of}
 use Rattle.lib_os.specs.StandsFor.{HasBytesReply, HasReply, has_bytes, IsServerStatus, StandsAt, StandsFor, StandsForBorn, descriptor_seen_at}
-use Rattle.lib_os.specs.StandsFor.{StandsForServer, has_reply, upcall_at, view_of, has_opened, opened_answer}
+use Rattle.lib_os.specs.StandsFor.{HasChildren, StandsForServer, has_reply, upcall_at, view_of, has_opened, opened_answer}
 use Rattle.lib_os.specs.StandsInHandler.{handed_with, hands_back}
 use Rattle.lib_os.specs.UserCalls.{CallStep, IsCallStep, Output, Prints, got, giving, system}
 use Rattle.lib_os.specs.PipeEnds.{is_dropped}
 use Rattle.lib_os.proofs.PipesStand.{same_places}
-use Rattle.lib_os.proofs.AskedPlaces.{AskedPlace, AwaitingPlace, ExpectsSo, asked_place, awaiting_place, awaiting_step, is_requests}
+use Rattle.lib_os.proofs.AskedPlaces.{AskedPlace, AwaitingPlace, ExpectsSo, SpawnPlace, asked_place, awaiting_place, awaiting_step, is_requests}
 use Rattle.lib_os.proofs.Calls.{comes_to, ipc_recv_is, receives_at, waits_is}
 use Rattle.lib_os.proofs.Logical.{is_plain}
 use Rattle.lib_os.proofs.Sends.{found_where, not_waited_for, received_in, with_message, word_comes}
 use Rattle.lib_os.proofs.ServersCalls.{CallLeaves}
 use Rattle.lib_os.proofs.ServerStands.{first_slot, words_stand}
-use Rattle.lib_os.proofs.Serving.{library_moved}
+use Rattle.lib_os.proofs.Serving.{library_moved, pages_kept}
 use Rattle.lib_os.proofs.Slots.{slot_kept}
 use Rattle.lib_os.proofs.SlotsSet.{both_set}
 use Rattle.lib_os.proofs.SlotsStand.{born_at, born_live}
-use Rattle.lib_os.proofs.StatesStand.{born_not_first, server_set, slot_changed, stopped_settles}
+use Rattle.lib_os.proofs.SpawnReplies.{spawn_replied}
+use Rattle.lib_os.proofs.SpawnedReplied.{children_replied}
+use Rattle.lib_os.proofs.SpawnWaits.{SpawnAwaits, SpawnHasAsked, asked_so, awaits_page, expected_so}
+use Rattle.lib_os.proofs.StatesStand.{born_not_first, same_place, server_set, slot_becomes, slot_changed, stopped_settles}
 use Rattle.jos_base.proofs.Maps.{upd-at}
 
 -- ---- the server's step
@@ -157,15 +161,15 @@ unfolding place_in_words handler_step_in
 told_at k sender value perm = refl
 
 -- The bytes of a reply go with its word, and the page at UTEMP of the client has them.
-pub record HandsOver (v : View) (call : Service) (bytes : List ℕ) (answer : ℕ) : Type 0 where
-  pub many : length bytes ≡ handed_with call answer
+pub record HandsOver (v : View) (call : Service) (found : Option Spawning) (bytes : List ℕ) (answer : ℕ) : Type 0 where
+  pub many : length bytes ≡ handed_in call found answer
   pub small : AreBytes bytes
   pub same : (entry : Entry) → v.row (page_number UTEMP) ≡ Some entry → (i : ℕ) → i < length bytes →
       slice_index (v.bytes entry.frame) i ≡ slice_index bytes i
 
 -- A word alone, to one to which no bytes are handed back, or with an error's number.
-pub hands_none : (v : View) (call : Service) (answer : ℕ) → handed_with call answer ≡ 0 → HandsOver v call [] answer
-hands_none v call answer none = record { many = sym none; small = no_bytes; same = λ entry is i lt. absurd (omega (arith, lt)) }
+pub hands_none : (v : View) (call : Service) (found : Option Spawning) (answer : ℕ) → handed_in call found answer ≡ 0 → HandsOver v call found [] answer
+hands_none v call found answer none = record { many = sym none; small = no_bytes; same = λ entry is i lt. absurd (omega (arith, lt)) }
   where
     no_bytes : AreBytes []
     no_bytes i = omega arith
@@ -175,9 +179,8 @@ none_long [] none = refl
 none_long (byte ∷ rest) none = absurd (omega (arith, none))
 
 -- With no page no file was opened: one that wants that is told an error's number.
-abbrev pub TellsNoFile : Service → ℕ → Type 0
-TellsNoFile (service.OpenFile path mode) answer = answer ≢ 0
-TellsNoFile _ answer = Unit {0}
+abbrev pub TellsNoFile : Service → Option Spawning → ℕ → Type 0
+TellsNoFile call found answer = OpensBy (is_opening call found) answer None
 
 untold : (value fd : ℕ) → value ≢ 0 → opened_answer value fd ≡ value
 untold value fd some =
@@ -190,11 +193,11 @@ replied_born call b bytes answer = record b { phase = in_service call (replied b
 -- it stands where it will read the reply, or give its page back, or count the bytes, when that has come
 reply_there : (call : Service) → is_requests call ≡ true → (v : View) (k : Slot) (b : Born) (sender answer : ℕ) (bytes : List ℕ) (id fd : ℕ) →
     id ≡ k.id → ExpectsSo k b call → (hands_back call ≡ true → IsOwnWritable v.row (page_number UTEMP)) →
-    StandsAt (place.InService call (awaiting_step call id fd)) v k b → answer < 2 ^ 32 → HandsOver v call bytes answer → TellsNoFile call answer →
+    StandsAt (place.InService call (awaiting_step call id fd)) v k b → answer < 2 ^ 32 → HandsOver v call b.spawning bytes answer → TellsNoFile call b.spawning answer →
     StandsAt (place.InService call (awaiting_step call id fd)) v (received_in k sender answer 0) (replied_born call b bytes answer)
 reply_there call is v k b sender answer bytes id fd self waits page was small hands told = by_service call is page was waits hands told
   where
-    word_came : (call : Service) → handed_with call answer ≡ 0 → b.program ≡ guest k.registers → HandsOver v call bytes answer →
+    word_came : (call : Service) → handed_in call b.spawning answer ≡ 0 → b.program ≡ guest k.registers → HandsOver v call b.spawning bytes answer →
         HasReply (received_in k sender answer 0) (replied_born call b bytes answer) call
     word_came call none program hands = record {
       regs = k.registers;
@@ -206,9 +209,9 @@ reply_there call is v k b sender answer bytes id fd self waits page was small ha
       small = small;
     }
 
-    bytes_came : (call : Service) → IsOwnWritable v.row (page_number UTEMP) → ExpectsSo k b call → HandsOver v call bytes answer →
+    bytes_came : (call : Service) → handed_in call b.spawning answer ≡ handed_with call answer → IsOwnWritable v.row (page_number UTEMP) → ExpectsSo k b call → HandsOver v call b.spawning bytes answer →
         HasBytesReply v (received_in k sender answer 0) (replied_born call b bytes answer) call
-    bytes_came call page so hands = record {
+    bytes_came call with_it page so hands = record {
       regs = k.registers;
       program = so.program;
       registers = refl;
@@ -217,14 +220,14 @@ reply_there call is v k b sender answer bytes id fd self waits page was small ha
       awake = refl;
       silent = refl;
       small = small;
-      many = hands.many;
+      many = hands.many ∙ with_it;
       small_bytes = hands.small;
       kept = record { entry = page.entry; stands = page.stands; own_page = page.own_page; same = hands.same page.entry page.stands };
     }
 
     by_service : (call : Service) → is_requests call ≡ true → (hands_back call ≡ true → IsOwnWritable v.row (page_number UTEMP)) →
-        StandsAt (place.InService call (awaiting_step call id fd)) v k b → ExpectsSo k b call → HandsOver v call bytes answer →
-        TellsNoFile call answer →
+        StandsAt (place.InService call (awaiting_step call id fd)) v k b → ExpectsSo k b call → HandsOver v call b.spawning bytes answer →
+        TellsNoFile call b.spawning answer →
         StandsAt (place.InService call (awaiting_step call id fd)) v (received_in k sender answer 0)
         (replied_born call b bytes answer)
     by_service service.Sync is page was so hands told = (self, has_reply (word_came service.Sync refl so.program hands))
@@ -249,9 +252,9 @@ reply_there call is v k b sender answer bytes id fd self waits page was small ha
     by_service (service.Write given va len) is page was so hands told =
         (self, has_reply (word_came (service.Write given va len) refl so.program hands))
     by_service (service.Read given va len) is page was so hands told =
-        record { self = self; hands = refl; inside = was.inside; so = has_bytes (bytes_came (service.Read given va len) (page refl) so hands) }
+        record { self = self; hands = refl; inside = was.inside; so = has_bytes (bytes_came (service.Read given va len) refl (page refl) so hands) }
     by_service (service.Stat given va) is page was so hands told =
-        record { self = self; hands = refl; inside = was.inside; so = has_bytes (bytes_came (service.Stat given va) (page refl) so hands) }
+        record { self = self; hands = refl; inside = was.inside; so = has_bytes (bytes_came (service.Stat given va) refl (page refl) so hands) }
     by_service _ is page was so hands told = absurd (let contradiction : false ≡ true = is in cc)
 
 plain_there : (call : Service) → is_requests call ≡ true → (id fd : ℕ) → is_plain (place.InService call (awaiting_step call id fd)) ≡ true
@@ -272,16 +275,14 @@ has_page (service.Read given va len) id fd words hands = refl
 has_page (service.Stat given va) id fd words hands = refl
 has_page _ id fd words hands = absurd (let contradiction : false ≡ true = hands in cc)
 
-replied_own : {names : Names} {s : SpacesState} {k : Slot} {b : Born} (call : Service) (sender answer : ℕ) (bytes : List ℕ) →
-    AwaitingPlace (place_of k) (view_of s k.directory) k b call → StandsForBorn names s k b → answer < 2 ^ 32 →
-    HandsOver (view_of s k.directory) call bytes answer → TellsNoFile call answer →
-    StandsForBorn names s (received_in k sender answer 0) (replied_born call b bytes answer)
-replied_own {names = names} {s = s} {k = k} {b = b} call sender answer bytes there own_part small hands none =
+-- what is its own where a word has come to it, and it stands where it stood
+pub told_own : {names : Names} {s : SpacesState} {k : Slot} {b : Born} (sender answer : ℕ) (phase : Phase) →
+    StandsAt (place_of k) (view_of s k.directory) (received_in k sender answer 0) (record b { phase = phase; blocked = false }) → StandsForBorn names s k b →
+    StandsForBorn names s (received_in k sender answer 0) (record b { phase = phase; blocked = false })
+told_own {names = names} {s = s} {k = k} {b = b} sender answer phase so own_part =
     let j : Slot = received_in k sender answer 0 in
-    let after : Born = replied_born call b bytes answer in
+    let after : Born = record b { phase = phase; blocked = false } in
     let same : place_of j ≡ place_of k = told_at k sender answer 0 in
-    let page : hands_back call ≡ true → IsOwnWritable (rows_of s k.directory) (page_number UTEMP) =
-    λ is. own_part.library.working (ap (λ (p : Place). has_working p k.extra) there.at ∙ has_page call there.id there.fd k.extra is) in
     record {
       id = own_part.id;
       id_small = own_part.id_small;
@@ -293,15 +294,38 @@ replied_own {names = names} {s = s} {k = k} {b = b} call sender answer bytes the
           own_part.descriptors;
       memory = own_part.memory;
       library = library_moved (place_of k) (place_of j) k.extra j.extra (rows_of s k.directory) (sym (ap has_copy same))
-          (sym (ap (λ (p : Place). has_working p k.extra) same)) own_part.library;
+          (sym (ap (λ (p : Place). pages_kept p k.extra) same)) own_part.library;
       regions_have = own_part.regions_have;
       regions_only = own_part.regions_only;
       stack = own_part.stack;
       flags = own_part.flags;
-      at = subst (λ (p : Place). StandsAt p (view_of s k.directory) j after) (sym (same ∙ there.at))
-          (reply_there call there.asks_it (view_of s k.directory) k b sender answer bytes there.id there.fd there.self there.so page
-          (subst (λ (p : Place). StandsAt p (view_of s k.directory) k b) there.at own_part.at) small hands none);
+      at = subst (λ (p : Place). StandsAt p (view_of s k.directory) j after) (sym same) so;
     }
+
+replied_own : {names : Names} {s : SpacesState} {k : Slot} {b : Born} (call : Service) (sender answer : ℕ) (bytes : List ℕ) →
+    AwaitingPlace (place_of k) (view_of s k.directory) k b call ⊎ SpawnPlace (place_of k) call (SpawnAwaits (view_of s k.directory) k b) →
+    StandsForBorn names s k b → answer < 2 ^ 32 → HandsOver (view_of s k.directory) call b.spawning bytes answer → TellsNoFile call b.spawning answer →
+    StandsForBorn names s (received_in k sender answer 0) (replied_born call b bytes answer)
+replied_own {names = names} {s = s} {k = k} {b = b} call sender answer bytes there own_part small hands none =
+    told_own sender answer (in_service call (replied bytes answer)) (by_place there) own_part
+  where
+    by_place : AwaitingPlace (place_of k) (view_of s k.directory) k b call ⊎ SpawnPlace (place_of k) call (SpawnAwaits (view_of s k.directory) k b) →
+        StandsAt (place_of k) (view_of s k.directory) (received_in k sender answer 0) (replied_born call b bytes answer)
+    by_place (inl it) =
+        let page : hands_back call ≡ true → IsOwnWritable (rows_of s k.directory) (page_number UTEMP) =
+        λ is. own_part.library.working (ap (λ (p : Place). has_working p k.extra) it.at ∙ has_page call it.id it.fd k.extra is) in
+        subst (λ (p : Place). StandsAt p (view_of s k.directory) (received_in k sender answer 0) (replied_born call b bytes answer)) (sym it.at)
+        (reply_there call it.asks_it (view_of s k.directory) k b sender answer bytes it.id it.fd it.self it.so page
+        (subst (λ (p : Place). StandsAt p (view_of s k.directory) k b) it.at own_part.at) small hands none)
+    by_place (inr it) =
+        let page : IsOwnWritable (rows_of s k.directory) (page_number UTEMP) =
+        own_part.library.working (ap (λ (p : Place). has_working p k.extra) it.at ∙ awaits_page it.does) in
+        subst (λ (p : Place). StandsAt p (view_of s k.directory) (received_in k sender answer 0) (replied_born call b bytes answer)) (sym it.at)
+        (subst (λ (x : Service). StandsAt (place.InService (service.Spawn it.path it.argv) (step.Spawning it.step_is)) (view_of s k.directory)
+        (received_in k sender answer 0) (replied_born x b bytes answer)) (sym it.call_is)
+        (spawn_replied (view_of s k.directory) k b it.path it.argv sender answer bytes small hands.small
+        (hands.many ∙ ap (λ (x : Service). handed_in x b.spawning answer) it.call_is)
+        (subst (λ (x : Service). OpensBy (is_opening x b.spawning) answer None) it.call_is none) page hands.same it.step_is it.does))
 
 -- the call with which it replies: a word, with no page
 abbrev pub reply_call : KernelState → ℕ → ℕ → CallStep Called
@@ -353,7 +377,7 @@ module _ {names : Names} {s : KernelState} {a : AbstractState} (h : StandsFor na
       ∙ ap (λ (p : Phase). reply_at a client b answer bytes None p) same
 
   pub reply_comes : (call : Service) → b.phase ≡ in_service call awaiting → answer < 2 ^ 32 →
-      HandsOver (view_of s.spaces (slot_at s client).directory) call bytes answer → TellsNoFile call answer →
+      HandsOver (view_of s.spaces (slot_at s client).directory) call b.spawning bytes answer → TellsNoFile call b.spawning answer →
       HasReplied names s a client call b bytes answer
   reply_comes call phase small hands none = record {
     call = word_comes s 0 b.id answer UTOP 0 (0 ∷ []) (first_slot h).lives status.1 client names_client waits (omega arith);
@@ -361,26 +385,56 @@ module _ {names : Names} {s : KernelState} {a : AbstractState} (h : StandsFor na
     stands = server_goes_on come leaving still;
   }
     where
-      there : AwaitingPlace (place_of (slot_at s client)) (view_of s.spaces (slot_at s client).directory) (slot_at s client) b call
+      v : View
+      v = view_of s.spaces (slot_at s client).directory
+
+      there : AwaitingPlace (place_of (slot_at s client)) v (slot_at s client) b call
+          ⊎ SpawnPlace (place_of (slot_at s client)) call (SpawnAwaits v (slot_at s client) b)
       there =
           let k : Slot = slot_at s client in awaiting_place (place_of k) (view_of s.spaces k.directory) k b call own.at phase
 
+      waits_so : ((slot_at s client).rendezvous.receiving ≡ true) × ((slot_at s client).rendezvous.wanted ≡ FIRST_ENV_ID)
+      waits_so = by_there there
+        where
+          by_there : AwaitingPlace (place_of (slot_at s client)) v (slot_at s client) b call
+              ⊎ SpawnPlace (place_of (slot_at s client)) call (SpawnAwaits v (slot_at s client) b) →
+              ((slot_at s client).rendezvous.receiving ≡ true) × ((slot_at s client).rendezvous.wanted ≡ FIRST_ENV_ID)
+          by_there (inl it) = (it.so.rendezvous, it.so.wanted)
+          by_there (inr it) = let waits = (expected_so it.does).1 in (waits.receives, waits.wanted)
+
       waits : accepts (slot_at s client).rendezvous (slot_at s 0).id ≡ true
-      waits = λ i. there.so.rendezvous i && ((there.so.wanted i == 0) || (there.so.wanted i == (first_slot h).id_is i))
+      waits = λ i. waits_so.0 i && ((waits_so.1 i == 0) || (waits_so.1 i == (first_slot h).id_is i))
 
       k : Slot
       k = received_in (slot_at s client) (slot_at s 0).id answer 0
 
-      plain : is_plain (place.InService call (awaiting_step call there.id there.fd)) ≡ true
-      plain = plain_there call there.asks_it there.id there.fd
+      same : place_of k ≡ place_of (slot_at s client)
+      same = told_at (slot_at s client) (slot_at s 0).id answer 0
+
+      come_plain : is_plain (place_of (slot_at s client)) ≡ true → StandsFor names (with_message s 0 client answer 0) (with_born a client (replied_born call b bytes answer))
+      come_plain plain =
+          slot_changed h client b at k (replied_born call b bytes answer) refl (stopped_settles (slot_at s client) k refl refl refl refl)
+          plain (ap is_plain same ∙ plain) (replied_own call (slot_at s 0).id answer bytes there own small hands none) (same_places same) (λ fd. refl)
 
       come : StandsFor names (with_message s 0 client answer 0) (with_born a client (replied_born call b bytes answer))
-      come =
-          slot_changed h client b at k (replied_born call b bytes answer) refl (stopped_settles (slot_at s client) k refl refl refl refl)
-          (ap is_plain there.at ∙ plain)
-          (ap is_plain (told_at (slot_at s client) (slot_at s 0).id answer 0 ∙ there.at) ∙ plain)
-          (replied_own call (slot_at s 0).id answer bytes there own small hands none)
-          (same_places (told_at (slot_at s client) (slot_at s 0).id answer 0)) (λ fd. refl)
+      come = by_there there
+        where
+          by_there : AwaitingPlace (place_of (slot_at s client)) v (slot_at s client) b call
+              ⊎ SpawnPlace (place_of (slot_at s client)) call (SpawnAwaits v (slot_at s client) b) →
+              StandsFor names (with_message s 0 client answer 0) (with_born a client (replied_born call b bytes answer))
+          by_there (inl it) = come_plain (ap is_plain it.at ∙ plain_there call it.asks_it it.id it.fd)
+          by_there (inr it) = by_plain (is_plain (place_of (slot_at s client))) refl
+            where
+              by_plain : (c : Bool) → is_plain (place_of (slot_at s client)) ≡ c →
+                  StandsFor names (with_message s 0 client answer 0) (with_born a client (replied_born call b bytes answer))
+              by_plain true plain = come_plain plain
+              by_plain false bears =
+                  slot_becomes h client b at k (replied_born call b bytes answer) refl (stopped_settles (slot_at s client) k refl refl refl refl)
+                  (same_place (place_of (slot_at s client)) (place_of k) same)
+                  (subst (λ (x : Service). HasChildren names s.spaces (upd s.environments.slots client k) (upd a.slots client (born (replied_born x b bytes answer))))
+                  (sym it.call_is)
+                  (children_replied h client b at it.path it.argv (slot_at s 0).id answer bytes same it.step_is it.at it.does))
+                  (replied_own call (slot_at s 0).id answer bytes there own small hands none) (same_places same) (λ fd. refl)
 
       still : IsServerStatus leaving (slot_at (with_message s 0 client answer 0) 0)
       still = subst (λ (x : Slot). IsServerStatus leaving x) (sym (slot_kept s client k 0 (born_not_first h client b at))) status
@@ -395,20 +449,27 @@ module _ {names : Names} {s : KernelState} {a : AbstractState} (h : StandsFor na
         ∙ ap (λ (x : Server). reply_may_wait x None) is;
   }
     where
-      there : AskedPlace (place_of (slot_at s client)) (slot_at s client) b call
-      there =
-          let k : Slot = slot_at s client in asked_place (place_of k) (view_of s.spaces k.directory) k b call own.at phase
+      silent : (slot_at s client).rendezvous.receiving ≡ false
+      silent =
+          let k : Slot = slot_at s client in by_there (asked_place (place_of k) (view_of s.spaces k.directory) k b call own.at phase)
+        where
+          by_there : AskedPlace (place_of (slot_at s client)) (slot_at s client) b call
+              ⊎ SpawnPlace (place_of (slot_at s client)) call
+              (SpawnHasAsked (view_of s.spaces (slot_at s client).directory) (slot_at s client) b) →
+              (slot_at s client).rendezvous.receiving ≡ false
+          by_there (inl it) = it.so.silent
+          by_there (inr it) = (asked_so it.does).silent
 
       deaf : accepts (slot_at s client).rendezvous (slot_at s 0).id ≡ false
       deaf =
           let r : Rendezvous = (slot_at s client).rendezvous in
-          ap (λ (waiting : Bool). waiting && ((r.wanted == 0) || (r.wanted == (slot_at s 0).id))) there.so.silent
+          ap (λ (waiting : Bool). waiting && ((r.wanted == 0) || (r.wanted == (slot_at s 0).id))) silent
 
       none : abs_step a 0 ≡ None
       none = replied_is (in_service call asked) phase
 
   pub replies_stand : (call : Service) → IsThere b call → answer < 2 ^ 32 →
-      HandsOver (view_of s.spaces (slot_at s client).directory) call bytes answer → TellsNoFile call answer →
+      HandsOver (view_of s.spaces (slot_at s client).directory) call b.spawning bytes answer → TellsNoFile call b.spawning answer →
       HasReplied names s a client call b bytes answer ⊎ HasToWait s a b answer
   replies_stand call (inl phase) small hands none = inr (reply_waits call phase)
   replies_stand call (inr phase) small hands none = inl (reply_comes call phase small hands none)
@@ -460,8 +521,8 @@ module _ {names : Names} {s : KernelState} {a : AbstractState} (h : StandsFor na
       )
 
   pub reply_leaves : (client answer : ℕ) (bytes : List ℕ) → a.server ≡ acted client answer bytes None → (b : Born) → a.slots client ≡ born b →
-      (by : Service) → IsThere b by → answer < 2 ^ 32 → HandsOver (view_of s.spaces (slot_at s client).directory) by bytes answer →
-      TellsNoFile by answer → (mid after : KernelState) (called : Called) (output : Output) →
+      (by : Service) → IsThere b by → answer < 2 ^ 32 → HandsOver (view_of s.spaces (slot_at s client).directory) by b.spawning bytes answer →
+      TellsNoFile by b.spawning answer → (mid after : KernelState) (called : Called) (output : Output) →
       IsCallStep (reply_call s b.id answer) (Ok called) mid output → (after ≡ mid) ⊎ SetsWords mid after 0 →
       Prints output [] × ReplyLeaves names a client by b bytes answer called after
   reply_leaves client answer bytes is b at by there small hands none mid after called output call left =

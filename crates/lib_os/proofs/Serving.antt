@@ -17,7 +17,7 @@ use Rattle.lib_os.specs.AbstractState.{AbstractState, Born, AbstractSlot, free, 
 use Rattle.lib_os.specs.AbstractRun.{abs_step}
 use Rattle.lib_os.specs.Fence.{is_resident}
 use Rattle.lib_os.specs.declared.service.Service.TheVariants as service
-use Rattle.lib_os.specs.LibraryPages.{LibraryPages, has_copy, has_working, keeps_page, keeps_path, keeps_request}
+use Rattle.lib_os.specs.LibraryPages.{LibraryPages, has_copy, has_working, keeps_page, keeps_path, keeps_request, has_spawns, keeps_spawning, spawn_keeps}
 use Rattle.lib_os.specs.declared.numbers.TheConstants.{PGFAULT_UPCALL}
 use Rattle.jos_base.specs.TrapFrames.{user_flags}
 use Rattle.lib_os.specs.LibraryCall.{library_step}
@@ -109,22 +109,46 @@ plain_copy place.Guest plain = refl
 plain_copy (place.InService s step) plain = refl
 plain_copy (place.InHandler step) plain = absurd (false≢true (sym plain))
 
--- a service that keeps bytes in a page has one
-abbrev pub holds_page : Place → Bool
-holds_page (place.InService (service.Write fd va len) at) = keeps_page at
-holds_page (place.InService (service.Remove path) at) = keeps_path at
-holds_page (place.InService (service.OpenFile path mode) at) = keeps_path at
-holds_page (place.InService (service.Seek fd offset) at) = keeps_request at
-holds_page (place.InService (service.SetSize fd size) at) = keeps_request at
-holds_page (place.InService (service.Read fd va len) at) = keeps_request at
-holds_page (place.InService (service.Stat fd va) at) = keeps_request at
-holds_page _ = false
+-- whether a service keeps a page at UTEMP, and which others it keeps, by their numbers
+abbrev pub Kept : Type 0
+Kept = Bool × (ℕ → Bool)
 
-pub plain_working : (at : Place) (words : List ℕ) → is_in_handler at ≡ false → has_working at words ≡ holds_page at
+-- no others
+abbrev pub kept_where : Bool → Kept
+kept_where has = (has, (λ p. false))
+
+-- a service that keeps bytes in a page has one, and spawn has others, too
+abbrev pub holds_page : Place → Kept
+holds_page (place.InService (service.Write fd va len) at) = kept_where (keeps_page at)
+holds_page (place.InService (service.Remove path) at) = kept_where (keeps_path at)
+holds_page (place.InService (service.OpenFile path mode) at) = kept_where (keeps_path at)
+holds_page (place.InService (service.Spawn path argv) at) = (keeps_spawning at, (λ p. spawn_keeps at p))
+holds_page (place.InService (service.Seek fd offset) at) = kept_where (keeps_request at)
+holds_page (place.InService (service.SetSize fd size) at) = kept_where (keeps_request at)
+holds_page (place.InService (service.Read fd va len) at) = kept_where (keeps_request at)
+holds_page (place.InService (service.Stat fd va) at) = kept_where (keeps_request at)
+holds_page _ = kept_where false
+
+-- those others
+abbrev pub others_kept : Place → ℕ → Bool
+others_kept at = (holds_page at).1
+
+pub kept_alone : {kept : Kept} {has : Bool} → kept ≡ kept_where has → kept.1 ≡ (λ p. false)
+kept_alone same = ap (λ (k : Kept). k.1) same
+
+-- as the library's pages tell it
+abbrev pub pages_kept : Place → List ℕ → Kept
+pages_kept at words = (has_working at words, (λ p. has_spawns at words p))
+
+pub works : {kept other : Kept} → kept ≡ other → kept.0 ≡ other.0
+works same = ap (λ (k : Kept). k.0) same
+
+pub plain_working : (at : Place) (words : List ℕ) → is_in_handler at ≡ false → pages_kept at words ≡ holds_page at
 plain_working place.Guest words plain = refl
 plain_working (place.InService (service.Write fd va len) step) words plain = refl
 plain_working (place.InService (service.Remove path) step) words plain = refl
 plain_working (place.InService (service.OpenFile path mode) step) words plain = refl
+plain_working (place.InService (service.Spawn path argv) step) words plain = refl
 plain_working (place.InService (service.Seek fd offset) step) words plain = refl
 plain_working (place.InService (service.SetSize fd size) step) words plain = refl
 plain_working (place.InService (service.Read fd va len) step) words plain = refl
@@ -132,22 +156,24 @@ plain_working (place.InService (service.Stat fd va) step) words plain = refl
 plain_working (place.InService _ step) words plain = refl
 plain_working (place.InHandler step) words plain = absurd (false≢true (sym plain))
 
--- the library's pages are the same at each place at which there is a copy, and at each at which there is none, and so with the page of a service
+-- the library's pages are the same at each place at which there is a copy, and at each at which there is none, and so with the pages of a service
 pub library_moved : (at after : Place) (words words_after : List ℕ) (row : EntryRow) → has_copy at ≡ has_copy after →
-    has_working at words ≡ has_working after words_after → LibraryPages at words row → LibraryPages after words_after row
+    pages_kept at words ≡ pages_kept after words_after → LibraryPages at words row → LibraryPages after words_after row
 library_moved at after words words_after row same held h = record {
   stack = h.stack;
   copy = λ is. h.copy (same ∙ is);
   no_copy = λ is. h.no_copy (same ∙ is);
   descriptors = h.descriptors;
-  working = λ is. h.working (held ∙ is);
-  no_working = λ is. h.no_working (held ∙ is);
-  none = h.none;
+  working = λ is. h.working (ap (λ (k : Kept). k.0) held ∙ is);
+  no_working = λ is. h.no_working (ap (λ (k : Kept). k.0) held ∙ is);
+  spawns = λ p is. h.spawns p (ap (λ (k : Kept). k.1 p) held ∙ is);
+  none = λ p outside no_descriptor no_stack no_copy no_working no_spawns.
+      h.none p outside no_descriptor no_stack no_copy no_working (ap (λ (k : Kept). k.1 p) held ∙ no_spawns);
 }
 
 -- the environment's own part, when it is back at its program
 pub back_at_guest : {names : Names} {s : SpacesState} {k : Slot} {b : Born} (regs : Regs) → StandsForBorn names s k b →
-    holds_page (place_of k) ≡ false → is_calm (place_of k) ≡ true → k.rendezvous.receiving ≡ false → b.blocked ≡ false →
+    holds_page (place_of k) ≡ kept_where false → is_calm (place_of k) ≡ true → k.rendezvous.receiving ≡ false → b.blocked ≡ false →
     is_handlers k.registers.esp ≡ false → regs.esp ≡ k.registers.esp →
     regs.eflags ≡ k.registers.eflags →
     StandsForBorn names s (record k { registers = regs; extra = no_extra })
@@ -168,7 +194,7 @@ back_at_guest {names = names} {s = s} {k = k} {b = b} regs own holds calm silent
       memory = own.memory;
       library = library_moved (place_of k) (place_of back) k.extra no_extra (rows_of s k.directory)
           (plain_copy (place_of k) plain ∙ sym (ap has_copy there))
-          (plain_working (place_of k) k.extra plain ∙ holds ∙ sym (ap (λ (p : Place). has_working p no_extra) there)) own.library;
+          (plain_working (place_of k) k.extra plain ∙ holds ∙ sym (ap (λ (p : Place). pages_kept p no_extra) there)) own.library;
       regions_have = own.regions_have;
       regions_only = own.regions_only;
       stack = ap (λ (esp : ℕ). is_handlers esp || not (is_resident esp)) stack ∙ own.stack;

@@ -28,8 +28,12 @@ use Rattle.lib_os.specs.PipeEnds.{is_made}
 use Rattle.lib_os.specs.Places.{is_handlers, place_in_words, place_of}
 use Rattle.lib_os.specs.Rows.{EntryRow, Names, as_cow, as_own, counted, cow_perm, descriptor_at, is_clients, is_making, is_of_descriptor}
 use Rattle.lib_os.specs.Rows.{is_shared, lasting, logical, logical_by, makes, own_perm, rows_of}
+use Rattle.lib_os.specs.SpawnPages.{is_childs}
 use Rattle.lib_os.specs.StandsFor.{IsStatusFor, StandsAt, StandsFor, StandsForBorn, StandsForSlot, view_of}
 use Rattle.lib_os.specs.StandsInHandler.{CopiesOrEnds, IsMappedTwice, copies, ends}
+use Rattle.lib_os.proofs.KeptPages.{beside_childs, descriptor_no_spawns}
+use Rattle.lib_os.proofs.Logical.{is_childs_page}
+use Rattle.lib_os.proofs.ChildsPages.{childs_page}
 
 -- ---- the bits of an entry that counts as another
 
@@ -80,6 +84,8 @@ shared_counts (place.InService service.Pipe (step.Piped at)) row p fd y of same 
     let off : is_making at p ≡ false =
     ap (λ (c : Bool). c && makes at (descriptor_at p)) of ∙ ap (λ (k : ℕ). makes at k) same ∙ unmade in
     ap (λ (c : Bool). if c then option_map as_own (row p) else row p) off ∙ is
+shared_counts (place.InService (service.Spawn path argv) (step.Spawning at)) row p fd y of same unmade is sharing =
+    ap (λ (c : Bool). if c then None else row p) (beside_childs at p (descriptor_no_spawns p of)) ∙ is
 shared_counts _ row p fd y of same unmade is sharing = is
 
 -- what counts as shared stands so
@@ -100,6 +106,11 @@ counted_stands (place.InService service.Pipe (step.Piped at)) row p y counts sha
     by_test : (c : Bool) → (if c then option_map as_own (row p) else row p) ≡ Some y → row p ≡ Some y
     by_test true is = absurd (own_not_shared (row p) y is sharing)
     by_test false is = is
+counted_stands (place.InService (service.Spawn path argv) (step.Spawning at)) row p y counts sharing = by_test (is_childs at p) counts
+  where
+    by_test : (c : Bool) → (if c then None else row p) ≡ Some y → row p ≡ Some y
+    by_test true is = absurd (none-some y is)
+    by_test false is = is
 counted_stands _ row p y counts sharing = counts
 
 -- and it is not made
@@ -115,16 +126,16 @@ shared_unmade (place.InService service.Pipe (step.Piped at)) row p fd y of same 
         absurd (own_not_shared (row p) y (sym (ap (λ (c : Bool). if c then option_map as_own (row p) else row p) making) ∙ counts) sharing)
 shared_unmade _ row p fd y of same counts sharing = refl
 
--- ---- whatever stands counts: where it stands, or, where a copy is mapped over its page, at that page
+-- ---- whatever stands counts: where it stands, or, where a copy is mapped over its page, at that page; or where it stands in a child's space, too
 
-record CountsSo (at : Place) (row : EntryRow) (q : ℕ) (y : Entry) : Type 0 where
+record CountsHere (at : Place) (row : EntryRow) (q : ℕ) (y : Entry) : Type 0 where
   page : ℕ
   entry : Entry
   counts : counted at row page ≡ Some entry
   frame : entry.frame ≡ y.frame
   itself : is_shared entry.perm ≡ true → (page ≡ q) × (entry ≡ y)
 
-counts_plain : (at : Place) (row : EntryRow) (q : ℕ) (y : Entry) → counted at row q ≡ Some y → CountsSo at row q y
+counts_plain : (at : Place) (row : EntryRow) (q : ℕ) (y : Entry) → counted at row q ≡ Some y → CountsHere at row q y
 counts_plain at row q y is = record { page = q; entry = y; counts = is; frame = refl; itself = λ sharing. (refl, refl) }
 
 -- the handler's copy stands beside the pages that a program may have
@@ -132,12 +143,13 @@ copy_beside : (va : ℕ) → is_inside va ≡ true → (page_number va == page_n
 unfolding in_fence
 copy_beside va inside = grind (arith, nat_tests)
 
-counts_so : (at : Place) (v : View) (k : Slot) (b : Born) → StandsAt at v k b → (q : ℕ) (y : Entry) → v.row q ≡ Some y → CountsSo at v.row q y
+counts_so : (at : Place) (v : View) (k : Slot) (b : Born) → StandsAt at v k b → (q : ℕ) (y : Entry) → v.row q ≡ Some y →
+    is_childs_page at q ≡ false → CountsHere at v.row q y
 unfolding counted
-counts_so (place.InHandler (handler.Unmapping found)) v k b stands q y is = by_page (q == page_number PFTEMP) refl
+counts_so (place.InHandler (handler.Unmapping found)) v k b stands q y is mine = by_page (q == page_number PFTEMP) refl
   where
     twice : (va : ℕ) → is_inside va ≡ true → IsMappedTwice v va → q ≡ page_number PFTEMP →
-        CountsSo (place.InHandler (handler.Unmapping found)) v.row q y
+        CountsHere (place.InHandler (handler.Unmapping found)) v.row q y
     twice va inside at here = record {
       page = page_number va;
       entry = at.here;
@@ -149,17 +161,17 @@ counts_so (place.InHandler (handler.Unmapping found)) v k b stands q y is = by_p
     }
 
     by_way : CopiesOrEnds (handler.Unmapping found) v k b stands.fault stands.regs → q ≡ page_number PFTEMP →
-        CountsSo (place.InHandler (handler.Unmapping found)) v.row q y
+        CountsHere (place.InHandler (handler.Unmapping found)) v.row q y
     by_way (copies way) here = twice stands.fault.va way.inside way.at.1 here
     by_way (ends way) here = absurd way.at
 
-    by_page : (c : Bool) → (q == page_number PFTEMP) ≡ c → CountsSo (place.InHandler (handler.Unmapping found)) v.row q y
+    by_page : (c : Bool) → (q == page_number PFTEMP) ≡ c → CountsHere (place.InHandler (handler.Unmapping found)) v.row q y
     by_page false off =
         counts_plain (place.InHandler (handler.Unmapping found)) v.row q y (ap (λ (c : Bool). if c then None else v.row q) off ∙ is)
     by_page true on = by_way stands.way (grind (arith, nat_tests))
-counts_so (place.InService service.Fork (step.Remap id page)) v k b stands q y is = by_page (q == page) refl
+counts_so (place.InService service.Fork (step.Remap id page)) v k b stands q y is mine = by_page (q == page) refl
   where
-    by_page : (c : Bool) → (q == page) ≡ c → CountsSo (place.InService service.Fork (step.Remap id page)) v.row q y
+    by_page : (c : Bool) → (q == page) ≡ c → CountsHere (place.InService service.Fork (step.Remap id page)) v.row q y
     by_page false off =
         counts_plain (place.InService service.Fork (step.Remap id page)) v.row q y
         (ap (λ (c : Bool). if c then option_map as_cow (v.row q) else v.row q) off ∙ is)
@@ -171,9 +183,9 @@ counts_so (place.InService service.Fork (step.Remap id page)) v k b stands q y i
       frame = cow_frame y;
       itself = λ sharing. (refl, cow_same y sharing);
     }
-counts_so (place.InService service.Pipe (step.Piped at)) v k b stands q y is = by_page (is_making at q) refl
+counts_so (place.InService service.Pipe (step.Piped at)) v k b stands q y is mine = by_page (is_making at q) refl
   where
-    by_page : (c : Bool) → is_making at q ≡ c → CountsSo (place.InService service.Pipe (step.Piped at)) v.row q y
+    by_page : (c : Bool) → is_making at q ≡ c → CountsHere (place.InService service.Pipe (step.Piped at)) v.row q y
     by_page false off =
         counts_plain (place.InService service.Pipe (step.Piped at)) v.row q y
         (ap (λ (c : Bool). if c then option_map as_own (v.row q) else v.row q) off ∙ is)
@@ -185,7 +197,9 @@ counts_so (place.InService service.Pipe (step.Piped at)) v k b stands q y is = b
       frame = refl;
       itself = λ sharing. absurd (let contradiction : false ≡ true = sharing in cc);
     }
-counts_so at v k b stands q y is = counts_plain at v.row q y is
+counts_so (place.InService (service.Spawn path argv) (step.Spawning at)) v k b stands q y is mine =
+    counts_plain (place.InService (service.Spawn path argv) (step.Spawning at)) v.row q y (ap (λ (c : Bool). if c then None else v.row q) mine ∙ is)
+counts_so at v k b stands q y is mine = counts_plain at v.row q y is
 
 -- ---- clients
 
@@ -248,53 +262,82 @@ module _ {names : Names} {s : KernelState} {a : AbstractState} (h : StandsFor na
     shares_unmade p fd y of same has =
         shared_unmade (place_of (slot_at s m)) (its_row m) p fd y of same (sym (client_row s m not_first live p) ∙ has.counts) has.sharing
 
-    its_count : (slot : AbstractSlot) → StandsForSlot names s.spaces (slot_at s m) slot → (q : ℕ) (y : Entry) → its_row m q ≡ Some y →
-        CountsSo (place_of (slot_at s m)) (its_row m) q y
+    record CountsSo (q : ℕ) (y : Entry) : Type 0 where
+      slot : ℕ
+      page : ℕ
+      entry : Entry
+      counts : logical s.spaces s.environments.slots slot page ≡ Some entry
+      frame : entry.frame ≡ y.frame
+      itself : is_shared entry.perm ≡ true → (slot ≡ m) × (page ≡ q) × (entry ≡ y)
+
+    counts_here : (q : ℕ) (y : Entry) → CountsHere (place_of (slot_at s m)) (its_row m) q y → CountsSo q y
+    counts_here q y c = record {
+      slot = m;
+      page = c.page;
+      entry = c.entry;
+      counts = client_row s m not_first live c.page ∙ c.counts;
+      frame = c.frame;
+      itself = λ sharing. let it = c.itself sharing in (refl, it.0, it.1);
+    }
+
+    its_count : (slot : AbstractSlot) → a.slots m ≡ slot → StandsForSlot names s.spaces (slot_at s m) slot → (q : ℕ) (y : Entry) → its_row m q ≡ Some y →
+        CountsSo q y
     unfolding place_in_words counted
-    its_count (free id) k q y is = absurd (let contradiction : false ≡ true = sym (ap (λ (j : Slot). is_live j) k) ∙ live in cc)
-    its_count (serving id) k q y is =
+    its_count (free id) at k q y is = absurd (let contradiction : false ≡ true = sym (ap (λ (j : Slot). is_live j) k) ∙ live in cc)
+    its_count (serving id) at k q y is =
         absurd (not_first (sym (sym (h.tabled.ids m live) ∙ ap (λ (i : ℕ). i % NENV) (k.id_is ∙ k.first))))
-    its_count (born b) k q y is = counts_so (place_of (slot_at s m)) (view_of s.spaces (slot_at s m).directory) (slot_at s m) b k.at q y is
-    its_count (unborn id parent) k q y is =
+    its_count (born b) at k q y is = by_child (is_childs_page (place_of (slot_at s m)) q) refl
+      where
+        by_child : (c : Bool) → is_childs_page (place_of (slot_at s m)) q ≡ c → CountsSo q y
+        by_child false mine =
+            counts_here q y
+            (counts_so (place_of (slot_at s m)) (view_of s.spaces (slot_at s m).directory) (slot_at s m) b k.at q y is mine)
+        by_child true childs =
+            let c = childs_page h m b at q y is childs in
+            record {
+              slot = c.child;
+              page = c.page;
+              entry = c.entry;
+              counts = c.counts;
+              frame = c.frame;
+              itself = λ sharing. absurd (let contradiction : false ≡ true = sym c.own_page ∙ sharing in cc);
+            }
+    its_count (unborn id parent) at k q y is =
         let guest : place_of (slot_at s m) ≡ place.Guest = unborn_guest (slot_at s m) id parent k.stack k.words in
-        counts_plain (place_of (slot_at s m)) (its_row m) q y (ap (λ (at : Place). counted at (its_row m) q) guest ∙ is)
+        counts_here q y (counts_plain (place_of (slot_at s m)) (its_row m) q y (ap (λ (at : Place). counted at (its_row m) q) guest ∙ is))
       where
         unborn_guest : (k : Slot) (id parent : ℕ) → is_handlers k.registers.esp ≡ false → k.extra ≡ no_extra → place_of k ≡ place.Guest
         unborn_guest k id parent outside none = rw (outside, none) refl
 
     -- what has the frame of a page that is shared
     pub shares_so : (q : ℕ) (y : Entry) → its_row m q ≡ Some y → IsShared s y.frame → Shares s m q y
-    shares_so q y is some = by_itself (itself_so (its_count (a.slots m) (h.slots m) q y is))
+    shares_so q y is some = by_itself (itself_so (its_count (a.slots m) refl (h.slots m) q y is))
       where
-        by_itself : (c : CountsSo (place_of (slot_at s m)) (its_row m) q y) × (is_shared c.entry.perm ≡ true) → Shares s m q y
+        by_itself : (c : CountsSo q y) × (is_shared c.entry.perm ≡ true) → Shares s m q y
         by_itself found =
             let c = found.0 in
             let it = c.itself found.1 in
             let there : logical s.spaces s.environments.slots m q ≡ Some y =
-            client_row s m not_first live q
-            ∙ ap (λ (p : ℕ). counted (place_of (slot_at s m)) (its_row m) p) (sym it.0) ∙ c.counts ∙ ap (λ (e : Entry). Some e) it.1 in
-            record { counts = there; sharing = ap (λ (e : Entry). is_shared e.perm) (sym it.1) ∙ found.1 }
+            sym (λ i. logical s.spaces s.environments.slots (it.0 i) (it.1 i)) ∙ c.counts ∙ ap (λ (e : Entry). Some e) it.2 in
+            record { counts = there; sharing = ap (λ (e : Entry). is_shared e.perm) (sym it.2) ∙ found.1 }
 
-        itself_so : (c : CountsSo (place_of (slot_at s m)) (its_row m) q y) →
-            (d : CountsSo (place_of (slot_at s m)) (its_row m) q y) × (is_shared d.entry.perm ≡ true)
+        itself_so : (c : CountsSo q y) → (d : CountsSo q y) × (is_shared d.entry.perm ≡ true)
         itself_so c =
-            let counts : logical s.spaces s.environments.slots m c.page ≡ Some c.entry = client_row s m not_first live c.page ∙ c.counts in
-            elim (cases_eq m some.slot) [
+            elim (cases_eq c.slot some.slot) [
               | inl one ↦ elim (cases_eq c.page some.page) [
                 | inl two ↦
                     let same : c.entry ≡ some.entry =
                     same_Some c.entry some.entry
-                    (sym counts ∙ (λ i. logical s.spaces s.environments.slots (one i) (two i)) ∙ some.there.counts) in
+                    (sym c.counts ∙ (λ i. logical s.spaces s.environments.slots (one i) (two i)) ∙ some.there.counts) in
                     (c, ap (λ (e : Entry). is_shared e.perm) same ∙ some.there.sharing)
-                | inr ne ↦ (c, other c counts (λ here too. ne too))
+                | inr ne ↦ (c, other c (λ here too. ne too))
               ]
-              | inr ne ↦ (c, other c counts (λ here too. ne here))
+              | inr ne ↦ (c, other c (λ here too. ne here))
             ]
           where
-            other : (c : CountsSo (place_of (slot_at s m)) (its_row m) q y) → logical s.spaces s.environments.slots m c.page ≡ Some c.entry →
-                (m ≡ some.slot → c.page ≡ some.page → ⊥) → is_shared c.entry.perm ≡ true
-            other c counts apart =
-                (h.apart m c.page some.slot some.page c.entry some.entry apart counts some.there.counts (c.frame ∙ sym some.same)).shared
+            other : (c : CountsSo q y) → (c.slot ≡ some.slot → c.page ≡ some.page → ⊥) → is_shared c.entry.perm ≡ true
+            other c apart =
+                (h.apart c.slot c.page some.slot some.page c.entry some.entry apart c.counts some.there.counts (c.frame ∙ sym some.same)).shared
                 ∙ some.there.sharing
 
   -- ---- an entry of a frame that is shared, and that the file server has not

@@ -45,6 +45,7 @@ use Rattle.lib_os.specs.StandsAtPipe.{IsMakingPipe, IsMoving, IsReadingPipe, IsT
 use Rattle.lib_os.specs.StandsAtPipe.{StandsMoving, StandsOnPipe, TellsEnd, TellsPipe, Told, TriesAgain, end_given}
 use Rattle.lib_os.specs.StandsFor.{AwaitsOrHas, HasAsked, HasReply, awaits, has_reply}
 use Rattle.lib_os.specs.StandsInHandler.{StandsBeneath, at_program, in_delivery, in_handing, IsStoppedAt, handing, marked, reading, telling, writing}
+use Rattle.lib_os.specs.StandsInHandler.{listed, quoted}
 use Rattle.lib_os.specs.StandsInHandler.{HasBytes, IsLoadingBytes, IsLoadingRest, IsPuttingBytes, hands_back, following}
 use Rattle.lib_os.specs.StandsFor.{AwaitsOrHasBytes, IsCounting, awaits_bytes, has_bytes}
 use Rattle.lib_os.specs.StandsFor.{StandsFor, StandsForSlot, StandsForBorn, StandsAt, StandsAtStep, view_of, IsStatusFor, MaySend}
@@ -57,7 +58,9 @@ use Rattle.lib_os.specs.StandsFor.{descriptor_given, refuses_next}
 use Rattle.lib_os.specs.StandsFor.{borne_in, IsMapping, IsRemapping}
 use Rattle.lib_os.specs.StandsFor.{IsTrying, IsWaiting, IsLooking, IsAboutToWait, IsReceiving, HasReceived, WaitsOrHas, waits, has}
 use Rattle.lib_os.proofs.DescriptorWords.{told_device, told_mode, told_number}
+use Rattle.lib_os.proofs.KeptPages.{spawns_aside}
 use Rattle.lib_os.proofs.Logical.{is_making_pipe, is_plain, programs_beside, programs_no_descriptor}
+use Rattle.lib_os.proofs.SpawnStays.{SameKept, given_same, lists_kept, quotes_kept, spawn_kept, stack_same, working_same}
 use Rattle.lib_os.proofs.WordsTell.{is_in_handler}
 use Rattle.jos_base.proofs.Maps.{upd-all}
 
@@ -90,6 +93,7 @@ minds_page_at (service.Stat fd va) at = true
 minds_page_at (service.SetSize fd size) at = true
 minds_page_at (service.Remove path) at = true
 minds_page_at (service.OpenFile path mode) at = true
+minds_page_at (service.Spawn path argv) at = true
 minds_page_at _ _ = false
 
 -- or a step of fork that bears a child, or one of the handler, which keeps its stack and its copy in mind
@@ -105,10 +109,6 @@ KeepsRow minds row after = minds ≡ true → after ≡ row
 -- the regions that have tables have them after, too, where that is kept in mind
 abbrev pub KeepsTables : Bool → (ℕ → Bool) → (ℕ → Bool) → Type 0
 KeepsTables minds tables after = minds ≡ true → (r : ℕ) → tables r ≡ true → after r ≡ true
-
--- a page at UTEMP has the same bytes
-abbrev pub SameTaken : View → View → Type 0
-SameTaken v w = (x : Entry) → v.row (page_number UTEMP) ≡ Some x → is_shared x.perm ≡ false → w.bytes x.frame ≡ v.bytes x.frame
 
 -- and a descriptor's page tells the same of what it names, but for its offset
 abbrev pub SameDevices : View → View → Type 0
@@ -169,7 +169,7 @@ pub record TurnKept (v w : View) (k : Slot) (status : Status) (runs : ℕ) : Typ
   pub same : is_running status ≡ true → runs ≡ k.runs → (is_running k.status ≡ true) × SameCounts v w × SamePipes v w
 
 abbrev pub SamePages : View → View → Type 0
-SamePages v w = SameTaken v w × SameDevices v w
+SamePages v w = SameKept v w × SameDevices v w
 
 abbrev pub KeepsPage : Bool → View → View → Type 0
 KeepsPage minds v w = minds ≡ true → SamePages v w
@@ -263,7 +263,7 @@ pub kept_alike : (stands : Place) (v w : View) → ViewAlike v w → ((r : ℕ) 
     KeptAt stands v w
 kept_alike place.Guest v w same tables held = tt
 kept_alike (place.InService s stands) v w same tables held =
-    ((λ is. same.row), (λ is r table. tables r ∙ table), (λ is. (same.bytes (page_number UTEMP), same.devices)), held)
+    ((λ is. same.row), (λ is r table. tables r ∙ table), (λ is. ((λ p x outside. same.bytes p x), same.devices)), held)
 kept_alike (place.InHandler stands) v w same tables held = same
 
 -- ---- where it stands in its handler
@@ -384,7 +384,7 @@ module _ (v w : View) (row : w.row ≡ v.row) (devices : SameDevices v w) where
   given_bytes_kept fd va len start h =
       record { below = h.below; begins = begins_kept fd start h.below h.begins; buffer = h.buffer }
 
-  module _ (b after : Born) (phase_kept : after.phase ≡ b.phase) where
+  module _ (b after : Born) (phase_kept : after.phase ≡ b.phase) (found_kept : after.spawning ≡ b.spawning) where
     wants_kept : (fd va len start : ℕ) (bytes : List ℕ) → WantsMore v b fd va len start bytes → WantsMore w after fd va len start bytes
     wants_kept fd va len start bytes h =
         record { phase = phase_kept ∙ h.phase; given = given_bytes_kept fd va len start h.given; fewer = h.fewer }
@@ -401,6 +401,10 @@ module _ (v w : View) (row : w.row ≡ v.row) (devices : SameDevices v w) where
         writing fd buffer len start bytes reads (wants_kept fd buffer len start bytes wants) there
     stopped_kept write va ip (following s bytes reads wants there) =
         following s bytes reads (record { takes = wants.takes; phase = phase_kept ∙ wants.phase; no_end = wants.no_end; follows = wants.follows }) there
+    stopped_kept write va ip (listed path argv name addresses taken stage reads phase so are few fewer there) =
+        listed path argv name addresses taken stage reads (phase_kept ∙ phase) (lists_kept b after found_kept so) are few fewer there
+    stopped_kept write va ip (quoted path argv address name left taken words stage reads phase so fewer there) =
+        quoted path argv address name left taken words stage reads (phase_kept ∙ phase) (quotes_kept b after found_kept so) fewer there
 
 -- ---- where it stands
 
@@ -513,21 +517,21 @@ module _ (v w : View) (k : Slot) (b : Born) (status : Status) (runs : ℕ) (memo
   device_kept s None row h = absurd h
   device_kept s (Some fd) row h = record { is_in = in_kept _ _ h.is_in; below = h.below; stands = open_kept fd row h.stands }
 
-  taken_kept : (bytes : List ℕ) (n : ℕ) → w.row ≡ v.row → SameTaken v w → HasTaken v bytes n → HasTaken w bytes n
+  taken_kept : (bytes : List ℕ) (n : ℕ) → w.row ≡ v.row → SameKept v w → HasTaken v bytes n → HasTaken w bytes n
   taken_kept bytes n row page h = record {
     entry = h.entry;
     stands = ap (λ (r : EntryRow). r (page_number UTEMP)) row ∙ h.stands;
     own_page = h.own_page;
-    same = λ i lt. ap (λ (l : List ℕ). slice_index l i) (page h.entry h.stands h.own_page) ∙ h.same i lt;
+    same = λ i lt. ap (λ (l : List ℕ). slice_index l i) (working_same v w page h.entry h.stands h.own_page) ∙ h.same i lt;
   }
 
-  taken_from_kept : (start : ℕ) (bytes : List ℕ) (n : ℕ) → w.row ≡ v.row → SameTaken v w → HasTakenFrom v start bytes n →
+  taken_from_kept : (start : ℕ) (bytes : List ℕ) (n : ℕ) → w.row ≡ v.row → SameKept v w → HasTakenFrom v start bytes n →
       HasTakenFrom w start bytes n
   taken_from_kept start bytes n row page h = record {
     entry = h.entry;
     stands = ap (λ (r : EntryRow). r (page_number UTEMP)) row ∙ h.stands;
     own_page = h.own_page;
-    same = λ i lt. ap (λ (l : List ℕ). slice_index l (start % PGSIZE + i)) (page h.entry h.stands h.own_page) ∙ h.same i lt;
+    same = λ i lt. ap (λ (l : List ℕ). slice_index l (start % PGSIZE + i)) (working_same v w page h.entry h.stands h.own_page) ∙ h.same i lt;
   }
 
   taking_kept : (fd va len start done : ℕ) → w.row ≡ v.row → SamePages v w → IsTaking v k b fd va len start done →
@@ -535,7 +539,7 @@ module _ (v w : View) (k : Slot) (b : Born) (status : Status) (runs : ℕ) (memo
   taking_kept fd va len start done row page h = record {
     bytes = h.bytes;
     program = h.program;
-    wants = wants_kept v w row page.1 b environment refl fd va len start h.bytes h.wants;
+    wants = wants_kept v w row page.1 b environment refl refl fd va len start h.bytes h.wants;
     many = h.many;
     kept = taken_from_kept start h.bytes done row page.0 h.kept;
     silent = h.silent;
@@ -620,7 +624,7 @@ module _ (v w : View) (k : Slot) (b : Born) (status : Status) (runs : ℕ) (memo
     entry = h.entry;
     stands = ap (λ (r : EntryRow). r (page_number UTEMP)) row ∙ h.stands;
     own_page = h.own_page;
-    word_is = ap (λ (l : List ℕ). word_at (slice_index l) at) (page.0 h.entry h.stands h.own_page) ∙ h.word_is;
+    word_is = ap (λ (l : List ℕ). word_at (slice_index l) at) (working_same v w page.0 h.entry h.stands h.own_page) ∙ h.word_is;
   }
 
   -- a file is opened
@@ -731,7 +735,7 @@ module _ (v w : View) (k : Slot) (b : Born) (status : Status) (runs : ℕ) (memo
 
   -- the bytes of a file
 
-  abbrev handing_kept : (s : Service) (done count : ℕ) → w.row ≡ v.row → SameTaken v w → HasBytes v k b s done count →
+  abbrev handing_kept : (s : Service) (done count : ℕ) → w.row ≡ v.row → SameKept v w → HasBytes v k b s done count →
       HasBytes w kernel_slot environment s done count
   handing_kept s done count row page h = record {
     hands = h.hands;
@@ -751,14 +755,14 @@ module _ (v w : View) (k : Slot) (b : Born) (status : Status) (runs : ℕ) (memo
     awake = h.awake;
   }
 
-  loading_kept : (s : Service) (done count : ℕ) → w.row ≡ v.row → SameTaken v w → IsLoadingBytes v k b s done count →
+  loading_kept : (s : Service) (done count : ℕ) → w.row ≡ v.row → SameKept v w → IsLoadingBytes v k b s done count →
       IsLoadingBytes w kernel_slot environment s done count
   loading_kept s done count row page h = record {
     has = handing_kept s done count row page h.has;
     allowed = ap (λ (r : EntryRow). is_refused_by true (r (next_page s done))) row ∙ h.allowed;
   }
 
-  rest_kept : (s : Service) (done count first : ℕ) → w.row ≡ v.row → SameTaken v w → IsLoadingRest v k b s done count first →
+  rest_kept : (s : Service) (done count first : ℕ) → w.row ≡ v.row → SameKept v w → IsLoadingRest v k b s done count first →
       IsLoadingRest w kernel_slot environment s done count first
   rest_kept s done count first row page h = record {
     has = handing_kept s done count row page h.has;
@@ -768,7 +772,7 @@ module _ (v w : View) (k : Slot) (b : Born) (status : Status) (runs : ℕ) (memo
     first_is = h.first_is;
   }
 
-  putting_bytes_kept : (s : Service) (done count word : ℕ) → w.row ≡ v.row → SameTaken v w → IsPuttingBytes v k b s done count word →
+  putting_bytes_kept : (s : Service) (done count word : ℕ) → w.row ≡ v.row → SameKept v w → IsPuttingBytes v k b s done count word →
       IsPuttingBytes w kernel_slot environment s done count word
   putting_bytes_kept s done count word row page h = record {
     has = handing_kept s done count row page h.has;
@@ -776,7 +780,7 @@ module _ (v w : View) (k : Slot) (b : Born) (status : Status) (runs : ℕ) (memo
     word_is = h.word_is;
   }
 
-  counting_kept : (s : Service) (id : ℕ) → w.row ≡ v.row → SameTaken v w → IsCounting v k b s id → IsCounting w kernel_slot environment s id
+  counting_kept : (s : Service) (id : ℕ) → w.row ≡ v.row → SameKept v w → IsCounting v k b s id → IsCounting w kernel_slot environment s id
   counting_kept s id row page h = record { self = h.self; hands = h.hands; inside = h.inside; so = by_reply h.so }
     where
       by_reply : AwaitsOrHasBytes v k b s → AwaitsOrHasBytes w kernel_slot environment s
@@ -837,6 +841,7 @@ module _ (v w : View) (k : Slot) (b : Born) (status : Status) (runs : ℕ) (memo
   before_kept so_too (service.Write fd va len) done word row page h = (taking_kept fd va len word done row page h.0, so_too h.1)
   before_kept so_too (service.Remove path) done word row page h = (taking_path_kept (service.Remove path) done row page h.0, so_too h.1)
   before_kept so_too (service.OpenFile path mode) done word row page h = (taking_path_kept (service.OpenFile path mode) done row page h.0, so_too h.1)
+  before_kept so_too (service.Spawn path argv) done word row page h = (taking_path_kept (service.Spawn path argv) done row page h.0, so_too h.1)
   before_kept so_too _ done word row page h = absurd h
 
   -- who stands before a byte of a buffer keeps it in mind
@@ -847,6 +852,7 @@ module _ (v w : View) (k : Slot) (b : Born) (status : Status) (runs : ℕ) (memo
   before_minds so (service.Write fd va len) at done word h = refl
   before_minds so (service.Remove path) at done word h = refl
   before_minds so (service.OpenFile path mode) at done word h = refl
+  before_minds so (service.Spawn path argv) at done word h = refl
   before_minds so _ at done word h = absurd h
 
   device_minds : (s : Service) (at : Step) → StandsAtDevice v k b s (descriptor_given s) → minds_page (place.InService s at) ≡ true
@@ -1427,9 +1433,17 @@ module _ (v w : View) (k : Slot) (b : Born) (status : Status) (runs : ℕ) (memo
       piped_kept (service.Write fd va len) at (row refl) (tables refl) (taken refl) held turn h
   step_kept (service.Stat fd va) (step.Piped at) row tables taken held turn h =
       piped_kept (service.Stat fd va) at (row refl) (tables refl) (taken refl) held turn h
+  step_kept (service.Spawn path argv) step.TakingPage row tables taken held turn h = (in_kept _ _ h.0, h.1)
+  step_kept (service.Spawn path argv) (step.Gathering done) row tables taken held turn h =
+      gathering_path_kept (may_follow path done) (service.Spawn path argv) done (row refl) (taken refl) h
+  step_kept (service.Spawn path argv) (step.Keeping done word left) row tables taken held turn h =
+      keeping_path_kept (service.Spawn path argv) done word left (row refl) (taken refl) h
+  step_kept (service.Spawn path argv) (step.Spawning at) row tables taken held turn h =
+      spawn_kept v w (row refl) (told_kept v w (row refl) (taken refl).1) (given_same v w (taken refl).0) (stack_same v w (taken refl).0) k b status runs
+      memory regions descriptors path argv (working_same v w (taken refl).0) (tables refl) at h
   step_kept _ _ row tables taken held turn h = absurd h
 
-  beneath_kept : (regs : Regs) → w.row ≡ v.row → SameTaken v w → StandsBeneath v (record k { registers = regs }) b →
+  beneath_kept : (regs : Regs) → w.row ≡ v.row → SameKept v w → StandsBeneath v (record k { registers = regs }) b →
       StandsBeneath w (record kernel_slot { registers = regs }) environment
   beneath_kept regs row page (at_program h) =
       at_program (record { program = h.program; phase = h.phase; words = h.words; silent = h.silent; awake = h.awake })
@@ -1470,7 +1484,7 @@ module _ (v w : View) (k : Slot) (b : Born) (status : Status) (runs : ℕ) (memo
   way_kept : ViewAlike v w → (h : HandlerStep) (fault : PageFault) (regs : Regs) → CopiesOrEnds h v k b fault regs →
       CopiesOrEnds h w kernel_slot environment fault regs
   way_kept same h fault regs (copies way) = copies (record {
-    beneath = beneath_kept regs same.row (same.bytes (page_number UTEMP)) way.beneath;
+    beneath = beneath_kept regs same.row (λ p x outside. same.bytes p x) way.beneath;
     error = way.error;
     inside = way.inside;
     at = copies_kept v w same h fault.va way.at;
@@ -1478,7 +1492,7 @@ module _ (v w : View) (k : Slot) (b : Born) (status : Status) (runs : ℕ) (memo
   way_kept same h fault regs (ends way) = ends (record {
     eax = way.eax;
     program = way.program;
-    stopped = stopped_kept v w same.row same.devices b environment refl (is_write fault.error) fault.va regs.eip way.stopped;
+    stopped = stopped_kept v w same.row same.devices b environment refl refl (is_write fault.error) fault.va regs.eip way.stopped;
     silent = way.silent;
     awake = way.awake;
     inside = way.inside;
@@ -1529,9 +1543,13 @@ library_put at words row after p inside same h =
       descriptors = λ q entry is stands.
           h.descriptors q entry is
           (sym (same q (λ e. absurd (let contradiction : true ≡ false = sym is ∙ ap is_of_descriptor e ∙ programs_no_descriptor p inside in cc))) ∙ stands);
-      none = λ q outside no_descriptor no_stack no_copy no_working.
+      spawns = λ q is.
+          own_alike row after q
+          (same q (λ e. absurd (let contradiction : false ≡ true = sym (spawns_aside at words q is).outside ∙ ap is_programs e ∙ inside in cc)))
+          (h.spawns q is);
+      none = λ q outside no_descriptor no_stack no_copy no_working no_spawns.
           same q (λ e. absurd (let contradiction : false ≡ true = sym outside ∙ ap is_programs e ∙ inside in cc))
-          ∙ h.none q outside no_descriptor no_stack no_copy no_working;
+          ∙ h.none q outside no_descriptor no_stack no_copy no_working no_spawns;
     }
 
 -- ---- what is seen of a space

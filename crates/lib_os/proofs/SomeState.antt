@@ -69,6 +69,7 @@ program_fits = record {
   copy = λ has. absurd (let contradiction : false ≡ true = has in cc);
   no_copy = λ none. refl;
   no_working = refl;
+  no_spawns = λ p. refl;
   stack = refl;
   flags = refl;
   stands = record { program = refl; phase = refl; words = refl; silent = refl; awake = refl };

@@ -325,26 +325,21 @@ old_gone {slots = slots} {next = next} old n x none m fd name b =
 
 -- ---- one slot is another
 
--- the environment in a slot is another, in the same space
-pub slot_changed : {names : Names} {s : KernelState} {a : AbstractState} → StandsFor names s a → (n : ℕ) (b : Born) →
+-- the environment in a slot is another, in the same space, and children are borne
+pub slot_becomes : {names : Names} {s : KernelState} {a : AbstractState} → StandsFor names s a → (n : ℕ) (b : Born) →
     a.slots n ≡ born b → (k : Slot) (after : Born) → k.directory ≡ (slot_at s n).directory → Settles (slot_at s n) k →
-    is_plain (place_of (slot_at s n)) ≡ true → is_plain (place_of k) ≡ true →
+    CountsAlike (place_of (slot_at s n)) (place_of k) → HasChildren names s.spaces (upd s.environments.slots n k) (upd a.slots n (born after)) →
     StandsForBorn names s.spaces k after → PlacesAlike (place_of (slot_at s n)) (place_of k) →
     ((fd : ℕ) → after.descriptors fd ≡ b.descriptors fd) → StandsFor names (with_slot_at s n k) (with_born a n after)
-slot_changed {names = names} {s = s} {a = a} h n b at k after directory settles plain plain_after so alike descriptors =
-    let rows = rows_set h n b at k (born_live so ∙ sym (born_live (born_at h n b at))) directory
-    (plain_alike (place_of (slot_at s n)) (place_of k) plain plain_after) in
+slot_becomes {names = names} {s = s} {a = a} h n b at k after directory settles counts children so alike descriptors =
+    let rows = rows_set h n b at k (born_live so ∙ sym (born_live (born_at h n b at))) directory counts in
     record {
       slots = upd-both (λ m (x : Slot) (y : AbstractSlot). StandsForSlot names s.spaces x y) s.environments.slots a.slots n k (born after) so
           (λ m ne. h.slots m);
       apart = rows.apart;
       named = rows.named;
       users = rows.users;
-      children = children_kept h.children n (λ m ne. upd-other s.environments.slots n k m ne) (λ m ne. upd-other a.slots n (born after) m ne)
-          (λ m ne live. same_space names s.spaces (slot_at s m).directory)
-          (born_bears_none (slot_at s n) (a.slots n) b at (plain_unborne (place_of (slot_at s n)) plain))
-          (born_bears_none (upd s.environments.slots n k n) (upd a.slots n (born after) n) after (upd-at a.slots n (born after))
-          (ap (λ (x : Slot). borne_in (place_of x)) (upd-at s.environments.slots n k) ∙ plain_unborne (place_of k) plain_after));
+      children = children;
       whole = rows.whole;
       free_slots = h.free_slots;
       beside = rows.beside;
@@ -352,8 +347,7 @@ slot_changed {names = names} {s = s} {a = a} h n b at k after directory settles 
           s.environments.slots a.slots n k (born after)
           (ends_moved alike descriptors (λ fd name is. refl) (λ fd below. ap (λ (d : ℕ). rows_of s.spaces d (pipe_page fd)) directory)
           (λ fd x below is. refl) (ends_at h n b at)) (λ m ne. h.ends m);
-      locks = locks_set h n k alike.locked (set_counts s n k (born_live so ∙ sym (born_live (born_at h n b at))) directory
-          (plain_alike (place_of (slot_at s n)) (place_of k) plain plain_after));
+      locks = locks_set h n k alike.locked (set_counts s n k (born_live so ∙ sym (born_live (born_at h n b at))) directory counts);
       runs = turns_settle s.environments.slots n k h.runs settles;
       old = old_stays h.old n b at n after descriptors;
       first = upd-other a.slots n (born after) 0 (born_not_first h n b at) ∙ h.first;
@@ -364,6 +358,21 @@ slot_changed {names = names} {s = s} {a = a} h n b at k after directory settles 
       tabled = tabled_set h.tabled n k (born_live (born_at h n b at)) settles;
       in_order = slot_in_order s n k (born_live so ∙ sym (born_live (born_at h n b at))) directory h.in_order;
     }
+
+-- it bears no child
+pub slot_changed : {names : Names} {s : KernelState} {a : AbstractState} → StandsFor names s a → (n : ℕ) (b : Born) →
+    a.slots n ≡ born b → (k : Slot) (after : Born) → k.directory ≡ (slot_at s n).directory → Settles (slot_at s n) k →
+    is_plain (place_of (slot_at s n)) ≡ true → is_plain (place_of k) ≡ true →
+    StandsForBorn names s.spaces k after → PlacesAlike (place_of (slot_at s n)) (place_of k) →
+    ((fd : ℕ) → after.descriptors fd ≡ b.descriptors fd) → StandsFor names (with_slot_at s n k) (with_born a n after)
+slot_changed {names = names} {s = s} {a = a} h n b at k after directory settles plain plain_after so alike descriptors =
+    slot_becomes h n b at k after directory settles (plain_alike (place_of (slot_at s n)) (place_of k) plain plain_after)
+    (children_kept h.children n (λ m ne. upd-other s.environments.slots n k m ne) (λ m ne. upd-other a.slots n (born after) m ne)
+    (λ m ne live. same_space names s.spaces (slot_at s m).directory)
+    (born_bears_none (slot_at s n) (a.slots n) b at (plain_unborne (place_of (slot_at s n)) plain))
+    (born_bears_none (upd s.environments.slots n k n) (upd a.slots n (born after) n) after (upd-at a.slots n (born after))
+    (ap (λ (x : Slot). borne_in (place_of x)) (upd-at s.environments.slots n k) ∙ plain_unborne (place_of k) plain_after)))
+    so alike descriptors
 
 -- only the kernel's slot is another
 pub slot_replaced : {names : Names} {s : KernelState} {a : AbstractState} → StandsFor names s a → (n : ℕ) (b : Born) →

@@ -3,10 +3,11 @@
 use Rattle.std.proofs.Common.{◌≡◌, ◌≢◌, ◌∙◌, ℕ, ◌+◌, ◌%◌, ◌^◌, Bool, true, false, List, [], ◌∷◌, ◌++◌, ◌==◌, ◌||◌}
 use Rattle.std.proofs.Common.{refl, sym, ap, subst, Result, Ok, Err, if◌then◌else◌}
 use Rattle.std.proofs.lemmas.Option.{same_Some}
-use Rattle.std.specs.Prelude.{Option, Some, None, IfSome, take, drop, length, codes, ⊤}
+use Rattle.std.specs.Prelude.{Option, Some, None, IfSome, take, drop, length, slice_index, codes, ⊤, ◌&&◌, not, nat_le, nat_lt}
 use Rattle.jos_base.specs.declared.registers.Regs.{Regs}
 use Rattle.jos_base.specs.declared.memory.PageFault.{PageFault}
-use Rattle.jos_base.specs.declared.numbers.TheConstants.{NENV}
+use Rattle.jos_base.specs.declared.memory.Access.TheVariants.{Read, Write}
+use Rattle.jos_base.specs.declared.numbers.TheConstants.{NENV, PGSIZE, T_SERVICE}
 use Rattle.jos_base.specs.Environments.{next_id}
 use Rattle.jos_base.specs.Words.{upd}
 use Rattle.jos_cpu.specs.declared.events.Event.{Event}
@@ -15,7 +16,7 @@ use Rattle.jos_cpu.specs.declared.events.Gates.TheVariants.{Run}
 use Rattle.jos_cpu.specs.Steps.{step_of}
 use Rattle.jos_cpu.proofs.Agreement.{Agrees}
 use Rattle.jos_cpu.proofs.Through.{step_through}
-use Rattle.fs_layout.specs.FileTree.{remove_path}
+use Rattle.fs_layout.specs.FileTree.{open_path, read_file, remove_path}
 use Rattle.fs_layout.specs.declared.numbers.TheConstants.{FTYPE_REG}
 use Rattle.fs_layout.specs.FileActs.{stat_bytes}
 use Rattle.jos_base.specs.Below.{some_below}
@@ -25,13 +26,14 @@ use Rattle.lib_os.specs.declared.service.Service.TheVariants as service
 use Rattle.lib_os.specs.AbstractState.{AbstractState, Born, Page, own, named, AbstractSlot, Object, file, terminal, read_end}
 use Rattle.lib_os.specs.AbstractState.{write_end, Request, act, ProgramState, guest, shell}
 use Rattle.lib_os.specs.AbstractState.{Phase, at_guest, faulted, in_service, Stage, entered, gathering, delivering}
-use Rattle.lib_os.specs.AbstractState.{receiving, received, bearing, asked, replied, moving, Server, idle, slot_id, with_born}
-use Rattle.lib_os.specs.AbstractState.{free, unborn, born, serving}
-use Rattle.lib_os.specs.AbstractMemory.{stored_in, page_at}
+use Rattle.lib_os.specs.AbstractState.{receiving, received, bearing, asked, replied, moving, taking, Server, idle, slot_id, with_born}
+use Rattle.lib_os.specs.AbstractState.{free, unborn, born, serving, awaiting, OpenFile, ImageRead, Spawning, listing, quoting}
+use Rattle.lib_os.specs.AbstractState.{opening, heading, tabling, loading, closed, dropping, refusing}
+use Rattle.lib_os.specs.AbstractMemory.{stored_in, page_at, page_allows}
 use Rattle.lib_os.specs.GuestStep.{GuestMemory, born_in, guest_memory, guest_stored, after_event, after_writes}
 use Rattle.lib_os.specs.GuestStep.{guest_step}
 use Rattle.lib_os.specs.Answers.{stored_into, all_stored, delivered_so_far, bytes_gathered, bytes_stored, bytes_delivered}
-use Rattle.lib_os.specs.Answers.{handed_back}
+use Rattle.lib_os.specs.Answers.{bytes_from, handed_back, moved_at_once}
 use Rattle.lib_os.specs.MemoryServices.{printed, cputs, wait, page_new, page_drop}
 use Rattle.lib_os.specs.AbstractMessages.{receive, Receiver, page_kind, waiting_in, with_sent, woken, sent, takes, sent_to_waiting}
 use Rattle.lib_os.specs.AbstractMessages.{sent_to, send}
@@ -39,16 +41,26 @@ use Rattle.lib_os.specs.AbstractMemory.{with_page}
 use Rattle.lib_os.specs.Descriptors.{holds_in, is_name, close, dup_onto, dup, pipe_on, exit_by, object_of, lowest_open, lowest_free}
 use Rattle.lib_os.specs.Descriptors.{next_free}
 use Rattle.lib_os.specs.AbstractPipes.{read_over, read_from_pipe, write_pipe}
-use Rattle.lib_os.specs.FileServer.{request_begun, request_taken, ask}
+use Rattle.lib_os.specs.Fence.{in_fence}
+use Rattle.lib_os.specs.Services.{service_of}
+use Rattle.lib_os.specs.FileServer.{request_begun, request_taken, ask, is_count}
 use Rattle.lib_os.specs.FileServices.{after_asking, read_terminal, read_object, read_begun, read_moving, read_step}
 use Rattle.lib_os.specs.FileServices.{write_object, write_with, write_begun, write_gathering, write_moving, write_step}
 use Rattle.lib_os.specs.FileServices.{named_request, seek_begun, seek_step, set_size_begun, set_size_step}
 use Rattle.lib_os.specs.FileServices.{stat_object, stat_begun, stat_step}
 use Rattle.lib_os.specs.FileServices.{path_step, open_asked, open_step, remove_step, sync_step}
+use Rattle.jos_elf.specs.declared.numbers.TheConstants.{ARGS_MAX, EHDR_LEN, E_NOT_EXEC}
+use Rattle.jos_elf.specs.StackPage.{fits_stack}
+use Rattle.lib_os.specs.AbstractSpawn.{Piece, address_gathered, address_taken, answer_in, child_begun, descriptor_of, file_dropped}
+use Rattle.lib_os.specs.AbstractSpawn.{file_in, file_opened, file_step, has_nul, header_read, listing_step, more_gathered, next_string}
+use Rattle.lib_os.specs.AbstractSpawn.{piece_asked, piece_read, pieces_left, quoting_step, reading_step, spawn_at, spawn_begun, spawn_step}
+use Rattle.jos_elf.specs.Headers.{table_of}
+use Rattle.lib_os.specs.AbstractSpawn.{is_header, is_table, table_size, with_spawning}
+use Rattle.lib_os.specs.AbstractSpawn.{spawned, spawning_step, string_gathered, table_read, words_given}
 use Rattle.lib_os.specs.LibraryCall.{library_step, at_once, only_at_once, fork_step, receive_step}
 use Rattle.lib_os.specs.AbstractFork.{begun_in, child_of}
 use Rattle.lib_os.specs.AbstractRun.{abs_step, program_step, slot_step}
-use Rattle.lib_os.specs.AbstractLaws.{asks_server, has_asked, is_asking, bears_in, borne_by, is_vacant, is_unborn}
+use Rattle.lib_os.specs.AbstractLaws.{asks_server, has_asked, is_asking, bears_in, borne_by, is_vacant, is_unborn, loads_for}
 use Rattle.jos_base.proofs.Maps.{upd-all, upd-other, upd-at}
 
 -- ---- what a slot is for the others
@@ -62,8 +74,8 @@ pub record Kind : Type 0 where
 abbrev pub kind : AbstractSlot → Kind
 kind slot = record { asks = is_asking slot; borne = borne_by slot; vacant = is_vacant slot; being_made = is_unborn slot }
 
-abbrev pub kind_in : Phase → Kind
-kind_in phase = record { asks = has_asked phase; borne = bears_in phase; vacant = false; being_made = false }
+abbrev pub kind_in : Phase → Option Spawning → Kind
+kind_in phase found = record { asks = has_asked phase; borne = bears_in phase found; vacant = false; being_made = false }
 
 -- A slot is for the others what another was, and has the same descriptors; of who has asked the file server it has all.
 pub record SeenAs (now was : AbstractSlot) : Type 0 where
@@ -91,11 +103,11 @@ nothing : ⊤
 nothing = record {}
 
 -- who waits for a message has not asked, and bears nobody
-waiting_kind : (phase : Phase) (w : Receiver) → waiting_in phase ≡ Some w → kind_in phase ≡ kind_in at_guest
-waiting_kind at_guest w is = refl
-waiting_kind (faulted va ip) w is = refl
-waiting_kind (in_service (service.Receive va from) receiving) w is = refl
-waiting_kind (in_service s stage) w is = absurd (cc)
+waiting_kind : (phase : Phase) (found : Option Spawning) (w : Receiver) → waiting_in phase ≡ Some w → kind_in phase found ≡ kind_in at_guest None
+waiting_kind at_guest found w is = refl
+waiting_kind (faulted va ip) found w is = refl
+waiting_kind (in_service (service.Receive va from) receiving) found w is = refl
+waiting_kind (in_service s stage) found w is = absurd (cc)
 
 -- ---- what comes of a step
 
@@ -104,9 +116,10 @@ module _ (a : AbstractState) (n : ℕ) where
   abbrev pub Others : (ℕ → AbstractSlot) → Type 0
   Others slots = (m : ℕ) → m ≢ n → SeenAs (slots m) (a.slots m)
 
-  -- of slot n: an environment is there that bears nobody, or it is as it was
+  -- of slot n: an environment is there that bears nobody, or whom it bore, or it is as it was
   pub data Own (k : Kind) : Type 0 where
     bears_none : k.borne ≡ None → k.vacant ≡ false → k.being_made ≡ false → Own k
+    bears_still : k.borne ≡ borne_by (a.slots n) → k.vacant ≡ false → k.being_made ≡ false → Own k
     as_before : k ≡ kind (a.slots n) → Own k
 
   -- the parts of a later state, as they stand to those of the first
@@ -126,12 +139,17 @@ module _ (a : AbstractState) (n : ℕ) where
         Done slots free_slots server
     -- it begins to bear a child
     begins : (child id parent : ℕ) (b : Born) → a.free_slots ≡ child ∷ free_slots →
-        slots ≡ upd (upd a.slots child (unborn id parent)) n (born b) → bears_in b.phase ≡ Some child → server ≡ a.server →
+        slots ≡ upd (upd a.slots child (unborn id parent)) n (born b) → bears_in b.phase b.spawning ≡ Some child → server ≡ a.server →
         Done slots free_slots server
     -- its child is born
     bears : (child : ℕ) (c b : Born) → borne_by (a.slots n) ≡ Some child →
-        slots ≡ upd (upd a.slots child (born c)) n (born b) → bears_in c.phase ≡ None → bears_in b.phase ≡ None →
-        free_slots ≡ a.free_slots → server ≡ a.server →
+        slots ≡ upd (upd a.slots child (born c)) n (born b) → bears_in c.phase c.spawning ≡ None →
+        bears_in b.phase b.spawning ≡ None → free_slots ≡ a.free_slots → server ≡ a.server →
+        Done slots free_slots server
+    -- its child is not born at all
+    drops : (child id : ℕ) (b : Born) → borne_by (a.slots n) ≡ Some child →
+        slots ≡ upd (upd a.slots child (free id)) n (born b) → bears_in b.phase b.spawning ≡ None →
+        free_slots ≡ child ∷ a.free_slots → server ≡ a.server →
         Done slots free_slots server
 
   abbrev Left : AbstractState → Type 0
@@ -152,7 +170,7 @@ module _ (a : AbstractState) (n : ℕ) where
   others_set slots slot h m ne = subst (λ (s : AbstractSlot). SeenAs s (a.slots m)) (sym (upd-other slots n slot m ne)) (h m ne)
 
   -- an environment stands in slot n
-  set_own : (x : AbstractState) (b : Born) → Left x → Own (kind_in b.phase) → Left (with_born x n b)
+  set_own : (x : AbstractState) (b : Born) → Left x → Own (kind_in b.phase b.spawning) → Left (with_born x n b)
   set_own x b h itself = record {
     others = others_set x.slots (born b) h.others;
     itself = subst (λ (s : AbstractSlot). Own (kind s)) (sym (upd-at x.slots n (born b))) itself;
@@ -160,10 +178,10 @@ module _ (a : AbstractState) (n : ℕ) where
     server_is = h.server_is;
   }
 
-  put_in : (x : AbstractState) (b : Born) → Left x → Own (kind_in b.phase) → Ends (with_born x n b)
+  put_in : (x : AbstractState) (b : Born) → Left x → Own (kind_in b.phase b.spawning) → Ends (with_born x n b)
   put_in x b h itself = still (set_own x b h itself)
 
-  put : (b : Born) → Own (kind_in b.phase) → Ends (with_born a n b)
+  put : (b : Born) → Own (kind_in b.phase b.spawning) → Ends (with_born a n b)
   put b itself = put_in a b same_left itself
 
   none : (asks_it : Bool) → Own (record { asks = asks_it; borne = None; vacant = false; being_made = false })
@@ -187,7 +205,7 @@ module _ (a : AbstractState) (n : ℕ) where
   -- the environment that stands in slot n
   abbrev OwnIn : Option Born → Type 0
   OwnIn None = ⊤
-  OwnIn (Some b) = Own (kind_in b.phase)
+  OwnIn (Some b) = Own (kind_in b.phase b.spawning)
 
   of_slot : (slot : AbstractSlot) → Own (kind slot) → OwnIn (born_in slot)
   of_slot (free id) h = nothing
@@ -198,7 +216,7 @@ module _ (a : AbstractState) (n : ℕ) where
   there : (x : AbstractState) → Left x → OwnIn (born_in (x.slots n))
   there x h = of_slot (x.slots n) h.itself
 
-  page_left : (x : AbstractState) (b : Born) (va byte : ℕ) (page : Option Page) → Left x → Own (kind_in b.phase) →
+  page_left : (x : AbstractState) (b : Born) (va byte : ℕ) (page : Option Page) → Left x → Own (kind_in b.phase b.spawning) →
       Left (stored_in x n b va byte page)
   page_left x b va byte None h itself = h
   page_left x b va byte (Some (own bytes w)) h itself = set_own x _ h itself
@@ -215,18 +233,22 @@ module _ (a : AbstractState) (n : ℕ) where
       let o = born_in (x.slots n) in
       all_left (stored_into x n va byte o) ((va + 1) % 2 ^ 32) rest (into_left x va byte o h (there x h))
 
-  to_left : (x : AbstractState) (regs : Regs) (s : Service) (va answer : ℕ) (bytes : List ℕ) (o : Option Born) → Left x →
-      Ends (delivered_so_far x n regs s va answer bytes o)
-  to_left x regs s va answer bytes None h = still h
-  to_left x regs s va answer [] (Some b) h = put_in x _ h (none _)
-  to_left x regs s va answer (byte ∷ rest) (Some b) h = put_in x _ h (none _)
+  -- whoever is in the service bears nobody
+  abbrev BearsNobody : Service → Type 0
+  BearsNobody s = (stage : Stage) (found : Option Spawning) → Own (kind_in (in_service s stage) found)
 
-  put_left : (regs : Regs) (s : Service) (va : ℕ) (bytes : List ℕ) (answer count : ℕ) →
+  to_left : (x : AbstractState) (regs : Regs) (s : Service) → BearsNobody s → (va answer : ℕ) (bytes : List ℕ) (o : Option Born) → Left x →
+      Ends (delivered_so_far x n regs s va answer bytes o)
+  to_left x regs s calm va answer bytes None h = still h
+  to_left x regs s calm va answer [] (Some b) h = put_in x _ h (none _)
+  to_left x regs s calm va answer (byte ∷ rest) (Some b) h = put_in x _ h (calm _ b.spawning)
+
+  put_left : (regs : Regs) (s : Service) → BearsNobody s → (va : ℕ) (bytes : List ℕ) (answer count : ℕ) →
       Ends (bytes_stored a n regs s va bytes answer count)
-  put_left regs s va bytes answer count =
+  put_left regs s calm va bytes answer count =
       let x = all_stored a n va (take count bytes) in
       let h : Left x = all_left a va (take count bytes) same_left in
-      to_left x regs s ((va + count) % 2 ^ 32) answer (drop count bytes) (born_in (x.slots n)) h
+      to_left x regs s calm ((va + count) % 2 ^ 32) answer (drop count bytes) (born_in (x.slots n)) h
 
   once_left : (stage : Stage) (x : AbstractState) → Ends x → LeftIf (at_once stage x)
   once_left entered x h = h
@@ -238,7 +260,7 @@ module _ (a : AbstractState) (n : ℕ) where
 
   module _ (b : Born) (at : a.slots n ≡ born b) (regs : Regs) where
     -- the environment as it was, at its phase
-    mine : Own (kind_in b.phase)
+    mine : Own (kind_in b.phase b.spawning)
     mine = as_before (ap (λ (slot : AbstractSlot). kind slot) (sym at))
 
     -- ---- the environment itself
@@ -288,48 +310,62 @@ module _ (a : AbstractState) (n : ℕ) where
     pipe_left (Some reading) None = put _ (none _)
     pipe_left (Some reading) (Some writing) = put _ (none _)
 
-    module _ (s : Service) (asks_it : asks_server s ≡ true) where
+    -- a service that asks the server, by an environment that bears nobody
+    module _ (s : Service) (asks_it : asks_server s ≡ true) (calm : (stage : Stage) → Own (kind_in (in_service s stage) b.spawning)) where
+      gathering_left : (va wanted : ℕ) (taken : List ℕ) → Ends (bytes_gathered a n b regs s va wanted (λ more. gathering (taken ++ more)))
+      gathering_left va wanted taken =
+          if_left (page_allows (page_at b va) Read) _ _ (put _ (calm (gathering (taken ++ bytes_from a b va (moved_at_once va wanted))))) (freed _)
+
+      asking_left : (request : Request) (server : Server) → LeftIf (request_taken a n b s request server)
+      asking_left request idle =
+          let waiter : Born = record b { phase = in_service s asked } in
+          asks (set_own a waiter same_left (calm asked)) request
+          (ap (λ (slot : AbstractSlot). is_asking slot) (upd-at a.slots n (born waiter)) ∙ asks_it) refl
+      asking_left request _ = record {}
+
+      along_path : (path : ℕ) (taken : List ℕ) (next : List ℕ → Option AbstractState) →
+          ((found : List ℕ) → LeftIf (next found)) → LeftIf (path_step a n b regs s path taken next)
+      along_path path taken next on_next = search (if_some, put, none, gathering_left, on_next)
+
+    module _ (s : Service) (asks_it : asks_server s ≡ true) (nobody : BearsNobody s) where
+      calm : (stage : Stage) → Own (kind_in (in_service s stage) b.spawning)
+      calm stage = nobody stage b.spawning
+
       -- ---- taking what was given, and handing back
 
       gathered_left : (va wanted : ℕ) (taken : List ℕ) → Ends (bytes_gathered a n b regs s va wanted (λ more. gathering (taken ++ more)))
-      gathered_left va wanted taken = search (if_left, put, none, freed)
+      gathered_left va wanted taken = gathering_left s asks_it calm va wanted taken
 
       delivered_left : (va : ℕ) (bytes : List ℕ) (answer : ℕ) → Ends (bytes_delivered a n b regs s va bytes answer)
-      delivered_left va bytes answer = search (if_left, freed, put_left)
+      delivered_left va bytes answer =
+          if_left (page_allows (page_at b va) Write) _ _ (put_left regs s nobody va bytes answer _) (freed _)
 
       handed_left : (x : AbstractState) (va : ℕ) (bytes : List ℕ) (answer : ℕ) → Left x →
           Ends (handed_back x n b regs s va bytes answer)
-      handed_left x va bytes answer h = to_left x regs s va answer bytes (Some b) h
+      handed_left x va bytes answer h = to_left x regs s nobody va answer bytes (Some b) h
 
       -- ---- pipes
 
       over_left : (va pipe wanted : ℕ) (taken : List ℕ) → LeftIf (read_over a n b regs s va pipe wanted taken)
-      over_left va pipe wanted [] = search (if_some, put, none)
-      over_left va pipe wanted (byte ∷ rest) = put _ (none _)
+      over_left va pipe wanted [] = search (if_some, put, none, calm)
+      over_left va pipe wanted (byte ∷ rest) = put _ (calm _)
 
       from_left : (va pipe wanted : ℕ) (taken held : List ℕ) → LeftIf (read_from_pipe a n b regs s va pipe wanted taken held)
       from_left va pipe wanted taken [] = over_left va pipe wanted taken
-      from_left va pipe wanted taken (byte ∷ rest) = search (if_some, put, none, over_left)
+      from_left va pipe wanted taken (byte ∷ rest) = search (if_some, put, none, calm, over_left)
 
       write_pipe_left : (pipe : ℕ) (bytes : List ℕ) (count : ℕ) → LeftIf (write_pipe a n b regs s pipe bytes count)
       write_pipe_left pipe [] count = put _ (none _)
-      write_pipe_left pipe (byte ∷ rest) count = search (if_some, put, none)
+      write_pipe_left pipe (byte ∷ rest) count = search (if_some, put, none, calm)
 
       -- ---- requests
 
-      asks_left : (request : Request) (server : Server) → LeftIf (request_taken a n b s request server)
-      asks_left request idle =
-          let waiter : Born = record b { phase = in_service s asked } in
-          asks (set_own a waiter same_left (none _)) request
-          (ap (λ (slot : AbstractSlot). is_asking slot) (upd-at a.slots n (born waiter)) ∙ asks_it) refl
-      asks_left request _ = record {}
-
       ask_left : (request : Request) → LeftIf (ask a n b s request)
-      ask_left request = asks_left request a.server
+      ask_left request = asking_left s asks_it calm request a.server
 
       after_left : (va : ℕ) (stage : Stage) → LeftIf (after_asking a n b regs s va stage)
       after_left va (delivering at bytes answer) = delivered_left at bytes answer
-      after_left va asked = put _ (none _)
+      after_left va asked = put _ (calm awaiting)
       after_left va (replied [] answer) = put _ (none _)
       after_left va (replied (byte ∷ rest) answer) = delivered_left va (byte ∷ rest) answer
       after_left va _ = record {}
@@ -434,7 +470,7 @@ module _ (a : AbstractState) (n : ℕ) where
 
       path_left : (path : ℕ) (taken : List ℕ) (next : List ℕ → Option AbstractState) →
           ((found : List ℕ) → LeftIf (next found)) → LeftIf (path_step a n b regs s path taken next)
-      path_left path taken next on_next = search (if_some, put, none, gathered_left, on_next)
+      path_left path taken next on_next = along_path s asks_it calm path taken next on_next
 
       open_asked_left : (mode : ℕ) (path : List ℕ) → LeftIf (open_asked a n b regs s mode path)
       open_asked_left mode path = search (if_some, put, none, ask_left)
@@ -465,14 +501,14 @@ module _ (a : AbstractState) (n : ℕ) where
         receiver : Born
         receiver = woken o w b.id value (with_sent o w va b.id (page_at b va))
 
-        born_there : (slot : AbstractSlot) → born_in slot ≡ Some o → kind slot ≡ kind_in o.phase
+        born_there : (slot : AbstractSlot) → born_in slot ≡ Some o → kind slot ≡ kind_in o.phase o.spawning
         born_there (free id) e = absurd (cc)
         born_there (unborn id parent) e = absurd (cc)
         born_there (serving id) e = absurd (cc)
-        born_there (born c) e = ap (λ (x : Born). kind_in x.phase) (same_Some c o e)
+        born_there (born c) e = ap (λ (x : Born). kind_in x.phase x.spawning) (same_Some c o e)
 
-        was : kind (a.slots target) ≡ kind_in at_guest
-        was = born_there (a.slots target) is ∙ waiting_kind o.phase w waits
+        was : kind (a.slots target) ≡ kind_in at_guest None
+        was = born_there (a.slots target) is ∙ waiting_kind o.phase o.spawning w waits
 
         reached : Left (with_born a target receiver)
         reached = record {
@@ -510,8 +546,145 @@ module _ (a : AbstractState) (n : ℕ) where
     fork_left entered is = begun_left a.free_slots refl
     fork_left (bearing child) is =
         bears child (child_of b regs (slot_id (a.slots child))) _
-        (ap (λ (slot : AbstractSlot). borne_by slot) at ∙ ap (λ (phase : Phase). bears_in phase) is) refl refl refl refl refl
+        (ap (λ (slot : AbstractSlot). borne_by slot) at ∙ ap (λ (phase : Phase). bears_in phase b.spawning) is) refl refl refl refl refl
     fork_left _ is = record {}
+
+    -- ---- spawn
+
+    module _ (path argv : ℕ) (stage : Stage) (is : b.phase ≡ in_service (service.Spawn path argv) stage) where
+      abbrev it : Service
+      it = service.Spawn path argv
+
+      -- whom it bears
+      bore : (found : Option Spawning) → b.spawning ≡ found → loads_for found ≡ borne_by (a.slots n)
+      bore found has =
+          ap (λ (o : Option Spawning). loads_for o) (sym has) ∙ ap (λ (phase : Phase). bears_in phase b.spawning) (sym is)
+          ∙ ap (λ (slot : AbstractSlot). borne_by slot) (sym at)
+
+      -- a request by one of whom no other is borne than before
+      asks_on : (c : Born) (request : Request) → Own (kind_in (in_service it asked) c.spawning) → (server : Server) →
+          LeftIf (request_taken a n c it request server)
+      asks_on c request stays idle =
+          let waiter : Born = record c { phase = in_service it asked } in
+          asks (set_own a waiter same_left stays) request
+          (ap (λ (slot : AbstractSlot). is_asking slot) (upd-at a.slots n (born waiter))) refl
+      asks_on c request stays _ = record {}
+
+      ask_on : (c : Born) (request : Request) → Own (kind_in (in_service it asked) c.spawning) → LeftIf (ask a n c it request)
+      ask_on c request stays = asks_on c request stays a.server
+
+      -- ---- what it is given
+
+      given_left : (name : List ℕ) (words : List (List ℕ)) → LeftIf (words_given a n b regs it name words)
+      given_left name words = if_some (not (fits_stack words)) _ _ (put _ (none _)) (ask_on (with_spawning b (opening words)) (act (open_path name 0) None) (none _))
+
+      more_left : (found : Spawning) (va wanted : ℕ) (taken : List ℕ) → loads_for (Some found) ≡ None →
+          LeftIf (more_gathered a n b regs it found va wanted taken)
+      more_left found va wanted taken nobody =
+          if_some (not (in_fence va 1)) _ _ (put _ (none _))
+          (if_left (page_allows (page_at b va) Read) _ _ (put _ (bears_none nobody refl refl)) (freed _))
+
+      string_left : (found : Spawning) (address : ℕ) (taken : List ℕ) → loads_for (Some found) ≡ None →
+          LeftIf (string_gathered a n b regs it found address taken)
+      string_left found address taken nobody =
+          if_some (nat_le PGSIZE (length taken)) _ _ (put _ (none _)) (more_left found _ _ taken nobody)
+
+      next_left : (name left : List ℕ) (words : List (List ℕ)) → LeftIf (next_string a n b regs it name left words)
+      next_left name [] words = given_left name words
+      next_left name (address ∷ left) words = string_left (quoting name (address ∷ left) words) address [] refl
+
+      quoting_left : (name left : List ℕ) (words : List (List ℕ)) (taken : List ℕ) → LeftIf (quoting_step a n b regs it name left words taken)
+      quoting_left name [] words taken = record {}
+      quoting_left name (address ∷ left) words taken =
+          if_some (has_nul taken) _ _ (next_left name left _) (string_left (quoting name (address ∷ left) words) address taken refl)
+
+      address_left : (name addresses taken : List ℕ) → LeftIf (address_gathered a n b regs it argv name addresses taken)
+      address_left name addresses taken = more_left (listing name addresses) _ _ taken refl
+
+      taken_left : (name addresses : List ℕ) (address : ℕ) → LeftIf (address_taken a n b regs it argv name addresses address)
+      taken_left name addresses address =
+          if_some (address == 0) _ _ (next_left name addresses [])
+          (if_some (nat_le ARGS_MAX (length addresses)) _ _ (put _ (none _)) (address_left name _ []))
+
+      listing_left : (name addresses taken : List ℕ) → LeftIf (listing_step a n b regs it argv name addresses taken)
+      listing_left name addresses taken =
+          if_some (nat_lt (length taken) 4) _ _ (address_left name addresses taken) (taken_left name addresses _)
+
+      -- ---- the file
+
+      dropped_left : (fd error : ℕ) → Ends (file_dropped a n b it fd error)
+      dropped_left fd error = put _ (none _)
+
+      opened_left : (fd : ℕ) (words : List (List ℕ)) (f : OpenFile) → LeftIf (file_opened a n b it fd words f)
+      opened_left fd words f = if_some (nat_lt f.size EHDR_LEN) _ _ (dropped_left fd E_NOT_EXEC)
+          (ask_on (with_spawning b (heading fd words)) (act (read_file f.way 0 EHDR_LEN) None) (none _))
+
+      header_left : (fd : ℕ) (words : List (List ℕ)) (header : List ℕ) (f : OpenFile) → LeftIf (header_read a n b it fd words header f)
+      header_left fd words header f =
+          if_some (is_header f header) _ _
+          (ask_on (with_spawning b (tabling fd words header))
+          (act (read_file f.way (table_of (slice_index header)) (table_size header)) None) (none _)) (dropped_left fd E_NOT_EXEC)
+
+      child_left : (fd : ℕ) (image : ImageRead) (slots : List ℕ) → a.free_slots ≡ slots → Ends (child_begun a n b it fd image slots)
+      child_left fd image [] are = dropped_left fd _
+      child_left fd image (child ∷ rest) are = begins child (next_id (slot_id (a.slots child)) child) b.id _ are refl refl refl
+
+      table_left : (fd : ℕ) (image : ImageRead) (f : OpenFile) → Ends (table_read a n b it fd image f)
+      table_left fd image f = if_left (is_table f image) _ _ (child_left fd image a.free_slots refl) (dropped_left fd E_NOT_EXEC)
+
+      module _ (fd : ℕ) (image : ImageRead) (child : ℕ) (pieces : List (List ℕ)) (has : b.spawning ≡ Some (loading fd image child pieces)) where
+        asked_left : (now : List (List ℕ)) (f : OpenFile) (list : List Piece) → LeftIf (piece_asked a n b it fd image child now f list)
+        asked_left now f [] = put _ (bears_still (bore _ has) refl refl)
+        asked_left now f (piece ∷ rest) =
+            ask_on (with_spawning b (loading fd image child now)) (act (read_file f.way piece.at piece.len) None) (bears_still (bore _ has) refl refl)
+
+        read_on : (f : OpenFile) (list : List Piece) (bytes : List ℕ) → LeftIf (piece_read a n b it fd image child pieces f list bytes)
+        read_on f [] bytes = record {}
+        read_on f (piece ∷ rest) bytes =
+            if_some (length bytes == piece.len) _ _ (asked_left _ f rest)
+            (drops child (slot_id (a.slots child)) _ (sym (bore _ has)) refl refl refl refl)
+
+      file_left : (at_stage : Stage) (found : Spawning) → b.spawning ≡ Some found → (o : Option OpenFile) →
+          LeftIf (file_step a n b regs it at_stage found o)
+      file_left (replied bytes answer) (opening words) has (Some f) = opened_left answer words f
+      file_left (replied bytes answer) (heading fd words) has (Some f) = header_left fd words bytes f
+      file_left (replied bytes answer) (tabling fd words header) has (Some f) = table_left fd (record { words = words; header = header; table = bytes }) f
+      file_left (taking taken) (loading fd image child pieces) has (Some f) =
+          asked_left fd image child pieces has pieces f (pieces_left image pieces)
+      file_left (replied bytes answer) (loading fd image child pieces) has (Some f) =
+          read_on fd image child pieces has f (pieces_left image pieces) bytes
+      file_left _ _ has _ = record {}
+
+      reading_left : (at_stage : Stage) (found : Spawning) → b.spawning ≡ Some found → LeftIf (reading_step a n b regs it at_stage found)
+      reading_left at_stage found has = file_left at_stage found has (file_in (object_of a b (descriptor_of found (answer_in at_stage))))
+
+      -- ---- its steps
+
+      going_left : (at_stage : Stage) (found : Spawning) → b.spawning ≡ Some found → LeftIf (spawning_step a n b regs it argv at_stage found)
+      going_left asked found has = put _ (bears_still (bore b.spawning refl) refl refl)
+      going_left (taking taken) (listing name addresses) has = listing_left name addresses taken
+      going_left (taking taken) (quoting name left words) has = quoting_left name left words taken
+      going_left (replied bytes answer) (opening words) has =
+          if_some (is_count answer) _ _ (reading_left (replied bytes answer) (opening words) has) (put _ (none _))
+      going_left (taking taken) (closed image child pieces) has =
+          bears child (spawned b image pieces (slot_id (a.slots child))) _ (sym (bore _ has)) refl refl refl refl refl
+      going_left (taking taken) (dropping fd error) has = dropped_left fd error
+      going_left (taking taken) (refusing error) has = put _ (none _)
+      going_left at_stage found has = reading_left at_stage found has
+
+      begun_path : (taken : List ℕ) → LeftIf (spawn_begun a n b regs it path argv taken)
+      begun_path taken =
+          along_path it refl (λ at_stage. bears_still (bore b.spawning refl) refl refl) path taken _ (λ name. address_left name [] [])
+
+      spawn_left : (found : Option Spawning) → b.spawning ≡ found → LeftIf (spawn_step a n b regs path argv stage found)
+      unfolding spawn_step
+      spawn_left found has = by stage found has
+        where
+          by : (at_stage : Stage) (found : Option Spawning) → b.spawning ≡ found → LeftIf (spawn_at a n b regs path argv at_stage found)
+          by entered found has = begun_path []
+          by (gathering taken) found has = begun_path taken
+          by _ None has = record {}
+          by at_stage (Some found) has = going_left at_stage found has
 
     -- ---- any service
 
@@ -527,36 +700,42 @@ module _ (a : AbstractState) (n : ℕ) where
     call_left (service.PageDrop va) stage is = once_left stage _ (page_drop_left va)
     call_left (service.Send id value va) stage is = only_left stage _ (send_left id value va)
     call_left (service.Receive va from) stage is = receive_step_left va from stage
-    call_left (service.OpenFile path mode) stage is = open_left (service.OpenFile path mode) refl path mode stage
+    call_left (service.OpenFile path mode) stage is = open_left (service.OpenFile path mode) refl (λ stage found. bears_none refl refl refl) path mode stage
     call_left (service.Close fd) stage is = once_left stage _ (close_left fd)
-    call_left (service.Read fd va len) stage is = read_left (service.Read fd va len) refl fd va len stage
-    call_left (service.Write fd va len) stage is = write_left (service.Write fd va len) refl fd va len stage
-    call_left (service.Seek fd offset) stage is = seek_left (service.Seek fd offset) refl fd offset stage
-    call_left (service.Stat fd va) stage is = stat_left (service.Stat fd va) refl fd va stage
-    call_left (service.SetSize fd size) stage is = set_size_left (service.SetSize fd size) refl fd size stage
-    call_left (service.Remove path) stage is = remove_left (service.Remove path) refl path stage
-    call_left service.Sync stage is = sync_left service.Sync refl stage
+    call_left (service.Read fd va len) stage is = read_left (service.Read fd va len) refl (λ stage found. bears_none refl refl refl) fd va len stage
+    call_left (service.Write fd va len) stage is = write_left (service.Write fd va len) refl (λ stage found. bears_none refl refl refl) fd va len stage
+    call_left (service.Seek fd offset) stage is = seek_left (service.Seek fd offset) refl (λ stage found. bears_none refl refl refl) fd offset stage
+    call_left (service.Stat fd va) stage is = stat_left (service.Stat fd va) refl (λ stage found. bears_none refl refl refl) fd va stage
+    call_left (service.SetSize fd size) stage is = set_size_left (service.SetSize fd size) refl (λ stage found. bears_none refl refl refl) fd size stage
+    call_left (service.Remove path) stage is = remove_left (service.Remove path) refl (λ stage found. bears_none refl refl refl) path stage
+    call_left service.Sync stage is = sync_left service.Sync refl (λ stage found. bears_none refl refl refl) stage
     call_left (service.Dup old new) stage is = once_left stage _ (dup_left old new)
     call_left service.Pipe stage is = once_left stage _ (pipe_left (lowest_free b) (next_free b (lowest_free b)))
-    call_left (service.Spawn path argv) stage is = record {}
+    call_left (service.Spawn path argv) stage is = spawn_left path argv stage is b.spawning refl
     call_left service.Unknown stage is = once_left stage _ (put _ (none _))
 
   -- ---- an instruction
 
   -- what comes of an instruction, after its writes
-  event_left : (x : AbstractState) (b : Born) (ip : ℕ) (regs : Regs) (event : Event) → Left x → Own (kind_in b.phase) →
+  event_left : (x : AbstractState) (b : Born) (ip : ℕ) (regs : Regs) (event : Event) → Left x → Own (kind_in b.phase b.spawning) →
       Ends (after_event x n b ip regs event)
   event_left x b ip regs event h itself = by event
     where
-      in_it : (c : Born) → Own (kind_in c.phase) → Ends (with_born x n c)
+      in_it : (c : Born) → Own (kind_in c.phase c.spawning) → Ends (with_born x n c)
       in_it c kept = put_in x c h kept
 
       out : (id : ℕ) → Done (upd x.slots n (free id)) (n ∷ x.free_slots) x.server
       out id = freed_in x id h
 
+      -- who enters a service bears nobody
+      entering : (call : Service) → Own (kind_in (in_service call entered) None)
+      entering service.Fork = none false
+      entering (service.Spawn path argv) = none false
+      entering _ = none false
+
       by : (e : Event) → Ends (after_event x n b ip regs e)
       by Next = search (if_left, in_it, itself, out)
-      by (Soft vector) = search (if_left, in_it, none, out)
+      by (Soft vector) = if_left (vector == T_SERVICE) _ _ (in_it _ (entering (service_of regs))) (out _)
       by (Raised trap error va) = search (if_left, in_it, none, out)
 
   writes_left : (x : AbstractState) (ip : ℕ) (regs : Regs) (event : Event) (o : Option Born) → Left x → OwnIn o →

@@ -27,7 +27,7 @@ use Rattle.lib_os.specs.Places.{place_of}
 use Rattle.lib_os.specs.Rows.{EntryRow, IsUsers, Names, is_cow, rows_of}
 use Rattle.lib_os.specs.StandsFor.{StandsFor, view_of}
 use Rattle.lib_os.specs.StandsInHandler.{HasNoEnd, IsStoppedAt, is_refused_by, marked, may_follow, reading, stage_with, telling, wanted_from, writing}
-use Rattle.lib_os.specs.StandsInHandler.{buffer_of, handing, hands_back, following, takes_path}
+use Rattle.lib_os.specs.StandsInHandler.{buffer_of, handing, hands_back, following, listed, quoted, takes_path}
 use Rattle.lib_os.proofs.BytesRead.{user_allows, user_lost, users_inside}
 use Rattle.lib_os.proofs.DescriptorLooks.{seen_calm}
 use Rattle.lib_os.proofs.DeviceLooks.{IsWritten, begins_written}
@@ -37,6 +37,7 @@ use Rattle.lib_os.proofs.Logical.{inside_programs, is_plain, plain_unborne}
 use Rattle.lib_os.proofs.Paths.{next_asked, path_gathers, path_stepped}
 use Rattle.lib_os.proofs.PipesStand.{calm_unmade, is_calm}
 use Rattle.lib_os.proofs.Serving.{service_step}
+use Rattle.lib_os.proofs.SpawnStops.{list_ends, quote_ends}
 
 -- ---- an access that a page refuses
 
@@ -177,3 +178,11 @@ module _ {names : Names} {s : KernelState} {a : AbstractState} (h : StandsFor na
       service_step a n b (record regs { eax = eax }) call (stage_with bytes) at program wants.phase awake
       ∙ path_stops a n b (record regs { eax = eax }) va call wants.takes bytes wants.no_end wants.follows there
       (ap (λ (w : Bool). page_allows (page_at b va) (access_of w)) (sym reads) ∙ page_refuses h n b at write va inside refused)
+  stopped_step plain calm write va regs eax program awake inside refused (listed path argv name addresses taken stage reads phase so are few fewer there) =
+      service_step a n b (record regs { eax = eax }) (service.Spawn path argv) stage at program phase awake
+      ∙ list_ends a n b (record regs { eax = eax }) path argv va inside
+      (ap (λ (w : Bool). page_allows (page_at b va) (access_of w)) (sym reads) ∙ page_refuses h n b at write va inside refused) so are few there
+  stopped_step plain calm write va regs eax program awake inside refused (quoted path argv address name left taken words stage reads phase so fewer there) =
+      service_step a n b (record regs { eax = eax }) (service.Spawn path argv) stage at program phase awake
+      ∙ quote_ends a n b (record regs { eax = eax }) path argv va inside
+      (ap (λ (w : Bool). page_allows (page_at b va) (access_of w)) (sym reads) ∙ page_refuses h n b at write va inside refused) so fewer there

@@ -36,7 +36,7 @@ use Rattle.lib_os.proofs.PipesStand.{is_calm}
 use Rattle.lib_os.proofs.Placing.{inserted_given}
 use Rattle.lib_os.proofs.Sending.{IsSomeone, is_born, is_unborn, no_step_unborn, no_step_yet}
 use Rattle.lib_os.proofs.Sending.{nobody_is_there, named_is, named_other, may_wait_yet, step_to_taken, answered_stands, word_sent, page_sent}
-use Rattle.lib_os.proofs.Serving.{holds_page}
+use Rattle.lib_os.proofs.Serving.{holds_page, kept_where}
 use Rattle.lib_os.proofs.Sends as sends
 use Rattle.lib_os.proofs.Sends.{with_message}
 use Rattle.lib_os.proofs.SlotsStand.{born_at, born_live, is_piped, live_stands, ids_stand}
@@ -84,7 +84,7 @@ module _ {names : Names} {s : KernelState} {a : AbstractState} (h : StandsFor na
     (id value va perm : ℕ) (rest : List ℕ)
     (trying : IsTrying (rows_of s.spaces (slot_at s n).directory) (slot_at s n) b id value va perm) (small : value < 2 ^ 32)
     (outside : is_handlers (slot_at s n).registers.esp ≡ false) (unborne : borne_in (place_of (slot_at s n)) ≡ None)
-    (holds : holds_page (place_of (slot_at s n)) ≡ false) (calm : is_calm (place_of (slot_at s n)) ≡ true)
+    (holds : holds_page (place_of (slot_at s n)) ≡ kept_where false) (calm : is_calm (place_of (slot_at s n)) ≡ true)
     (off : is_piped (place_of (slot_at s n)) ≡ false) (last : s.last ≡ Some n) (mid : KernelState) (word : ℕ) where
   abbrev t : ℕ
   t = id % NENV

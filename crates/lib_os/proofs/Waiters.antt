@@ -22,6 +22,7 @@ use Rattle.lib_os.specs.declared.place.Step.{Step}
 use Rattle.lib_os.specs.declared.place.Step.TheVariants as step
 use Rattle.lib_os.specs.declared.service.Service.{Service}
 use Rattle.lib_os.specs.declared.service.Service.TheVariants as service
+use Rattle.lib_os.specs.declared.spawn_steps.SpawnStep.{SpawnStep}
 use Rattle.lib_os.specs.AbstractState.{AbstractState, Born, born, Phase, Stage, awaiting, entered, gathering}
 use Rattle.lib_os.specs.AbstractMessages.{Receiver, waiting_at, waiting_in, takes, sent, sent_to_waiting}
 use Rattle.lib_os.specs.Fence.{in_fence, is_page_inside}
@@ -33,14 +34,16 @@ use Rattle.lib_os.specs.InService.{IsIn}
 use Rattle.lib_os.specs.StandsAtPipe.{HasMoved, StandsAtPipe, StandsMoving, StandsOnPipe}
 use Rattle.lib_os.specs.StandsFor.{AwaitsOrHasBytes, IsCounting, awaits_bytes, has_bytes}
 use Rattle.lib_os.specs.StandsInHandler.{HandsAt, HasBytes, behind, by_reply, handing, hands_back, in_handing}
+use Rattle.lib_os.specs.StandsAtSpawn.{IsAwaitingReply, destination_at}
 use Rattle.lib_os.specs.StandsFor.{StandsFor, StandsAt, StandsAtStep, view_of, IsReceiving, HasReceived, IsBearing}
 use Rattle.lib_os.specs.StandsFor.{AwaitsFileOrHas, AwaitsOrHas, HasWholePath, awaits, awaits_file, has_opened, has_reply}
 use Rattle.lib_os.specs.StandsFor.{WaitsOrHas, waits, has, destination_of, StandsAtDevice, StandsBefore, IsTaking, descriptor_given}
 use Rattle.lib_os.specs.StandsInHandler.{CopiesOrEnds, copies, ends, StandsDelivering, StandsBeneath, at_program, in_delivery}
 use Rattle.lib_os.specs.StandsFor.{AsksOfFile, IsGatheringPath, IsTakingPath}
-use Rattle.lib_os.specs.StandsInHandler.{IsStoppedAt, marked, may_follow, reading, telling, writing, following, stage_with}
+use Rattle.lib_os.specs.StandsInHandler.{IsStoppedAt, listed, marked, may_follow, quoted, reading, telling, writing, following, stage_with}
 use Rattle.lib_os.proofs.Logical.{page_inside_programs}
 use Rattle.lib_os.proofs.SlotsStand.{born_at, born_live}
+use Rattle.lib_os.proofs.SpawnWaits.{SpawnCalls, SpawnAwaits, asked_so, expects_file, expects_part, expects_reply, has_asked, spawn_calls, unasked}
 use Rattle.lib_os.proofs.StatesStand.{born_not_first}
 
 -- ---- at each place
@@ -127,6 +130,7 @@ before_byte so v (service.Stat fd va) done word h = delivers (service.Stat fd va
 before_byte so v (service.Write fd va len) done word h = takes_bytes fd va len word done h.0
 before_byte so v (service.Remove path) done word h = takes_path (service.Remove path) done h.0
 before_byte so v (service.OpenFile path mode) done word h = takes_path (service.OpenFile path mode) done h.0
+before_byte so v (service.Spawn path argv) done word h = takes_path (service.Spawn path argv) done h.0
 before_byte so v _ done word h = absurd h
 
 -- it is about to ask of a file
@@ -464,6 +468,38 @@ at_step v k c (service.Dup old new) (step.DescriptorEntry at) h = inl (in_silenc
 at_step v k c (service.Dup old new) step.TargetEntry h = inl (in_silence _ h.0)
 at_step v k c (service.Dup old new) (step.DroppingDescriptor at) h = inl (in_silence _ h.0)
 at_step v k c (service.Dup old new) step.MappingDescriptor h = inl (in_silence _ h.0)
+at_step v k c (service.Spawn path argv) step.TakingPage h = inl (in_silence _ h.0)
+at_step v k c (service.Spawn path argv) (step.Gathering done) h = inl (gathers_bytes v (may_follow path done) (service.Spawn path argv) done h)
+at_step v k c (service.Spawn path argv) (step.Keeping done word left) h =
+    inl (record { deaf = quiet h.is_in.silent; nowhere = ap (λ (p : Phase). waiting_in p) h.is_in.phase })
+at_step v k c (service.Spawn path argv) (step.Spawning at) h = inl (by_calls (spawn_calls v k c path argv at h))
+  where
+    by_expected : {at : SpawnStep} → SpawnAwaits v k c path argv at → WaitsNot k c
+    by_expected (expects_file esp fd id self so) = by_free (nat_lt fd DESCRIPTORS) refl
+      where
+        waits_so : IsAwaitingReply k c path argv (destination_at fd)
+        waits_so = so.awaiting_it
+
+        by_free : (t : Bool) → nat_lt fd DESCRIPTORS ≡ t → WaitsNot k c
+        by_free true below = record {
+          deaf = for_file waits_so.receives waits_so.wanted fd (grind (arith, nat_tests, below))
+              (waits_so.destination_is ∙ ap (λ (t : Bool). if t then FDTABLE + PGSIZE * fd else UTOP) below);
+          nowhere = ap (λ (p : Phase). waiting_in p) waits_so.phase;
+        }
+        by_free false none = record {
+          deaf = for_server waits_so.receives waits_so.wanted (waits_so.destination_is ∙ ap (λ (t : Bool). if t then FDTABLE + PGSIZE * fd else UTOP) none);
+          nowhere = ap (λ (p : Phase). waiting_in p) waits_so.phase;
+        }
+    by_expected (expects_part wanted id self so) = record {
+      deaf = for_server so.awaiting_it.receives so.awaiting_it.wanted so.awaiting_it.destination_is;
+      nowhere = ap (λ (p : Phase). waiting_in p) so.awaiting_it.phase;
+    }
+
+    by_calls : SpawnCalls v k c path argv at → WaitsNot k c
+    by_calls (unasked so) = record { deaf = quiet so.is_in.silent; nowhere = ap (λ (p : Phase). waiting_in p) so.is_in.phase }
+    by_calls (has_asked so) =
+        record { deaf = quiet (asked_so so).silent; nowhere = ap (λ (p : Phase). waiting_in p) (asked_so so).phase }
+    by_calls (expects_reply so) = by_expected so
 at_step v k c _ _ h = absurd h
 
 -- its page is copied, or it is on the way to its end
@@ -484,6 +520,8 @@ stopped_nowhere (handing s bytes answer writes hands phase some there) = ap (λ 
     by_service _ hands = absurd (let contradiction : false ≡ true = hands in cc)
 stopped_nowhere (writing fd buffer len start bytes reads wants there) = ap (λ (p : Phase). waiting_in p) wants.phase
 stopped_nowhere (following s bytes reads wants there) = ap (λ (p : Phase). waiting_in p) wants.phase ∙ staged_only s bytes
+stopped_nowhere (listed path argv name addresses taken stage reads phase so are few fewer there) = ap (λ (p : Phase). waiting_in p) phase
+stopped_nowhere (quoted path argv address name left taken words stage reads phase so fewer there) = ap (λ (p : Phase). waiting_in p) phase
 
 in_handler : (stands : HandlerStep) (v : View) {k : Slot} {c : Born} (fault : PageFault) (regs : Regs) →
     CopiesOrEnds stands v k c fault regs → WaitsNot k c

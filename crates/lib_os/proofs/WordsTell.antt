@@ -14,6 +14,7 @@ use Rattle.lib_os.specs.declared.service.Service.{Service}
 use Rattle.lib_os.specs.Places.{place_in_words, pipe_step_in, end_step_in, pipe_words_at, step_in, words_at, is_handlers, handler_step_in, handler_registers, service_word}
 use Rattle.lib_os.specs.Services.{service_of}
 use Rattle.lib_os.specs.StandingLaws.{IsHandlerStep}
+use Rattle.lib_os.proofs.SpawnTells.{spawn_number, spawn_back}
 
 pub place_at : (regs : Regs) (number : ℕ) (at : Step) → is_handlers regs.esp ≡ false →
     place_in_words regs (words_at number at) ≡ place.InService (service_of (record regs { eax = number })) at
@@ -133,6 +134,7 @@ place_at regs number at outside =
     by_step (step.Piped pipe.StatFrom) some back = rw (outside, some, back) refl
     by_step (step.Piped (pipe.StatTo from)) some back = rw (outside, some, back) refl
     by_step (step.Piped (pipe.StatUnlocking held)) some back = rw (outside, some, back) refl
+    by_step (step.Spawning at) some back = rw (outside, spawn_number number at, some, back, spawn_back number at) refl
 
 -- ---- the handler's registers
 

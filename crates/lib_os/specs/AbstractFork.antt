@@ -1,6 +1,6 @@
 -- Fork: one step takes a slot for the child, and a later one makes it a copy of its parent, all at once.
 -- (MIT 6.828, lab 4 and lib/fork.c, as what comes of it.)
-use Rattle.std.specs.Prelude.{ℕ, false, List, [], ◌∷◌}
+use Rattle.std.specs.Prelude.{ℕ, false, List, [], ◌∷◌, None}
 use Rattle.jos_base.specs.declared.registers.Regs.{Regs}
 use Rattle.jos_base.specs.declared.numbers.TheConstants.{E_NO_FREE_ENV}
 use Rattle.jos_base.specs.Environments.{next_id}
@@ -29,6 +29,7 @@ child_of b regs id = record b {
   program = guest (record regs { eax = 0 });
   regions = has_page_in b.memory;
   phase = at_guest;
+  spawning = None;
   blocked = false;
 }
 

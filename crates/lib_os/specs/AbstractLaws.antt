@@ -12,6 +12,7 @@ use Rattle.lib_os.specs.declared.service.Service.{Service}
 use Rattle.lib_os.specs.declared.service.Service.TheVariants as service
 use Rattle.lib_os.specs.AbstractState.{AbstractState, Born, AbstractSlot, free, unborn, born, own, named, slot_id, Object, file}
 use Rattle.lib_os.specs.AbstractState.{Phase, in_service, bearing, asked, awaiting, Request, Server, idle, looking, busy, acted}
+use Rattle.lib_os.specs.AbstractState.{Spawning, loading, closed}
 use Rattle.lib_os.specs.AbstractMemory.{page_at, stored}
 use Rattle.lib_os.specs.GuestStep.{guest_memory}
 use Rattle.lib_os.specs.AbstractFork.{child_of, bear}
@@ -47,11 +48,11 @@ PipesAreBounded = (a : AbstractState) (n : ℕ) (b : Born) (regs : Regs) (servic
 abbrev pub GuestMemoryIsLawful : Type 0
 GuestMemoryIsLawful = IsLawful guest_memory
 
--- The services whose steps change another slot: a message wakes its receiver, and a fork makes a child. (Spawn's steps
--- are not told here.)
+-- The services whose steps change another slot: a message wakes its receiver, and fork and spawn make a child.
 abbrev pub is_for_others : Service → Bool
 is_for_others (service.Send id value va) = true
 is_for_others service.Fork = true
+is_for_others (service.Spawn path argv) = true
 is_for_others _ = false
 
 -- an environment is within such a service
@@ -59,7 +60,7 @@ abbrev pub is_about_others : Phase → Bool
 is_about_others (in_service service stage) = is_for_others service
 is_about_others _ = false
 
--- A step of an environment leaves every other slot as it was, where it sends no message and forks no child.
+-- A step of an environment leaves every other slot as it was, where it sends no message and makes no child.
 abbrev pub StepsLeaveOthers : Type 0
 StepsLeaveOthers = (a : AbstractState) (n m : ℕ) (b : Born) →
     m ≢ n → a.slots n ≡ born b → is_about_others b.phase ≡ false →
@@ -116,6 +117,7 @@ asks_server (service.Stat fd va) = true
 asks_server (service.SetSize fd size) = true
 asks_server (service.Remove path) = true
 asks_server service.Sync = true
+asks_server (service.Spawn path argv) = true
 asks_server _ = false
 
 -- it has asked the server, and has no reply yet
@@ -128,13 +130,20 @@ abbrev pub is_asking : AbstractSlot → Bool
 is_asking (born b) = has_asked b.phase
 is_asking _ = false
 
+-- the slot of the child for which spawn reads a file
+abbrev pub loads_for : Option Spawning → Option ℕ
+loads_for (Some (loading fd image child pieces)) = Some child
+loads_for (Some (closed image child pieces)) = Some child
+loads_for _ = None
+
 -- the slot of the child that is borne
-abbrev pub bears_in : Phase → Option ℕ
-bears_in (in_service service (bearing child)) = Some child
-bears_in _ = None
+abbrev pub bears_in : Phase → Option Spawning → Option ℕ
+bears_in (in_service service.Fork (bearing child)) spawning = Some child
+bears_in (in_service (service.Spawn path argv) stage) spawning = loads_for spawning
+bears_in _ spawning = None
 
 abbrev pub borne_by : AbstractSlot → Option ℕ
-borne_by (born b) = bears_in b.phase
+borne_by (born b) = bears_in b.phase b.spawning
 borne_by _ = None
 
 abbrev pub is_vacant : AbstractSlot → Bool
@@ -155,7 +164,7 @@ abbrev pub AreVacant : (ℕ → AbstractSlot) → List ℕ → Type 0
 AreVacant slots [] = ⊤
 AreVacant slots (n ∷ rest) = (is_vacant (slots n) ≡ true) × IsNoneOf n rest × AreVacant slots rest
 
--- Fork takes no slot in which somebody is: those that are free are vacant, and a child that is borne is not born, and has
+-- Fork and spawn take no slot in which somebody is: those that are free are vacant, and a child that is borne is not born, and has
 -- one parent.
 pub record AreGivenApart (slots : ℕ → AbstractSlot) (free_slots : List ℕ) : Type 0 where
   pub vacant : AreVacant slots free_slots

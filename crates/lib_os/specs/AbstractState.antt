@@ -83,6 +83,8 @@ pub data Stage : Type 0 where
   replied : List ℕ → ℕ → Stage
   -- a pipe: the bytes that are taken from it, or still to be put, and how many that were
   moving : List ℕ → ℕ → Stage
+  -- spawn, behind its path: so many bytes of an address or of a string are taken; none is where nothing is asked and nothing has come
+  taking : List ℕ → Stage
 
 pub data Phase : Type 0 where
   -- at its next instruction
@@ -90,6 +92,32 @@ pub data Phase : Type 0 where
   -- after a page fault at this address by the instruction at that one; its next step ends it
   faulted : ℕ → ℕ → Phase
   in_service : Service → Stage → Phase
+
+-- What spawn has of the program that it starts: the words that this is given, and of its file the bytes of the ELF header and those of the
+-- table of program headers.
+pub record ImageRead : Type 0 where
+  pub words : List (List ℕ)
+  pub header : List ℕ
+  pub table : List ℕ
+
+-- What spawn has found out, beside how far it is with the bytes and the reply that it takes.
+pub data Spawning : Type 0 where
+  -- the path, and the addresses of words
+  listing : List ℕ → List ℕ → Spawning
+  -- the path, the addresses of the words that are still to be taken, and the words that are
+  quoting : List ℕ → List ℕ → List (List ℕ) → Spawning
+  -- the file is asked for, for a program with these words
+  opening : List (List ℕ) → Spawning
+  -- with its descriptor, the header and the table are asked for
+  heading : ℕ → List (List ℕ) → Spawning
+  tabling : ℕ → List (List ℕ) → List ℕ → Spawning
+  -- the child is made, in this slot, and so many pieces of the file are read
+  loading : ℕ → ImageRead → ℕ → List (List ℕ) → Spawning
+  -- the descriptor is dropped, and the child may be born
+  closed : ImageRead → ℕ → List (List ℕ) → Spawning
+  -- it is refused for this error: the descriptor is still to be dropped, or it is
+  dropping : ℕ → ℕ → Spawning
+  refusing : ℕ → Spawning
 
 -- ---- slots
 
@@ -104,6 +132,8 @@ pub record Born : Type 0 where
   -- the name of the object of each descriptor that is open
   pub descriptors : ℕ → Option ℕ
   pub phase : Phase
+  -- in spawn, behind its path
+  pub spawning : Option Spawning
   -- it has no turn before another environment's step
   pub blocked : Bool
 

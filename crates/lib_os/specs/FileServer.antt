@@ -113,10 +113,11 @@ act_done a client (seek name offset) place = with_offset (record a { server = ac
 
 -- ---- the reply
 
--- What is opened gets the lowest free descriptor, which is the answer.
+-- What is opened gets the lowest free descriptor, which is the answer; where none is free, that is told.
 abbrev pub given : Born → Option ℕ → Option ℕ → ℕ → Born × ℕ
 given b (Some name) (Some fd) answer = (with_descriptor b fd (Some name), fd)
-given b _ _ answer = (b, answer)
+given b (Some name) None answer = (b, negated E_MAX_OPEN)
+given b None _ answer = (b, answer)
 
 abbrev pub reply_to : AbstractState → ℕ → Service → List ℕ → Born × ℕ → AbstractState
 reply_to a client service bytes to =

@@ -77,7 +77,8 @@ goes_on a n b ip regs =
 
 -- INT 0x40 is the first step of a service.
 abbrev pub service_entered : AbstractState → ℕ → Born → Regs → AbstractState
-service_entered a n b regs = with_born a n (record b { program = guest regs; phase = in_service (service_of regs) entered })
+service_entered a n b regs =
+    with_born a n (record b { program = guest regs; phase = in_service (service_of regs) entered; spawning = None })
 
 -- A page fault marks the environment, and its next step ends it; any other trap ends it at once.
 abbrev pub trapped : AbstractState → ℕ → Born → ℕ → ℕ → ℕ → ℕ → AbstractState

@@ -12,6 +12,7 @@ use Rattle.lib_os.specs.AbstractMessages.{receive, received_answer, send}
 use Rattle.lib_os.specs.AbstractFork.{fork, bear}
 use Rattle.lib_os.specs.Descriptors.{close, dup, pipe, exit}
 use Rattle.lib_os.specs.FileServices.{open_step, read_step, write_step, seek_step, stat_step, set_size_step, remove_step, sync_step}
+use Rattle.lib_os.specs.AbstractSpawn.{spawn_step}
 
 -- a service that is one step
 abbrev pub at_once : Stage → AbstractState → Option AbstractState
@@ -33,7 +34,6 @@ receive_step a n b regs va from (received message) = Some (received_answer a n b
 receive_step a n b regs va from _ = None
 
 -- The next step of a service at a stage; None where there is none yet, since it waits for another environment.
--- Spawn's steps are told elsewhere, with what an image is.
 unfoldable pub library_step : AbstractState → ℕ → Born → Regs → Service → Stage → Option AbstractState
 library_step a n b regs service.Exit stage = Some (exit a n b)
 library_step a n b regs (service.Cputs va len) stage = at_once stage (cputs a n b regs va len)
@@ -56,5 +56,5 @@ library_step a n b regs (service.Remove path) stage = remove_step a n b regs (se
 library_step a n b regs service.Sync stage = sync_step a n b regs service.Sync stage
 library_step a n b regs (service.Dup old new) stage = at_once stage (dup a n b regs old new)
 library_step a n b regs service.Pipe stage = at_once stage (pipe a n b regs)
-library_step a n b regs (service.Spawn path argv) stage = None
+library_step a n b regs (service.Spawn path argv) stage = spawn_step a n b regs path argv stage b.spawning
 library_step a n b regs service.Unknown stage = at_once stage (refused a n b regs E_INVAL)

@@ -11,7 +11,7 @@ use Rattle.jos_base.specs.SystemCalls.{has_write}
 use Rattle.jos_base.specs.TrapFrames.{frame_bytes, frame_size}
 use Rattle.jos_base.specs.Words.{page_number}
 use Rattle.lib_os.specs.declared.numbers.TheConstants.{PFTEMP, SERVICE_READ, SERVICE_REMOVE, SERVICE_SEEK, SERVICE_SET_SIZE, SERVICE_STAT}
-use Rattle.lib_os.specs.declared.numbers.TheConstants.{SERVICE_WRITE, UXSTACK, SERVICE_OPEN_FILE}
+use Rattle.lib_os.specs.declared.numbers.TheConstants.{SERVICE_WRITE, UXSTACK, SERVICE_OPEN_FILE, SERVICE_SPAWN}
 use Rattle.lib_os.specs.declared.place.HandlerStep.TheVariants as handler
 use Rattle.lib_os.specs.declared.place.Place.{Place}
 use Rattle.lib_os.specs.declared.place.Place.TheVariants as place
@@ -21,6 +21,8 @@ use Rattle.lib_os.specs.declared.place.Step.{Step}
 use Rattle.lib_os.specs.declared.place.Step.TheVariants as step
 use Rattle.lib_os.specs.declared.service.Service.TheVariants as service
 use Rattle.lib_os.specs.Places.{service_word, step_in}
+use Rattle.lib_os.specs.Services.{is_built}
+use Rattle.lib_os.specs.SpawnPages.{keeps_page_at, keeps_request_page}
 use Rattle.lib_os.specs.Rows.{EntryRow, descriptor_perm, is_of_descriptor, is_programs, is_shared}
 
 -- ---- regions
@@ -153,15 +155,30 @@ keeps_request (step.Returning answer) = true
 keeps_request (step.Piped at) = keeps_moved at
 keeps_request _ = false
 
+-- spawn has its path there, then each of its requests with what that brings, and the record of its child's registers
+abbrev pub keeps_spawning : Step → Bool
+keeps_spawning (step.BufferRegion done word) = true
+keeps_spawning (step.BufferEntry done word) = true
+keeps_spawning (step.Gathering done) = true
+keeps_spawning (step.Keeping done word left) = true
+keeps_spawning (step.Faulting done word) = true
+keeps_spawning (step.Spawning at) = keeps_request_page at
+keeps_spawning _ = false
+
 -- these services, by their numbers
 abbrev pub asks_of_files : ℕ → Bool
 asks_of_files number = (number == SERVICE_SEEK) || (number == SERVICE_SET_SIZE) || (number == SERVICE_READ) || (number == SERVICE_STAT)
+
+-- the words are kept for spawn, where that is built
+abbrev pub are_spawns : List ℕ → Bool
+are_spawns words = is_built SERVICE_SPAWN && (service_word words == SERVICE_SPAWN + 1)
 
 -- the same by the words that are kept for the service, as beneath the handler of page faults
 abbrev pub keeps_page_beneath : List ℕ → Bool
 keeps_page_beneath words =
     if service_word words == SERVICE_WRITE + 1 then keeps_page (step_in words)
     else if (service_word words == SERVICE_REMOVE + 1) || (service_word words == SERVICE_OPEN_FILE + 1) then keeps_path (step_in words)
+    else if are_spawns words then keeps_spawning (step_in words)
     else asks_of_files (service_word words - 1) && keeps_request (step_in words)
 
 -- there is such a page
@@ -169,6 +186,7 @@ abbrev pub has_working : Place → List ℕ → Bool
 has_working (place.InService (service.Write fd va len) at) words = keeps_page at
 has_working (place.InService (service.Remove path) at) words = keeps_path at
 has_working (place.InService (service.OpenFile path mode) at) words = keeps_path at
+has_working (place.InService (service.Spawn path argv) at) words = keeps_spawning at
 has_working (place.InService (service.Seek fd offset) at) words = keeps_request at
 has_working (place.InService (service.SetSize fd size) at) words = keeps_request at
 has_working (place.InService (service.Read fd va len) at) words = keeps_request at
@@ -176,8 +194,22 @@ has_working (place.InService (service.Stat fd va) at) words = keeps_request at
 has_working (place.InHandler at) words = keeps_page_beneath words
 has_working _ words = false
 
+-- spawn has others, at a step
+abbrev pub spawn_keeps : Step → ℕ → Bool
+spawn_keeps (step.Spawning at) p = keeps_page_at at p
+spawn_keeps _ p = false
+
+abbrev pub keeps_beneath : List ℕ → ℕ → Bool
+keeps_beneath words p = are_spawns words && spawn_keeps (step_in words) p
+
+-- there is such a page, with this number
+abbrev pub has_spawns : Place → List ℕ → ℕ → Bool
+has_spawns (place.InService (service.Spawn path argv) at) words p = spawn_keeps at p
+has_spawns (place.InHandler at) words p = keeps_beneath words p
+has_spawns _ words p = false
+
 -- Beside the pages that a program may have there are those of its descriptors, the stack of the handler of page faults, while that
--- copies, the copy, and the page in which a service keeps what it moves.
+-- copies, the copy, the page in which a service keeps what it moves, and those that spawn keeps beside that.
 pub record LibraryPages (at : Place) (words : List ℕ) (row : EntryRow) : Type 0 where
   pub stack : IsOwnWritable row (page_number UXSTACK)
   pub copy : has_copy at ≡ true → IsOwnWritable row (page_number PFTEMP)
@@ -185,8 +217,9 @@ pub record LibraryPages (at : Place) (words : List ℕ) (row : EntryRow) : Type 
   pub descriptors : (p : ℕ) (entry : Entry) → is_of_descriptor p ≡ true → row p ≡ Some entry → entry.perm ≡ descriptor_perm
   pub working : has_working at words ≡ true → IsOwnWritable row (page_number UTEMP)
   pub no_working : has_working at words ≡ false → row (page_number UTEMP) ≡ None
+  pub spawns : (p : ℕ) → has_spawns at words p ≡ true → IsOwnWritable row p
   pub none : (p : ℕ) → is_programs p ≡ false → is_of_descriptor p ≡ false → p ≢ page_number UXSTACK → p ≢ page_number PFTEMP →
-      p ≢ page_number UTEMP → row p ≡ None
+      p ≢ page_number UTEMP → has_spawns at words p ≡ false → row p ≡ None
 
 -- The page at UTEMP has the first n of these bytes.
 pub record HasTaken (v : View) (bytes : List ℕ) (n : ℕ) : Type 0 where

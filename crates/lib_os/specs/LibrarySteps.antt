@@ -5,7 +5,7 @@ use Rattle.std.specs.Prelude.{◌≡◌, ◌≢◌, ◌<◌, ◌≤◌, ◌⊎�
 use Rattle.std.specs.Prelude.{Option, Some, None, Result, Ok, Err}
 use Rattle.jos_host.specs.declared.host.Failed.{Failed}
 use Rattle.jos_host.specs.Frames.{Around}
-use Rattle.jos_base.specs.declared.numbers.TheConstants.{NPTENTRIES, PTE_P, PTE_U, PTE_W, SYS_EXOFORK}
+use Rattle.jos_base.specs.declared.numbers.TheConstants.{NPTENTRIES, PTE_P, PTE_U, PTE_W, SYS_EXOFORK, TRAPFRAME_WORDS}
 use Rattle.jos_base.specs.declared.numbers.TheConstants.{SYS_IPC_TRY_SEND, SYS_PAGE_ALLOC, SYS_PAGE_MAP, UTEMP}
 use Rattle.jos_base.specs.Counting.{page_limit}
 use Rattle.jos_base.specs.declared.environment.Status.TheVariants.{Runnable}
@@ -33,6 +33,24 @@ use Rattle.lib_os.specs.declared.place.Step.{Step}
 use Rattle.lib_os.specs.declared.place.Step.TheVariants as step
 use Rattle.lib_os.specs.declared.service.Service.{Service}
 use Rattle.lib_os.specs.declared.service.Service.TheVariants as service
+use Rattle.lib_os.specs.declared.spawn_steps.BearingStep.{BearingStep}
+use Rattle.lib_os.specs.declared.spawn_steps.BearingStep.TheVariants as bearing
+use Rattle.lib_os.specs.declared.spawn_steps.FilePart.{FilePart}
+use Rattle.lib_os.specs.declared.spawn_steps.FilePart.TheVariants as part
+use Rattle.lib_os.specs.declared.spawn_steps.FinishingStep.{FinishingStep}
+use Rattle.lib_os.specs.declared.spawn_steps.FinishingStep.TheVariants as finishing
+use Rattle.lib_os.specs.declared.spawn_steps.GivenStep.{GivenStep}
+use Rattle.lib_os.specs.declared.spawn_steps.GivenStep.TheVariants as given
+use Rattle.lib_os.specs.declared.spawn_steps.OpeningStep.{OpeningStep}
+use Rattle.lib_os.specs.declared.spawn_steps.OpeningStep.TheVariants as opening
+use Rattle.lib_os.specs.declared.spawn_steps.ReadStep.{ReadStep}
+use Rattle.lib_os.specs.declared.spawn_steps.ReadStep.TheVariants as read
+use Rattle.lib_os.specs.declared.spawn_steps.SpawnStep.{SpawnStep}
+use Rattle.lib_os.specs.declared.spawn_steps.SpawnStep.TheVariants as spawn
+use Rattle.lib_os.specs.declared.spawn_steps.TestingStep.{TestingStep}
+use Rattle.lib_os.specs.declared.spawn_steps.TestingStep.TheVariants as testing
+use Rattle.lib_os.specs.declared.spawn_steps.UndoingStep.{UndoingStep}
+use Rattle.lib_os.specs.declared.spawn_steps.UndoingStep.TheVariants as undoing
 use Rattle.lib_os.specs.AbstractState.{AbstractState, Born, born}
 use Rattle.lib_os.specs.AbstractRun.{abs_step, may_wait}
 use Rattle.lib_os.specs.InOrder.{IsInOrder}
@@ -102,6 +120,12 @@ pauses_at (pipe.TestPausing done) = true
 pauses_at pipe.StatPausing = true
 pauses_at _ = false
 
+-- and those of spawn, which asks the file server
+abbrev pub spawn_pauses_at : SpawnStep → Bool
+spawn_pauses_at (spawn.Opening (opening.OpenPausing esp fd id)) = true
+spawn_pauses_at (spawn.Reading wanted (read.Pausing id)) = true
+spawn_pauses_at _ = false
+
 -- the services that try again and again
 abbrev pub is_pausing : Place → Bool
 is_pausing (place.InService (service.Wait id) (step.Pausing perm)) = true
@@ -117,6 +141,7 @@ is_pausing (place.InService (service.Stat fd va) (step.Pausing id)) = true
 is_pausing (place.InService (service.Read fd va len) (step.Piped at)) = pauses_at at
 is_pausing (place.InService (service.Write fd va len) (step.Piped at)) = pauses_at at
 is_pausing (place.InService (service.Stat fd va) (step.Piped at)) = pauses_at at
+is_pausing (place.InService (service.Spawn path argv) (step.Spawning at)) = spawn_pauses_at at
 is_pausing _ = false
 
 -- What a step leaves, whatever it stands for: the last turn and the number of turns, and how many frames there are; where
@@ -139,9 +164,24 @@ frames_asked number =
     else if (number == SYS_PAGE_MAP) || (number == SYS_EXOFORK) || (number == SYS_IPC_TRY_SEND) then 1
     else 0
 
+-- how many frames a step of spawn may take from the list
+abbrev pub spawn_frames_at : SpawnStep → ℕ
+spawn_frames_at (spawn.Given given.TakingGiven) = 2
+spawn_frames_at (spawn.Given (given.TakingStack count size)) = 2
+spawn_frames_at (spawn.Opening (opening.OpenAsking esp fd id)) = 1
+spawn_frames_at (spawn.Reading wanted (read.Asking id)) = 1
+spawn_frames_at (spawn.Bearing (bearing.MakingChild esp fd entry_point headers)) = 1
+spawn_frames_at (spawn.Bearing (bearing.PlacingPage fd headers child header page last)) = 2
+spawn_frames_at (spawn.Bearing (bearing.MappingHere fd headers child header va done end)) = 1
+spawn_frames_at (spawn.Finishing (finishing.RightsPage fd headers child header page end)) = 1
+spawn_frames_at (spawn.Finishing (finishing.ChildStack fd child)) = 2
+spawn_frames_at (spawn.Finishing (finishing.GivingStack fd child)) = 1
+spawn_frames_at (spawn.Finishing (finishing.PassingPage child page perm)) = 1
+spawn_frames_at _ = 0
+
 -- How many frames a step may take from the list, by where its environment stands: fork takes one for the child's directory, one for a
 -- table of the child's with each page that it maps there, and two for the child's stack; the handler takes two for a page and its table;
--- write, remove, open_file, seek, set_size, read, stat and page_new take as many, and so does pipe for each page that it makes; and a message or a
+-- write, remove, open_file, seek, set_size, read, stat and page_new take as many, and so does pipe for each page that it makes; spawn as is told above; and a message or a
 -- request that is tried takes one, for a table of the page that goes with it. A page that is mapped over another takes none, since its table is
 -- there; a step of a program takes none, and so does each other step.
 abbrev pub frames_at : Place → ℕ
@@ -172,6 +212,8 @@ frames_at (place.InService (service.Write fd va len) step.TakingRequest) = 2
 frames_at (place.InService (service.Write fd va len) (step.Asking id)) = 1
 frames_at (place.InService (service.Read fd va len) (step.Piped pipe.TakingBytes)) = 2
 frames_at (place.InService (service.Write fd va len) (step.Piped pipe.TakingBytes)) = 2
+frames_at (place.InService (service.Spawn path argv) step.TakingPage) = 2
+frames_at (place.InService (service.Spawn path argv) (step.Spawning at)) = spawn_frames_at at
 frames_at (place.InHandler (handler.Taking va)) = 2
 frames_at _ = 0
 
@@ -265,6 +307,153 @@ pipe_steps_left pipe.StatFrom = 3
 pipe_steps_left (pipe.StatTo from) = 2
 pipe_steps_left (pipe.StatUnlocking held) = most_copy_steps + 2073
 
+-- The same of spawn, first with what the program gives: behind an address or a byte that can't be loaded pages may be copied.
+abbrev pub given_steps_left : GivenStep → ℕ
+given_steps_left given.TakingGiven = most_copy_steps + 2069
+given_steps_left (given.AddressRegion index done word) = most_copy_steps + 2068
+given_steps_left (given.AddressEntry index done word) = most_copy_steps + 2067
+given_steps_left (given.AddressLoading index done word) = 4
+given_steps_left (given.AddressFaulting index done) = 2066
+given_steps_left (given.AddressKeeping index word) = most_copy_steps + 2070
+given_steps_left (given.StringAddress index used) = most_copy_steps + 2069
+given_steps_left (given.StringRegion index address used done) = most_copy_steps + 2068
+given_steps_left (given.StringEntry index address used done) = most_copy_steps + 2067
+given_steps_left (given.StringLoading index address used done) = 4
+given_steps_left (given.StringFaulting address done) = 2066
+given_steps_left (given.StringKeeping index address used done word left) = most_copy_steps + 2070 + left
+given_steps_left (given.TakingStack count size) = 3 * size + 63
+given_steps_left (given.StringFirst count size index copied) = 3 * (size - copied) + 62
+given_steps_left (given.StringCopying count size index copied) = 3 * (size - copied) + 61
+given_steps_left (given.StringPutting count size index copied byte) = 3 * (size - copied) + 60
+given_steps_left (given.StoringArgv count size) = 58
+given_steps_left (given.StoringArgc count size) = 57
+
+abbrev pub opening_steps_left : OpeningStep → ℕ
+opening_steps_left (opening.FreeRegion esp) = 56
+opening_steps_left (opening.FreeEntry esp fd) = 12 + (DESCRIPTORS - fd)
+opening_steps_left (opening.StoringMode esp fd) = 11
+opening_steps_left (opening.OpenIdentifying esp fd) = 10
+opening_steps_left (opening.OpenAsking esp fd id) = 9
+opening_steps_left (opening.OpenPausing esp fd id) = 10
+opening_steps_left (opening.OpenAwaiting esp fd id) = 2
+opening_steps_left (opening.ReadingOpened esp fd id) = 20
+opening_steps_left (opening.LoadingSize esp fd) = 19
+
+-- Where a program header is looked at, those behind it are still to be looked at, and all that comes then: the tests of the segments; the pages that
+-- the child is given; the pieces of the segments, but for those that are asked for; and the rights of the pages.
+abbrev pub tests_left : ℕ → ℕ → ℕ
+tests_left headers header = (headers - header) * (3 * headers + 6)
+
+abbrev pub rights_left : ℕ → ℕ → ℕ
+rights_left headers header = (headers - header) * (page_limit + 4 * headers + 6) + 8
+
+abbrev pub pieces_left : ℕ → ℕ → ℕ
+pieces_left headers header = rights_left headers 0 + 4 * (headers - header) + 17
+
+abbrev pub pages_left : ℕ → ℕ → ℕ
+pages_left headers header = pieces_left headers 0 + (headers - header) * (page_limit + 4) + 4
+
+abbrev pub testing_steps_left : TestingStep → ℕ
+testing_steps_left (testing.HeaderMagic esp fd size) = 29
+testing_steps_left (testing.HeaderClass esp fd size) = 28
+testing_steps_left (testing.HeaderKind esp fd size) = 27
+testing_steps_left (testing.HeaderEntryPoint esp fd size) = 26
+testing_steps_left (testing.HeaderTable esp fd size entry_point) = 25
+testing_steps_left (testing.HeaderLength esp fd size entry_point place) = 24
+testing_steps_left (testing.HeaderCount esp fd size entry_point place) = 23
+testing_steps_left (testing.TableLoading esp fd size entry_point headers copied) = tests_left headers 0 + 2 * (8 * headers - copied) + 4
+testing_steps_left (testing.TableStoring esp fd size entry_point headers copied word) = tests_left headers 0 + 2 * (8 * headers - copied) + 3
+testing_steps_left (testing.SegmentKind esp fd size entry_point headers header) = tests_left headers header + 3
+testing_steps_left (testing.SegmentMemory esp fd size entry_point headers header) = tests_left headers header + 2
+testing_steps_left (testing.SegmentAddress esp fd size entry_point headers header memory) = tests_left headers header + 1
+testing_steps_left (testing.SegmentLength esp fd size entry_point headers header va memory) = tests_left headers header
+testing_steps_left (testing.SegmentOffset esp fd size entry_point headers header va memory length) =
+    tests_left headers (header + 1) + 3 * headers + 5
+testing_steps_left (testing.OtherKind esp fd size entry_point headers header va memory other) =
+    tests_left headers (header + 1) + 3 * (headers - other) + 4
+testing_steps_left (testing.OtherMemory esp fd size entry_point headers header va memory other) =
+    tests_left headers (header + 1) + 3 * (headers - other) + 3
+testing_steps_left (testing.OtherAddress esp fd size entry_point headers header va memory other other_memory) =
+    tests_left headers (header + 1) + 3 * (headers - other) + 2
+
+abbrev pub bearing_steps_left : BearingStep → ℕ
+bearing_steps_left (bearing.MakingChild esp fd entry_point headers) = 2
+bearing_steps_left (bearing.StoringRegister esp fd entry_point headers child index) = pages_left headers 0 + 1 + (TRAPFRAME_WORDS - index)
+bearing_steps_left (bearing.SettingRegisters fd headers child) = pages_left headers 0 + 1
+bearing_steps_left (bearing.PlacingKind fd headers child header) = pages_left headers header
+bearing_steps_left (bearing.PlacingMemory fd headers child header) = pages_left headers (header + 1) + page_limit + 3
+bearing_steps_left (bearing.PlacingAddress fd headers child header memory) = pages_left headers (header + 1) + page_limit + 2
+bearing_steps_left (bearing.PlacingPage fd headers child header page last) = pages_left headers (header + 1) + 1 + (last - page)
+bearing_steps_left (bearing.PieceKind fd headers child header) = pieces_left headers header + 3
+bearing_steps_left (bearing.PieceMemory fd headers child header) = pieces_left headers header + 2
+bearing_steps_left (bearing.PieceLength fd headers child header done) = pieces_left headers header + 1
+bearing_steps_left (bearing.PieceOffset fd headers child header done end) = pieces_left headers header
+bearing_steps_left (bearing.PieceAddress fd headers child header done end) = pieces_left headers header + 4 * (end - done) + 7
+bearing_steps_left (bearing.MappingHere fd headers child header va done end) = pieces_left headers header + 4 * (end - done) + 6
+bearing_steps_left (bearing.PieceLoading fd headers child header va done end) = pieces_left headers header + 4 * (end - done) + 5
+bearing_steps_left (bearing.PieceRest fd headers child header va done end first) = pieces_left headers header + 4 * (end - done) + 4
+bearing_steps_left (bearing.PiecePutting fd headers child header va done end word) = pieces_left headers header + 4 * (end - done) + 3
+bearing_steps_left (bearing.UnmappingHere fd headers child header end) = pieces_left headers header + 2
+
+abbrev pub finishing_steps_left : FinishingStep → ℕ
+finishing_steps_left (finishing.RightsKind fd headers child header) = rights_left headers header
+finishing_steps_left (finishing.RightsFlags fd headers child header) = rights_left headers (header + 1) + page_limit + 4 * headers + 5
+finishing_steps_left (finishing.RightsMemory fd headers child header) = rights_left headers (header + 1) + page_limit + 4 * headers + 4
+finishing_steps_left (finishing.RightsAddress fd headers child header memory) = rights_left headers (header + 1) + page_limit + 4 * headers + 3
+finishing_steps_left (finishing.SharedKind fd headers child header page end other) =
+    rights_left headers (header + 1) + (end - page) + 4 * (headers - other) + 2
+finishing_steps_left (finishing.SharedFlags fd headers child header page end other) =
+    rights_left headers (header + 1) + (end - page) + 4 * (headers - other) + 1
+finishing_steps_left (finishing.SharedMemory fd headers child header page end other) =
+    rights_left headers (header + 1) + (end - page) + 4 * (headers - other)
+finishing_steps_left (finishing.SharedAddress fd headers child header page end other other_memory) =
+    rights_left headers (header + 1) + (end - page) + 4 * (headers - other) - 1
+finishing_steps_left (finishing.RightsPage fd headers child header page end) = rights_left headers (header + 1) + (end - page) + 1
+finishing_steps_left (finishing.ChildStack fd child) = 7
+finishing_steps_left (finishing.ChildUpcall fd child) = 6
+finishing_steps_left (finishing.GivingStack fd child) = 5
+finishing_steps_left (finishing.ReleasingStack fd child) = 4
+finishing_steps_left (finishing.ReleasingGiven fd child) = 3
+finishing_steps_left (finishing.ReleasingPath fd child) = 2
+finishing_steps_left (finishing.DroppingFile fd child) = 1
+finishing_steps_left (finishing.PassingRegion child region) = 3 * ((region + 1) * NPTENTRIES) + (region + 1) + 4
+finishing_steps_left (finishing.PassingEntry child page) = 3 * (page + 1) + page / NPTENTRIES + 4
+finishing_steps_left (finishing.PassingPage child page perm) = 3 * page + 2 + page / NPTENTRIES + 4
+finishing_steps_left (finishing.ChildRuns child) = 1
+
+abbrev pub undoing_steps_left : UndoingStep → ℕ
+undoing_steps_left (undoing.DestroyingChild fd child error) = 1
+undoing_steps_left (undoing.ClosingFile fd error) = 1
+undoing_steps_left (undoing.UndoingStack error) = 3
+undoing_steps_left (undoing.UndoingGiven error) = 2
+undoing_steps_left (undoing.UndoingPath error) = 1
+
+-- where the reply has come with a part of the file
+abbrev pub reply_steps_left : FilePart → ℕ
+reply_steps_left (part.Header esp fd size) = 30
+reply_steps_left (part.Table esp fd size entry_point headers place) = tests_left headers 0 + 16 * headers + 5
+reply_steps_left (part.Piece fd headers child header done end place) = pieces_left headers header + 4 * (end - done) + 8
+
+abbrev pub reading_steps_left : FilePart → ReadStep → ℕ
+reading_steps_left wanted read.LoadingNumber = 15
+reading_steps_left wanted (read.StoringNumber number) = 14
+reading_steps_left wanted read.StoringCount = 13
+reading_steps_left wanted read.StoringPlace = 12
+reading_steps_left wanted read.Identifying = 11
+reading_steps_left wanted (read.Asking id) = 10
+reading_steps_left wanted (read.Pausing id) = 11
+reading_steps_left wanted (read.Awaiting id) = 2
+reading_steps_left wanted (read.ReadingReply id) = reply_steps_left wanted
+
+abbrev pub spawn_steps_left : SpawnStep → ℕ
+spawn_steps_left (spawn.Given at) = given_steps_left at
+spawn_steps_left (spawn.Opening at) = opening_steps_left at
+spawn_steps_left (spawn.Reading wanted at) = reading_steps_left wanted at
+spawn_steps_left (spawn.Testing at) = testing_steps_left at
+spawn_steps_left (spawn.Bearing at) = bearing_steps_left at
+spawn_steps_left (spawn.Finishing at) = finishing_steps_left at
+spawn_steps_left (spawn.Undoing at) = undoing_steps_left at
+
 -- How many hidden steps a service may still make, at most, from a step on, beside those in which pages are copied. (fork makes three for
 -- each page that is there, at most, and one for each region; exit looks at each descriptor; and one that has moved bytes to or from the
 -- program's memory may go on there with any number of pages that wait to be copied.)
@@ -332,6 +521,13 @@ steps_left (step.OpenAwaiting id fd) = 2
 steps_left (step.OpenClearing id fd) = 2
 steps_left (step.ReadingOpened id fd) = 1
 steps_left (step.Piped at) = pipe_steps_left at
+steps_left (step.Spawning at) = spawn_steps_left at
+
+-- those of spawn behind which pages are copied: an access raises the fault that ends the environment
+abbrev pub spawn_counts_copies : SpawnStep → Bool
+spawn_counts_copies (spawn.Given (given.AddressFaulting index done)) = true
+spawn_counts_copies (spawn.Given (given.StringFaulting address done)) = true
+spawn_counts_copies _ = false
 
 -- those behind which pages are copied: read and stat put their bytes into the program's memory, an access raises the fault that ends the
 -- environment, and the program goes on
@@ -342,6 +538,7 @@ counts_copies step.Releasing = true
 counts_copies (step.PuttingBytes done count word) = true
 counts_copies (step.FileFaulting done count) = true
 counts_copies (step.Returning answer) = true
+counts_copies (step.Spawning at) = spawn_counts_copies at
 counts_copies _ = false
 
 -- The same of the handler of page faults, for one fault, with those of a service beneath it: a page is loaded and stored word by word.

@@ -1,7 +1,7 @@
 -- How many frames the environments of the abstract system can want: one for each page of a program's own, one for each shared
 -- page, and beside these for every environment a directory, tables, and a few pages that its library works with. The kernel
 -- refuses a page for want of a frame only where one frame is free at the most, and then so many are wanted as it hands out.
-use Rattle.std.specs.Prelude.{◌≡◌, ◌<◌, ◌≤◌, ℕ, ◌+◌, ◌-◌, ◌%◌, ◌==◌, ◌||◌, Bool, true, false, length, Option, Some, None}
+use Rattle.std.specs.Prelude.{◌≡◌, ◌<◌, ◌≤◌, ℕ, ◌+◌, ◌-◌, ◌%◌, ◌==◌, ◌||◌, Bool, true, false, List, length, Option, Some, None}
 use Rattle.std.specs.List.{Contains}
 use Rattle.jos_base.specs.declared.numbers.TheConstants.{NENV}
 use Rattle.jos_base.specs.Counting.{total, page_limit}
@@ -12,8 +12,10 @@ use Rattle.jos_base.specs.SpacesState.{SpacesState, Region, directory, region_li
 use Rattle.jos_base.specs.Words.{is_exactly}
 use Rattle.jos_base.specs.Below.{some_below}
 use Rattle.lib_os.specs.declared.numbers.TheConstants.{DESCRIPTORS, MAXOPEN}
+use Rattle.lib_os.specs.declared.service.Service.TheVariants as service
 use Rattle.lib_os.specs.AbstractState.{AbstractState, Born, Page, own, named, AbstractSlot, free, unborn, born, serving}
-use Rattle.lib_os.specs.AbstractState.{Object, read_end, write_end}
+use Rattle.lib_os.specs.AbstractState.{Object, read_end, write_end, Phase, in_service, ImageRead, Spawning, loading, closed}
+use Rattle.lib_os.specs.AbstractSpawn.{image_memory, spawned}
 use Rattle.lib_os.specs.LibraryPages.{is_library_region}
 use Rattle.lib_os.specs.Rows.{Names}
 use Rattle.lib_os.specs.StandsFor.{StandsFor}
@@ -73,11 +75,20 @@ server_need a =
 
 -- ---- a slot
 
+-- A child that spawn makes has all pages of its image, before those that its parent shares stand in the place of some.
+abbrev pub spawned_need : Born → ImageRead → List (List ℕ) → ℕ
+spawned_need b image pieces = born_need (record (spawned b image pieces 0) { memory = image_memory image pieces })
+
+abbrev pub child_need : Born → Phase → Option Spawning → ℕ
+child_need b (in_service (service.Spawn path argv) stage) (Some (loading fd image child pieces)) = spawned_need b image pieces
+child_need b (in_service (service.Spawn path argv) stage) (Some (closed image child pieces)) = spawned_need b image pieces
+child_need b phase found = born_need b
+
 abbrev pub parent_need : AbstractSlot → ℕ
-parent_need (born b) = born_need b
+parent_need (born b) = child_need b b.phase b.spawning
 parent_need _ = 0
 
--- a child that is being made has what its parent has
+-- a child that fork makes has what its parent has
 abbrev pub slot_need : AbstractState → AbstractSlot → ℕ
 slot_need a (free id) = 0
 slot_need a (unborn id parent) = parent_need (a.slots (parent % NENV))

@@ -1,6 +1,6 @@
 -- Where an environment stands between two steps, as it is spelled in its registers and in the twelve words that it keeps
 -- for the library. Of these the first is 0 where no service runs, and else the service's number and 1; the second tells how
--- far the service is, and the next four what it has found out. What the program gave stands in its registers, which
+-- far the service is, and the ten behind that what it has found out. What the program gave stands in its registers, which
 -- nobody changes until the service answers, but for EAX. Where ESP lies on the stack of the handler of page faults, that runs:
 -- EIP tells how far it is, and the other registers what it has found out, since the frame of the fault keeps those of the
 -- program; the words are left as they are. (The form is this system's own.)
@@ -51,31 +51,16 @@ use Rattle.lib_os.specs.declared.pipe_numbers.TheConstants.{STEP_PIPE_TEST_DESCR
 use Rattle.lib_os.specs.declared.pipe_numbers.TheConstants.{STEP_PIPE_TEST_PIPE_COUNT, STEP_PIPE_TEST_RUNS_AGAIN, STEP_PIPE_TEST_PAUSING}
 use Rattle.lib_os.specs.declared.pipe_numbers.TheConstants.{STEP_PIPE_STAT_LOCKING, STEP_PIPE_STAT_PAUSING, STEP_PIPE_STAT_FROM}
 use Rattle.lib_os.specs.declared.pipe_numbers.TheConstants.{STEP_PIPE_STAT_TO, STEP_PIPE_STAT_UNLOCKING, STEP_PIPE_TEST_AGAIN}
+use Rattle.lib_os.specs.declared.spawn_numbers.TheConstants.{STEP_SPAWN_TAKING_GIVEN}
 use Rattle.lib_os.specs.Services.{service_of}
+use Rattle.lib_os.specs.ServiceWords.{step_word, first_word, second_word, third_word, fourth_word, fifth_word}
+use Rattle.lib_os.specs.SpawnPlaces.{spawn_step_in, spawn_words_at}
 
 -- ---- places
 
--- the words, by their places
+-- the first of the words
 abbrev pub service_word : List ℕ → ℕ
 service_word words = get_or words 0 0
-
-abbrev pub step_word : List ℕ → ℕ
-step_word words = get_or words 1 0
-
-abbrev pub first_word : List ℕ → ℕ
-first_word words = get_or words 2 0
-
-abbrev pub second_word : List ℕ → ℕ
-second_word words = get_or words 3 0
-
-abbrev pub third_word : List ℕ → ℕ
-third_word words = get_or words 4 0
-
-abbrev pub fourth_word : List ℕ → ℕ
-fourth_word words = get_or words 5 0
-
-abbrev pub fifth_word : List ℕ → ℕ
-fifth_word words = get_or words 6 0
 
 -- how far a service is that asks the file server, from there on; or fork, where it undoes what it did
 abbrev pub request_step_in : List ℕ → Step
@@ -175,7 +160,8 @@ pipe_step_in words =
 unfoldable pub step_in : List ℕ → Step
 step_in words =
     let n = step_word words in
-    if nat_le STEP_PIPE_SECOND_ENTRY n then step.Piped (pipe_step_in words)
+    if nat_le STEP_SPAWN_TAKING_GIVEN n then step.Spawning (spawn_step_in words)
+    else if nat_le STEP_PIPE_SECOND_ENTRY n then step.Piped (pipe_step_in words)
     else if n == STEP_ENTERED then step.Entered
     else if n == STEP_TRYING then step.Trying (first_word words)
     else if n == STEP_PAUSING then step.Pausing (first_word words)
@@ -362,6 +348,7 @@ words_at number (step.OpenAwaiting id fd) = place_words number STEP_OPEN_AWAITIN
 words_at number (step.OpenClearing id fd) = place_words number STEP_OPEN_CLEARING id fd 0
 words_at number (step.ReadingOpened id fd) = place_words number STEP_READING_OPENED id fd 0
 words_at number (step.Piped at) = pipe_words_at number at
+words_at number (step.Spawning at) = spawn_words_at number at
 
 -- the words with which a program's INT 0x40 leaves it; all numbers that name no service are kept as one
 abbrev pub words_entered : Regs → List ℕ

@@ -22,6 +22,7 @@ use Rattle.lib_os.specs.AbstractState.{Page, own, named}
 use Rattle.lib_os.specs.DescriptorPages.{HasObject, HasPipe, Things}
 use Rattle.lib_os.specs.Fence.{in_fence}
 use Rattle.lib_os.specs.Places.{place_of}
+use Rattle.lib_os.specs.SpawnPages.{is_childs}
 
 -- ---- entries
 
@@ -145,11 +146,13 @@ is_making at p = is_of_descriptor p && makes at (descriptor_at p)
 
 -- Where the handler of page faults has mapped its copy over the page, what stands where it was made counts no more. Where fork has
 -- mapped a page into the child and not yet onto itself, it counts as one that is copied when it is written already. The pages of a pipe that is
--- made, and of its descriptors, count as its maker's own up to the last mapping.
+-- made, and of its descriptors, count as its maker's own up to the last mapping. A page of the child's that spawn has mapped, too, counts as the
+-- child's alone.
 unfoldable pub counted : Place → EntryRow → EntryRow
 counted (place.InHandler (handler.Unmapping va)) row p = if p == page_number PFTEMP then None else row p
 counted (place.InService service.Fork (step.Remap id page)) row p = if p == page then option_map as_cow (row p) else row p
 counted (place.InService service.Pipe (step.Piped at)) row p = if is_making at p then option_map as_own (row p) else row p
+counted (place.InService (service.Spawn path argv) (step.Spawning at)) row p = if is_childs at p then None else row p
 counted _ row p = row p
 
 -- of each slot that is live, as they count at its place; those of the file server, which stands in slot 0, do not count here

@@ -45,7 +45,9 @@ use Rattle.lib_os.specs.Places.{place_of, is_handlers, service_word}
 use Rattle.lib_os.specs.Rows.{EntryRow, Names, rows_of, page_seen, logical, is_programs, is_shared, may_write, cow_perm}
 use Rattle.lib_os.specs.Rows.{descriptor_page, descriptor_seen, is_of_descriptor, pipe_page}
 use Rattle.lib_os.specs.Rows.{AgreeWhereShared, AreBytes, AreNamed, AreBeside, AreUsers, IsUsers, AreWhole, server_row}
+use Rattle.lib_os.specs.SpawnedChild.{IsSpawned, spawning_child}
 use Rattle.lib_os.specs.StandsAtPipe.{StandsAtPipe}
+use Rattle.lib_os.specs.StandsAtSpawn.{StandsAtSpawn}
 use Rattle.lib_os.specs.StandsInHandler.{IsAtGuest, IsFileOpen, IsInHandler, IsGiven, IsGivenBytes, WantsMore, StandsDelivering, StandsPutting}
 use Rattle.lib_os.specs.StandsInHandler.{buffer_of, wanted_of, is_refused_by, next_page, wanted_from, HasBytes, IsLoadingBytes, IsLoadingRest}
 use Rattle.lib_os.specs.StandsInHandler.{IsPuttingBytes, MayPut, handed_with, hands_back, HasNoEnd, WantsMoreOfPath, may_follow, stage_with}
@@ -236,6 +238,7 @@ abbrev pub writes_buffer : Service → Bool
 writes_buffer (service.Write fd va len) = false
 writes_buffer (service.Remove path) = false
 writes_buffer (service.OpenFile path mode) = false
+writes_buffer (service.Spawn path argv) = false
 writes_buffer _ = true
 
 -- the page of the next byte refuses it
@@ -502,6 +505,7 @@ StandsBefore so v k b (service.Stat fd va) done word = StandsDelivering (service
 StandsBefore so v k b (service.Write fd va len) done word = IsTaking v k b fd va len word done × so
 StandsBefore so v k b (service.Remove path) done word = IsTakingPath v k b (service.Remove path) done × so
 StandsBefore so v k b (service.OpenFile path mode) done word = IsTakingPath v k b (service.OpenFile path mode) done × so
+StandsBefore so v k b (service.Spawn path argv) done word = IsTakingPath v k b (service.Spawn path argv) done × so
 StandsBefore so v k b _ done word = ⊥
 
 -- ---- fork
@@ -689,6 +693,10 @@ StandsAtStep v k b (service.Dup old new) (step.DroppingDescriptor at) =
 StandsAtStep v k b (service.Dup old new) step.MappingDescriptor =
     IsIn k b (service.Dup old new) entered × IsDuplicating v.row old new × HasTable v × (v.row (descriptor_page new) ≡ None)
     × (v.row (pipe_page new) ≡ v.row (pipe_page old))
+StandsAtStep v k b (service.Spawn path argv) step.TakingPage = IsIn k b (service.Spawn path argv) entered × (is_inside path ≡ true)
+StandsAtStep v k b (service.Spawn path argv) (step.Gathering done) = IsGatheringPath (may_follow path done) v k b (service.Spawn path argv) done
+StandsAtStep v k b (service.Spawn path argv) (step.Keeping done word left) = IsKeepingPath v k b (service.Spawn path argv) done word left
+StandsAtStep v k b (service.Spawn path argv) (step.Spawning at) = StandsAtSpawn v k b path argv at
 StandsAtStep v k b service.Pipe (step.FreeEntry fd) =
     IsIn k b service.Pipe entered × (fd < DESCRIPTORS) × EachIsOpenBelow v.row fd × HasTable v
 StandsAtStep v k b _ _ = ⊥
@@ -756,6 +764,7 @@ borne_at _ = None
 
 abbrev pub borne_in : Place → Option ℕ
 borne_in (place.InService service.Fork step) = borne_at step
+borne_in (place.InService (service.Spawn path argv) (step.Spawning at)) = spawning_child at
 borne_in _ = None
 
 -- Fork passes on the pages of a program and those of its descriptors, from the greatest downwards: the page of this number is passed on.
@@ -811,10 +820,15 @@ pub record IsBorne (names : Names) (s : SpacesState) (parent : Slot) (parent_is 
   pub library : ChildPages step (rows_of s k.directory)
   pub tables : (r : ℕ) → is_some (s.regions k.directory r) ≡ true → has_page_in b.memory r || is_library_region r ≡ true
 
+-- by its parent, which stands in fork or in spawn
+pub data IsBorneBy (names : Names) (s : SpacesState) (parent : Slot) (parent_is : AbstractSlot) (k : Slot) (id parent_id : ℕ) : Type 0 where
+  by_fork : IsBorne names s parent parent_is k id parent_id → IsBorneBy names s parent parent_is k id parent_id
+  by_spawn : IsSpawned names s parent parent_is k id parent_id → IsBorneBy names s parent parent_is k id parent_id
+
 -- Who is not born is borne by its parent, and whoever bears a child has it: the child's slot is that which its id names.
 pub record HasChildren (names : Names) (s : SpacesState) (slots : ℕ → Slot) (abstract : ℕ → AbstractSlot) : Type 0 where
   pub borne : (m id parent : ℕ) → abstract m ≡ unborn id parent →
-      IsBorne names s (slots (parent % NENV)) (abstract (parent % NENV)) (slots m) id parent
+      IsBorneBy names s (slots (parent % NENV)) (abstract (parent % NENV)) (slots m) id parent
   pub have : (n id : ℕ) (b : Born) → abstract n ≡ born b → borne_in (place_of (slots n)) ≡ Some id → abstract (id % NENV) ≡ unborn id b.id
 
 -- ---- the file server

@@ -3,7 +3,7 @@
 -- fault ends it.
 -- (MIT 6.828, lib/fork.c: pgfault.)
 use Rattle.std.specs.Prelude.{◌≡◌, ◌≢◌, ◌<◌, ◌^◌, ℕ, ◌+◌, ◌-◌, ◌*◌, ◌&&◌, nat_lt, not, Bool, true, false, is_some, get_or, Option, None, Some}
-use Rattle.std.specs.Prelude.{◌%◌, ◌≤◌, ◌==◌, zero, suc, nat_le, codes, List, [], ◌∷◌, drop, length, min, slice_index, take, if◌then◌else◌}
+use Rattle.std.specs.Prelude.{All, ◌%◌, ◌≤◌, ◌==◌, zero, suc, nat_le, codes, List, [], ◌∷◌, drop, length, min, slice_index, take, if◌then◌else◌}
 use Rattle.std.specs.Int.{w32, from_le_bytes, to_le_bytes}
 use Rattle.std.specs.List.{position_or_len}
 use Rattle.jos_base.specs.declared.memory.PageFault.{PageFault}
@@ -31,6 +31,8 @@ use Rattle.lib_os.specs.Fence.{is_buffer, is_inside, is_resident}
 use Rattle.lib_os.specs.FileServices.{is_nul, terminal_stat, is_mode}
 use Rattle.lib_os.specs.LibraryPages.{View, HasFrame, HasTaken}
 use Rattle.lib_os.specs.Places.{place_of}
+use Rattle.jos_elf.specs.declared.numbers.TheConstants.{ARGS_MAX}
+use Rattle.lib_os.specs.SpawnGiven.{Lists, Quotes, address_place, string_place}
 use Rattle.lib_os.specs.Rows.{EntryRow, is_shared, is_cow, descriptor_page, pipe_page, AreBytes}
 
 -- ---- registers
@@ -102,6 +104,7 @@ buffer_of (service.Write fd va len) = va
 buffer_of (service.Stat fd va) = va
 buffer_of (service.Remove path) = path
 buffer_of (service.OpenFile path mode) = path
+buffer_of (service.Spawn path argv) = path
 buffer_of _ = 0
 
 -- the page of the byte behind so many
@@ -265,6 +268,7 @@ may_follow path done = nat_lt done MAXPATHLEN && is_inside (path + done)
 abbrev pub takes_path : Service → Bool
 takes_path (service.Remove path) = true
 takes_path (service.OpenFile path mode) = is_mode mode
+takes_path (service.Spawn path argv) = true
 takes_path _ = false
 
 -- it has taken these bytes of its path, and wants more
@@ -372,6 +376,12 @@ pub data IsStoppedAt (write : Bool) (v : View) (b : Born) (va ip : ℕ) : Type 0
       IsStoppedAt write v b va ip
   following : (s : Service) (bytes : List ℕ) → write ≡ false → WantsMoreOfPath b s bytes → va ≡ buffer_of s + length bytes →
       IsStoppedAt write v b va ip
+  listed : (path argv : ℕ) (name addresses taken : List ℕ) (stage : Stage) → write ≡ false → b.phase ≡ in_service (service.Spawn path argv) stage →
+      Lists b name addresses taken stage → All (λ address. (address ≢ 0) × (address < 2 ^ 32)) addresses → length addresses ≤ ARGS_MAX → length taken < 4 →
+      va ≡ address_place argv (length addresses) (length taken) → IsStoppedAt write v b va ip
+  quoted : (path argv address : ℕ) (name left taken : List ℕ) (words : List (List ℕ)) (stage : Stage) → write ≡ false →
+      b.phase ≡ in_service (service.Spawn path argv) stage → Quotes b name (address ∷ left) words taken stage → length taken < PGSIZE →
+      va ≡ string_place address (length taken) → IsStoppedAt write v b va ip
 
 -- The environment ends by the fault. Its registers are those of its program, but for EAX, which the kernel may have set with a reply.
 pub record Ends (h : HandlerStep) (v : View) (k : Slot) (b : Born) (fault : PageFault) (regs : Regs) : Type 0 where

@@ -28,7 +28,7 @@ pub fn guest_memory_is_lawful()
     ensures { GuestMemoryIsLawful }
 {}
 
-/// A step of an environment leaves every other slot as it was, where it sends no message and forks no child.
+/// A step of an environment leaves every other slot as it was, where it sends no message and makes no child.
 pub fn steps_leave_others()
     ensures { StepsLeaveOthers }
 {}

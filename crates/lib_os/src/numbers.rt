@@ -144,6 +144,18 @@ pub const REQUEST_PLACE: u32 = 8;
 /// Where it has the mode in which a file is to be opened, behind the path.
 pub const REQUEST_MODE: u32 = 1024;
 
+/// Where the page of spawn that has its path has the addresses of the strings that the program gives, behind the path and the mode.
+pub const SPAWN_ADDRESSES: u32 = 2048;
+
+/// Where spawn has the page of these strings, and then of the program headers of its file: the first page behind `UTEMP`.
+pub const SPAWN_GIVEN: u32 = 0x0040_1000;
+
+/// Where it makes the page of its child's stack: the second.
+pub const SPAWN_STACK: u32 = 0x0040_2000;
+
+/// Where it has a page of its child's while it puts bytes there: the third.
+pub const SPAWN_HERE: u32 = 0x0040_3000;
+
 /// The words of a page.
 pub const PAGE_WORDS: u32 = 1024;
 

@@ -26,6 +26,9 @@ use crate::numbers::{
 use crate::pipe_numbers::STEP_PIPE_SECOND_ENTRY;
 use crate::piping::{find_pipe_step, pipe_words_at};
 use crate::service::{Service, service_of};
+use crate::spawn_numbers::STEP_SPAWN_TAKING_GIVEN;
+use crate::spawn_steps::SpawnStep;
+use crate::spawning::{find_spawn_step, spawn_words_at};
 use jos_base::{Extra, Regs, UXSTACKTOP};
 
 /// How far a service is. What it has found out so far stands beside, as words.
@@ -97,7 +100,7 @@ pub enum Step {
     ChildRuns {
         id: u32,
     },
-    /// fork: it was refused something with this answer, and is about to destroy the child.
+    /// fork, and spawn where it has given all its own pages back: it was refused something with this answer, and is about to destroy the child.
     Undoing {
         id: u32,
         error: u32,
@@ -118,26 +121,26 @@ pub enum Step {
     Ending,
     /// read, write, seek, stat and set_size: it is about to read what its descriptor names.
     ReadingDevice,
-    /// read, write, stat, remove and open_file, which have moved so many bytes of their buffer, or of their path: it is about to read whether
+    /// read, write, stat, remove, open_file and spawn, which have moved so many bytes of their buffer, or of their path: it is about to read whether
     /// the region of the next has a table. read has the byte that it has taken; write has where in its page its bytes begin, and for a pipe
     /// one page behind that; and stat has 0, or of a pipe how many bytes that holds, and 1.
     BufferRegion {
         done: u32,
         word: u32,
     },
-    /// read, write, stat, remove and open_file: it is about to read the entry of the next byte's page.
+    /// read, write, stat, remove, open_file and spawn: it is about to read the entry of the next byte's page.
     BufferEntry {
         done: u32,
         word: u32,
     },
-    /// write on the console, remove, open_file, seek, set_size, read and stat: it is about to take a page for the bytes of its buffer, or of
+    /// write on the console, remove, open_file, spawn, seek, set_size, read and stat: it is about to take a page for the bytes of its buffer, or of
     /// its path, or for its request.
     TakingPage,
-    /// remove and open_file: it is about to load the next bytes of its path; where none may follow, it is about to give its page back.
+    /// remove, open_file and spawn: it is about to load the next bytes of its path; where none may follow, it is about to give its page back.
     Gathering {
         done: u32,
     },
-    /// remove and open_file: it has loaded these bytes of a word, the next to be kept lowest, and is about to put them, or the next of them,
+    /// remove, open_file and spawn: it has loaded these bytes of a word, the next to be kept lowest, and is about to put them, or the next of them,
     /// into its page.
     Keeping {
         done: u32,
@@ -155,7 +158,7 @@ pub enum Step {
         done: u32,
         word: u32,
     },
-    /// read, write, stat, remove and open_file: the next byte can't be moved, and it is about to raise the fault by which the environment ends.
+    /// read, write, stat, remove, open_file and spawn: the next byte can't be moved, and it is about to raise the fault by which the environment ends.
     Faulting {
         done: u32,
         word: u32,
@@ -290,6 +293,10 @@ pub enum Step {
     /// pipe, and exit, close, dup, read, write and stat on an end of a pipe: it is so far.
     Piped {
         at: PipeStep,
+    },
+    /// spawn: it has its path, and is so far.
+    Spawning {
+        at: SpawnStep,
     },
 }
 
@@ -727,6 +734,11 @@ fn find_step(words: &Extra) -> Step
     ensures { result ≡ places.step_in words.now.0 }
 {
     let [_, step, first, second, third, _, _, _, _, _, _, _] = words.0;
+    if STEP_SPAWN_TAKING_GIVEN <= step {
+        return Step::Spawning {
+            at: find_spawn_step(words),
+        };
+    }
     if STEP_PIPE_SECOND_ENTRY <= step {
         return Step::Piped {
             at: find_pipe_step(words),
@@ -903,6 +915,7 @@ pub fn words_at(number: u32, step: Step) -> Extra
         Step::OpenClearing { id, fd } => (STEP_OPEN_CLEARING, id, fd, 0),
         Step::ReadingOpened { id, fd } => (STEP_READING_OPENED, id, fd, 0),
         Step::Piped { at } => return pipe_words_at(number, at),
+        Step::Spawning { at } => return spawn_words_at(number, at),
     };
     let fourth = match step {
         Step::KeepingBytes { start, .. } => start,

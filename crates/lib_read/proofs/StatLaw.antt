@@ -403,3 +403,4 @@ module _ (s : KernelState) (n fd va : ℕ) (live : is_live (slot_at s n) ≡ tru
     stat_holds (step.OpenAwaiting own kept) stands = no_step (step.OpenAwaiting own kept) stands refl (λ view k b h. h)
     stat_holds (step.OpenClearing own kept) stands = no_step (step.OpenClearing own kept) stands refl (λ view k b h. h)
     stat_holds (step.ReadingOpened own kept) stands = no_step (step.ReadingOpened own kept) stands refl (λ view k b h. h)
+    stat_holds (step.Spawning at) stands = no_step (step.Spawning at) stands refl (λ view k b h. h)

@@ -53,6 +53,7 @@ module _ (s : KernelState) (n path mode : ℕ) (live : is_live (slot_at s n) ≡
   open_holds (step.OpenClearing id fd) stands = open_clearing_holds s n path mode live small awake id fd stands
   open_holds (step.ReadingOpened id fd) stands = open_reading_holds s n path mode live small id fd stands
   open_holds (step.Piped at) stands = no_step (step.Piped at) stands refl (λ view k b h. h)
+  open_holds (step.Spawning at) stands = no_step (step.Spawning at) stands refl (λ view k b h. h)
   open_holds (step.Trying perm) stands = no_step (step.Trying perm) stands refl (λ view k b h. h)
   open_holds step.ReadingRegion stands = no_step step.ReadingRegion stands refl (λ view k b h. h)
   open_holds step.ReadingEntry stands = no_step step.ReadingEntry stands refl (λ view k b h. h)

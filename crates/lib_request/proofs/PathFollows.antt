@@ -28,6 +28,7 @@ inside_same path done small few = by_test (is_inside (path + done)) refl
 abbrev pub keeps_turn : Step → Bool
 keeps_turn (step.Pausing id) = false
 keeps_turn (step.OpenPausing id fd) = false
+keeps_turn (step.Spawning at) = false
 keeps_turn _ = true
 
 pub follows_is : (path done : ℕ) → path < 2 ^ 32 → follows path done ≡ may_follow path done
@@ -51,10 +52,16 @@ path_steady (service.OpenFile path mode) takes at keeps = open_steady path mode 
     open_steady : (path mode : ℕ) (at : Step) → keeps_turn at ≡ true → is_pausing (place.InService (service.OpenFile path mode) at) ≡ false
     open_steady path mode (step.OpenPausing id fd) keeps = absurd (false≢true keeps)
     open_steady path mode _ keeps = refl
+path_steady (service.Spawn path argv) takes at keeps = spawn_steady path argv at keeps
+  where
+    spawn_steady : (path argv : ℕ) (at : Step) → keeps_turn at ≡ true → is_pausing (place.InService (service.Spawn path argv) at) ≡ false
+    spawn_steady path argv (step.Spawning at) keeps = absurd (false≢true keeps)
+    spawn_steady path argv _ keeps = refl
 path_steady _ takes at keeps = absurd (false≢true takes)
 
 -- as many frames may be taken as for a page and its table
 pub path_frames : (call : Service) → has_path call ≡ true → frames_at (place.InService call step.TakingPage) ≡ 2
 path_frames (service.Remove path) takes = refl
 path_frames (service.OpenFile path mode) takes = refl
+path_frames (service.Spawn path argv) takes = refl
 path_frames _ takes = absurd (false≢true takes)

@@ -72,6 +72,7 @@ behind_falls call done word left behind false = omega arith
 -- fewer steps are left where the path is taken
 whole_falls : (call : Service) (done word left : ℕ) → Falls call (step.Keeping done word left) (next.GoOn (whole_step call))
 whole_falls (service.OpenFile path mode) done word left = omega arith
+whole_falls (service.Spawn path argv) done word left = omega arith
 whole_falls _ done word left = omega arith
 
 keeping_falls : (call : Service) (done word left : ℕ) →

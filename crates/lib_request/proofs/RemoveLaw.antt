@@ -51,6 +51,7 @@ module _ (s : KernelState) (n path : ℕ) (live : is_live (slot_at s n) ≡ true
   remove_holds (step.Clearing id) stands = clearing_holds s n remove refl live awake id stands
   remove_holds (step.ReadingReply id) stands = reading_holds s n remove refl live id stands
   remove_holds (step.Piped at) stands = no_step (step.Piped at) stands refl (λ view k b h. h)
+  remove_holds (step.Spawning at) stands = no_step (step.Spawning at) stands refl (λ view k b h. h)
   remove_holds (step.Trying perm) stands = no_step (step.Trying perm) stands refl (λ view k b h. h)
   remove_holds step.ReadingRegion stands = no_step step.ReadingRegion stands refl (λ view k b h. h)
   remove_holds step.ReadingEntry stands = no_step step.ReadingEntry stands refl (λ view k b h. h)

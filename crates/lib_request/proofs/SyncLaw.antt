@@ -116,6 +116,7 @@ module _ (s : KernelState) (n : ℕ) (live : is_live (slot_at s n) ≡ true)
         reply_follows s n id stands awake names a h,
       ))
   sync_holds (step.Piped at) stands = no_step (step.Piped at) stands refl (λ view k b h. h)
+  sync_holds (step.Spawning at) stands = no_step (step.Spawning at) stands refl (λ view k b h. h)
   sync_holds (step.Trying perm) stands = no_step (step.Trying perm) stands refl (λ view k b h. h)
   sync_holds step.ReadingRegion stands = no_step step.ReadingRegion stands refl (λ view k b h. h)
   sync_holds step.ReadingEntry stands = no_step step.ReadingEntry stands refl (λ view k b h. h)

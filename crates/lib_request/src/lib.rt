@@ -18,6 +18,7 @@ mod sync;
 
 pub use open::{Open, OpenStage};
 pub use page::{ask_clearing, ask_reply, ask_with_page, next_of_asking};
+pub use path::{ask_gathering, next_of_gathering, next_of_keeping};
 pub use remove::{Remove, RemoveStage};
 pub use reply::reply_place;
 pub use sync::{Sync, SyncStage};

@@ -25,7 +25,7 @@ fn moved(path: u32, done: u32) -> u32
 }
 
 /// What is asked to take the next bytes, or to give the page back.
-pub(crate) fn ask_gathering(path: u32, done: u32) -> Ask
+pub fn ask_gathering(path: u32, done: u32) -> Ask
     ensures { result ≡ stages.gathering_asked path done }
 {
     if !may_follow(path, done) {
@@ -40,7 +40,7 @@ pub(crate) fn ask_gathering(path: u32, done: u32) -> Ask
 }
 
 /// What is done next by the bytes that are loaded, or when the page is given back.
-pub(crate) fn next_of_gathering(path: u32, done: u32, word: u32) -> Next
+pub fn next_of_gathering(path: u32, done: u32, word: u32) -> Next
     ensures { result ≡ stages.next_of_gathering path done word }
 {
     if !may_follow(path, done) {
@@ -64,7 +64,7 @@ fn next_behind(path: u32, done: u32) -> Next
 }
 
 /// What is done next when bytes of a word are put there; with the path's end, the service goes on to this step.
-pub(crate) fn next_of_keeping(path: u32, whole: Step, done: u32, word: u32, left: u32) -> Next
+pub fn next_of_keeping(path: u32, whole: Step, done: u32, word: u32, left: u32) -> Next
     ensures { result ≡ stages.next_of_keeping path whole done word left }
 {
     let kept = kept_at_once(done, left);

@@ -8,8 +8,8 @@ use Rattle.std.proofs.lemmas.List.{length-replicate, drop_all}
 use Rattle.std.proofs.lemmas.Bool.Decides.{nat_tests}
 use Rattle.jos_base.specs.declared.numbers.TheConstants.{USTACKTOP}
 use Rattle.jos_base.specs.TrapFrames.{bytes_of_words}
-use Rattle.lib_spawn.specs.StackPage.{strings_of, addresses_from, in_words, strings_size, stack_size, stack_pointer}
-use Rattle.lib_spawn.specs.StackPage.{stack_contents, fits_stack}
+use Rattle.jos_elf.specs.StackPage.{strings_of, addresses_from, in_words, strings_size, stack_size, stack_pointer}
+use Rattle.jos_elf.specs.StackPage.{stack_contents, fits_stack}
 use Rattle.jos_base.proofs.WordBytes.{length-bytes_of_words}
 
 -- ---- from one word on

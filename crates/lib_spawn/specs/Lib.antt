@@ -1,2 +1,1 @@
-pub mod StackPage
 pub mod WaitStages

@@ -5,13 +5,11 @@
 //! to the other one, by an address that is none of a page, so that nothing is ever sent: as long as the other one lives, it gives up
 //! its turn and tries again.
 //!
-//! The words that a program is given stand on the first page of its stack (`StackPage.antt`).
+//! The words that a program is given stand on the first page of its stack (`StackPage.antt` of `jos_elf`).
 #![tactic(auto)]
 
 mod services;
 mod stack;
 
 pub use services::{Wait, WaitStage};
-pub use stack::{
-    ARGS_MAX, STACK_ROOM, StackBytes, fits_stack, stack_contents, stack_pointer, stack_size,
-};
+pub use stack::{STACK_ROOM, StackBytes, fits_stack, stack_contents, stack_pointer, stack_size};

@@ -3,14 +3,12 @@
 ghost use Rattle.std.specs.Prelude.{◌≡◌, ◌+◌, ◌-◌, ◌*◌, ◌^◌, ◌<◌, ◌≤◌, ◌++◌, length, true, replicate, min, map};
 ghost use Rattle.std.specs.Int.{w32, to_le_bytes};
 ghost use Rattle.jos_base.specs.TrapFrames.{bytes_of_words};
-ghost use Rattle.lib_spawn.specs.StackPage.{strings_of, addresses_from, strings_size, in_words, stack_size};
-ghost use Rattle.lib_spawn.specs.StackPage.{stack_pointer, stack_contents, fits_stack};
+ghost use Rattle.jos_elf.specs.StackPage.{strings_of, addresses_from, strings_size, in_words, stack_size};
+ghost use Rattle.jos_elf.specs.StackPage.{stack_pointer, stack_contents, fits_stack};
 
 use arrayvec::ArrayVec;
 use jos_base::{PGSIZE, USTACKTOP};
-
-/// How many words a program may be given.
-pub const ARGS_MAX: usize = 16;
+use jos_elf::ARGS_MAX;
 
 /// The room for them: a page.
 pub const STACK_ROOM: usize = 4096;

@@ -16,8 +16,8 @@ returns-in-Some-clause-exact c = parsed-header_failed (length c.args.bytes.now) 
 
 pub loop-place-init : goal.loop-place-init
 loop-place-init c = record {
-  passed = table-none (length c.args.bytes.now) (slice_index c.args.bytes.now);
-  segments = c.new-segments.ensures ∙ sym (segments-none (slice_index c.args.bytes.now));
+  passed = table-none (length c.args.bytes.now) (header_of (slice_index c.args.bytes.now));
+  segments = c.new-segments.ensures ∙ sym (segments-none (header_of (slice_index c.args.bytes.now)));
   few = rw c.new-segments.ensures (omega arith);
 }
 
@@ -25,8 +25,8 @@ pub loop-place-preserved-then-not-is_loaded : goal.loop-place-preserved-then-not
 loop-place-preserved-then-not-is_loaded c =
     let over : is_loaded (header_of (slice_index c.args.bytes.now) c.loop-place.place) ≡ false = cc in
     record {
-      passed = table-passed_over (length c.args.bytes.now) (slice_index c.args.bytes.now) c.loop-place.place c.loop-place.invariant.passed over;
-      segments = segments-passed_over (slice_index c.args.bytes.now) c.loop-place.place c.loop-place.segments.items c.loop-place.invariant.segments over;
+      passed = table-passed_over (length c.args.bytes.now) (header_of (slice_index c.args.bytes.now)) c.loop-place.place c.loop-place.invariant.passed over;
+      segments = segments-passed_over (header_of (slice_index c.args.bytes.now)) c.loop-place.place c.loop-place.segments.items c.loop-place.invariant.segments over;
       few = omega arith;
     }
 
@@ -36,15 +36,15 @@ unfolding parsed
 returns-in-Some-first_failed_segment_test-clause-exact c =
     let loaded : is_loaded (header_of (slice_index c.args.bytes.now) c.loop-place.place) ≡ true = cc in
     parsed-table_failed (length c.args.bytes.now) (slice_index c.args.bytes.now) c.in-Some-first_failed_segment_test.fault (sym c.in_default.ensures.exact)
-    (table-failed (length c.args.bytes.now) (slice_index c.args.bytes.now) c.loop-place.place (entry_count_of (slice_index c.args.bytes.now)) c.in-Some-first_failed_segment_test.fault
+    (table-failed (length c.args.bytes.now) (header_of (slice_index c.args.bytes.now)) c.loop-place.place (entry_count_of (slice_index c.args.bytes.now)) c.in-Some-first_failed_segment_test.fault
     (omega arith) c.loop-place.invariant.passed loaded (sym c.in-Some-first_failed_segment_test.ensures))
 
 pub loop-place-preserved : goal.loop-place-preserved
 loop-place-preserved c =
     let loaded : is_loaded (header_of (slice_index c.args.bytes.now) c.loop-place.place) ≡ true = cc in
     record {
-      passed = table-passed (length c.args.bytes.now) (slice_index c.args.bytes.now) c.loop-place.place c.loop-place.invariant.passed loaded (sym c.in_default-first_failed_segment_test.ensures);
-      segments = c.push.ensures.items ∙ rw c.header_of-header.ensures (segments-more (slice_index c.args.bytes.now) c.loop-place.place c.loop-place.segments.items c.loop-place.invariant.segments loaded);
+      passed = table-passed (length c.args.bytes.now) (header_of (slice_index c.args.bytes.now)) c.loop-place.place c.loop-place.invariant.passed loaded (sym c.in_default-first_failed_segment_test.ensures);
+      segments = c.push.ensures.items ∙ rw c.header_of-header.ensures (segments-more (header_of (slice_index c.args.bytes.now)) c.loop-place.place c.loop-place.segments.items c.loop-place.invariant.segments loaded);
       few = rw c.push.ensures.items (omega (arith, length-append {A = Segment}));
     }
 
@@ -56,7 +56,7 @@ returns-clause-exact c =
     (rw (← whole) c.loop-place.invariant.passed) c.word_at.ensures (rw (← whole) c.loop-place.invariant.segments)
 
 pub returns-clause-lie : goal.returns-clause-lie
-returns-clause-lie c = rw c.loop-place.invariant.segments (segments-lie (length c.args.bytes.now) (slice_index c.args.bytes.now) c.loop-place.place c.loop-place.invariant.passed)
+returns-clause-lie c = rw c.loop-place.invariant.segments (segments-lie (length c.args.bytes.now) (header_of (slice_index c.args.bytes.now)) c.loop-place.place c.loop-place.invariant.passed)
 
 pub returns-clause-apart : goal.returns-clause-apart
-returns-clause-apart c = rw c.loop-place.invariant.segments (segments-apart (length c.args.bytes.now) (slice_index c.args.bytes.now) c.loop-place.place c.loop-place.invariant.passed)
+returns-clause-apart c = rw c.loop-place.invariant.segments (segments-apart (length c.args.bytes.now) (header_of (slice_index c.args.bytes.now)) c.loop-place.place c.loop-place.invariant.passed)

@@ -2,7 +2,7 @@ use Rattle.std.proofs.Common.{[], ap, ◌∙◌}
 use Rattle.jos_base.specs.KernelState.{KernelState, slot_at}
 use Rattle.jos_base.specs.Environments.{is_live}
 use Rattle.jos_sys.specs.System.{state_of}
-use Rattle.jos_kernel.specs.Boot.{first_registers}
+use Rattle.jos_elf.specs.Started.{first_registers}
 use Rattle.jos_kernel.proofs.ImagesBooted.{booted-no_slot, booted-none, booted-some}
 use Rattle.jos_kernel.proofs.boot.boot_image.Goals as goal
 

@@ -1,6 +1,6 @@
 use Rattle.std.proofs.Common.{◌≡◌, ℕ, List, take}
 use Rattle.jos_sys.specs.System.{state_of, Keeps}
-use Rattle.jos_kernel.specs.Boot.{laid_all}
+use Rattle.jos_elf.specs.Pages.{laid_all}
 use Rattle.jos_kernel.specs.Loading.{with_bytes_in}
 use Rattle.jos_kernel.proofs.boot.lay_page.Given as goal
 

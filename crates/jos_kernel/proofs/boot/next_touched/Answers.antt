@@ -1,5 +1,5 @@
 use Rattle.std.proofs.Common.{ℕ, ◌+◌, take, Option, sym, subst}
-use Rattle.jos_kernel.specs.Boot.{any_touches}
+use Rattle.jos_elf.specs.Pages.{any_touches}
 use Rattle.jos_kernel.specs.Loading.{IsFirst}
 use Rattle.jos_kernel.proofs.PagesTouched.{first_more, first_whole}
 use Rattle.jos_kernel.proofs.boot.next_touched.Goals as goal

@@ -1,5 +1,5 @@
 use Rattle.std.proofs.Common.{take}
-use Rattle.jos_kernel.specs.Boot.{any_touches}
+use Rattle.jos_elf.specs.Pages.{any_touches}
 use Rattle.jos_kernel.specs.Loading.{IsFirst}
 use Rattle.jos_kernel.proofs.boot.next_touched.Given as goal
 

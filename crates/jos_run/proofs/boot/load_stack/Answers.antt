@@ -1,14 +1,15 @@
 use Rattle.std.proofs.Common.{◌∙◌, ◌-◌, ℕ, List, [], ◌∷◌, refl, sym, ap, subst, arith, map}
 use Rattle.jos_base.specs.KernelState.{slot_at}
 use Rattle.jos_base.specs.SpacesState.{overlaid}
-use Rattle.jos_kernel.specs.Boot.{perm_of, stack_page}
+use Rattle.jos_kernel.specs.Boot.{perm_of}
+use Rattle.jos_elf.specs.Pages.{stack_page}
 use Rattle.jos_kernel.specs.Loading.{with_bytes_in}
 use Rattle.jos_kernel.proofs.PagesLoaded.{loads-none, loads-filled}
 use Rattle.jos_sys.specs.System.{state_of}
-use Rattle.lib_spawn.specs.StackPage.{stack_contents}
+use Rattle.jos_elf.specs.StackPage.{stack_contents}
 use Rattle.lib_spawn.proofs.StackPages.{fits}
 use Rattle.lib_os.specs.Rows.{AreBytes}
-use Rattle.jos_run.specs.Boot.{stack_segment}
+use Rattle.jos_elf.specs.Started.{stack_segment}
 use Rattle.jos_run.proofs.PagesWhole.{strings-bytes}
 use Rattle.jos_run.proofs.StackLoaded.{fits-some, stack-touched, stack-writes, stack-laid}
 use Rattle.jos_run.proofs.boot.load_stack.Goals as goal

@@ -1,5 +1,5 @@
 use Rattle.std.proofs.Common.{◌∙◌, ◌+◌, ℕ, ap, sym, arith}
-use Rattle.jos_kernel.specs.Boot.{any_touches}
+use Rattle.jos_elf.specs.Pages.{any_touches}
 use Rattle.jos_run.proofs.Touched.{counted-none, counted-first, counted-over, counted-most}
 use Rattle.jos_run.proofs.boot.pages_touched.Goals as goal
 

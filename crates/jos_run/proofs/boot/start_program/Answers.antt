@@ -2,7 +2,7 @@ use Rattle.std.proofs.Common.{[], true, false, ap, ◌∙◌, map}
 use Rattle.jos_base.specs.KernelState.{KernelState, slot_at}
 use Rattle.jos_base.specs.Environments.{is_live}
 use Rattle.jos_sys.specs.System.{state_of}
-use Rattle.jos_run.specs.Boot.{program_registers}
+use Rattle.jos_elf.specs.Started.{program_registers}
 use Rattle.jos_run.proofs.StackLoaded.{space-none, handler-none, space-loads, started-none, started-some}
 use Rattle.jos_run.proofs.boot.start_program.Goals as goal
 

@@ -1,5 +1,5 @@
 use Rattle.std.proofs.Common.{◌≡◌, ◌∙◌, ◌+◌, ◌*◌, ◌/◌, ℕ, sym, ap, arith, length, nat_le, map}
-use Rattle.lib_spawn.specs.StackPage.{strings_size, stack_size}
+use Rattle.jos_elf.specs.StackPage.{strings_size, stack_size}
 use Rattle.lib_spawn.proofs.StackPages.{length-texts, unfit-none, unfit-many, unfit-size, strings-within, fit-by_size}
 use Rattle.lib_spawn.proofs.stack.fits_stack.Goals as goal
 use Rattle.lib_spawn.proofs.stack.fits_stack.Goals.{then-count-eq0-via-then-count-eq0}

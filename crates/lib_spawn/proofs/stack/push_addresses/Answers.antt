@@ -1,7 +1,7 @@
 use Rattle.std.proofs.Common.{◌≡◌, ◌∙◌, ◌+◌, ◌++◌, ℕ, List, drop, sym, ap, arith, length, length-append, map}
 use Rattle.std.specs.Int.{w32, to_le_bytes}
 use Rattle.jos_base.specs.TrapFrames.{bytes_of_words}
-use Rattle.lib_spawn.specs.StackPage.{addresses_from}
+use Rattle.jos_elf.specs.StackPage.{addresses_from}
 use Rattle.lib_spawn.proofs.StackPages.{text, size-next, addresses-next, texts-end, addresses-none, more}
 use Rattle.lib_spawn.proofs.stack.push_addresses.Goals as goal
 

@@ -1,6 +1,6 @@
 use Rattle.std.proofs.Common.{◌≡◌, ◌+◌, ◌*◌, ◌++◌, drop, length, map}
 use Rattle.jos_base.specs.TrapFrames.{bytes_of_words}
-use Rattle.lib_spawn.specs.StackPage.{strings_size, addresses_from}
+use Rattle.jos_elf.specs.StackPage.{strings_size, addresses_from}
 use Rattle.lib_spawn.proofs.stack.push_addresses.Given as goal
 
 abbrev pub invariant-loop-word : goal.invariant-loop-word

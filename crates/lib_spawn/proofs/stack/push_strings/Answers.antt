@@ -1,6 +1,6 @@
 use Rattle.std.proofs.Common.{◌≡◌, ◌∙◌, ◌+◌, ◌++◌, ℕ, List, [], ◌∷◌, drop, sym, ap, arith, append_assoc, length, length-append, map}
 use Rattle.std.proofs.lemmas.List.{append-nil}
-use Rattle.lib_spawn.specs.StackPage.{strings_of}
+use Rattle.jos_elf.specs.StackPage.{strings_of}
 use Rattle.lib_spawn.proofs.StackPages.{text, size-next, strings-next, texts-end, strings-none, more}
 use Rattle.lib_spawn.proofs.stack.push_strings.Goals as goal
 

@@ -1,5 +1,5 @@
 use Rattle.std.proofs.Common.{◌≡◌, ◌++◌, drop, map}
-use Rattle.lib_spawn.specs.StackPage.{strings_of}
+use Rattle.jos_elf.specs.StackPage.{strings_of}
 use Rattle.lib_spawn.proofs.stack.push_strings.Given as goal
 
 abbrev pub invariant-loop-word : goal.invariant-loop-word

@@ -3,7 +3,7 @@ use Rattle.std.proofs.Common.{take, replicate}
 use Rattle.std.proofs.lemmas.List.{take-replicate, length-take}
 use Rattle.std.specs.Int.{w32, to_le_bytes}
 use Rattle.jos_base.specs.TrapFrames.{bytes_of_words}
-use Rattle.lib_spawn.specs.StackPage.{stack_size, strings_size, in_words, addresses_from}
+use Rattle.jos_elf.specs.StackPage.{stack_size, strings_size, in_words, addresses_from}
 use Rattle.lib_spawn.proofs.StackPages.{length-texts, fits, length-addresses, stack-has_size, stack-built}
 use Rattle.lib_spawn.proofs.stack.stack_contents.Goals as goal
 use Rattle.jos_base.proofs.WordBytes.{length-bytes_of_words}

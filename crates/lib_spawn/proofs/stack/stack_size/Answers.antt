@@ -1,5 +1,5 @@
 use Rattle.std.proofs.Common.{arith, map}
-use Rattle.lib_spawn.specs.StackPage.{stack_size}
+use Rattle.jos_elf.specs.StackPage.{stack_size}
 use Rattle.lib_spawn.proofs.StackPages.{length-texts, fits}
 use Rattle.lib_spawn.proofs.stack.stack_size.Goals as goal
 

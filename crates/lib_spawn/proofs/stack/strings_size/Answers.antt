@@ -1,5 +1,5 @@
 use Rattle.std.proofs.Common.{ap, arith}
-use Rattle.lib_spawn.specs.StackPage.{strings_size}
+use Rattle.jos_elf.specs.StackPage.{strings_size}
 use Rattle.lib_spawn.proofs.StackPages.{size-next, texts-end, none-size}
 use Rattle.lib_spawn.proofs.stack.strings_size.Goals as goal
 

@@ -1,5 +1,5 @@
 use Rattle.std.proofs.Common.{◌≡◌, ◌+◌, ◌≤◌, drop, min, map}
-use Rattle.lib_spawn.specs.StackPage.{strings_size}
+use Rattle.jos_elf.specs.StackPage.{strings_size}
 use Rattle.lib_spawn.proofs.stack.strings_size.Given as goal
 
 abbrev pub invariant-loop-word : goal.invariant-loop-word

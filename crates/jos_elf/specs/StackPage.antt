@@ -5,7 +5,7 @@
 use Rattle.std.specs.Prelude.{ℕ, ◌+◌, ◌-◌, ◌*◌, ◌/◌, ◌&&◌, nat_le, Bool, List, [], ◌∷◌, ◌++◌, length, replicate}
 use Rattle.jos_base.specs.declared.numbers.TheConstants.{PGSIZE, USTACKTOP}
 use Rattle.jos_base.specs.TrapFrames.{bytes_of_words}
-use Rattle.lib_spawn.specs.declared.stack.TheConstants.{ARGS_MAX}
+use Rattle.jos_elf.specs.declared.numbers.TheConstants.{ARGS_MAX}
 
 -- the words one after another, a 0 behind each
 unfoldable pub strings_of : List (List ℕ) → List ℕ

@@ -1,0 +1,3 @@
+pub mod FinishingStages
+pub mod UndoingStages
+pub mod BirthStages

@@ -1,0 +1,4 @@
+pub mod ChildNexts
+pub mod ChildSegments
+pub mod BearingStages
+pub mod RecordLaws

@@ -1,0 +1,3 @@
+pub mod GivenFalls
+pub mod WordBytes
+pub mod PageFits
