@@ -2,11 +2,13 @@
 
     python3 bench/compare.py [COUNT [SEED]]
     python3 bench/compare.py run [COUNT [SEED]]
+    python3 bench/compare.py spawn [COUNT [SEED]]
     python3 bench/compare.py instructions [COUNT [SEED]]
 
 Each of COUNT runs (1,000 without a word) has 1 to 4 images of random calls, reads and writes, which tell at their end
 what their answers were and what the windows show, under a random schedule; with `run` it has one program under the
-library, of random services, reads and writes, and more often than not with children, on a random disk; with `instructions` one of
+library, of random services, reads and writes, and more often than not with children, on a random disk, with `spawn` always one that starts
+files of the disk; with `instructions` one of
 random instructions of every kind, which tells its registers and flags behind each few of them, and its pages at its end. Console and notes have
 to be the same, and under the library the disk behind the run, byte by byte. What differs is told with its seed, and left in a folder; the status
 is then 1. It wants out/jos, which ./jos builds.
@@ -24,6 +26,7 @@ from instruction_programs import InstructionProgram
 from library_model import Run
 from library_programs import FileProgram, ForkProgram, LibraryProgram, PipeProgram, random_words
 from model import EXCEPTION_STACK, Kernel, UENVS, UPAGES, UTOP, UVPT
+from spawn_programs import SpawnProgram, children
 
 PROGRAM = pathlib.Path(__file__).resolve().parent.parent / "out" / "jos"
 LOG = 0x801000  # where a program keeps its answers
@@ -192,17 +195,29 @@ def random_files(chance):
             return disk, records, paths
 
 
+def with_children(disk, records, paths, images):
+    """Records and paths with those of images, as many as the disk has room for."""
+    more = b""
+    for name, content in images.items():
+        if len(disk.free) > 20 + len(content) // BLOCK:
+            more += disk.record(name, content, 0)
+            paths = [*paths, name]
+    return records + more.ljust(-(-len(more) // BLOCK) * BLOCK, b"\0"), paths
+
+
 def with_image(disk, records, content):
     """The disk with an image in its root, behind the other records."""
     return disk.finish(disk.record(b"/", records + disk.record(b"image", content, 0).ljust(BLOCK, b"\0"), 1))
 
 
-def compare_library(seed, folder):
-    """The same of a program under the library, which stands on a disk."""
+def compare_library(seed, folder, kind=None):
+    """The same of a program under the library, which stands on a disk, and may start others that stand there."""
     chance = random.Random(seed)
-    kind = chance.choice([LibraryProgram, LibraryProgram, ForkProgram, ForkProgram, FileProgram, FileProgram, PipeProgram, PipeProgram])
+    kind = chance.choice([LibraryProgram, ForkProgram, FileProgram, PipeProgram, SpawnProgram] if kind is None else [kind])
     forks = kind is not LibraryProgram
     disk, records, paths = random_files(chance)
+    if kind is SpawnProgram:
+        records, paths = with_children(disk, records, paths, children(chance))
     program = kind(chance, paths)
     content = program.build()
     frames = Run.wanted_frames(content) + chance.choice([0, 1, 20, 60, 500])
@@ -211,9 +226,11 @@ def compare_library(seed, folder):
     console_input = bytes(chance.choice([4, 0, 10, 255, *range(32, 127)]) for _ in range(chance.choice([0, 1, 2, 5, 20])))
     if kind is PipeProgram:
         frames, steps = frames + chance.choice([0, 100, 500, 500]), chance.choice([20000, 60000, 200000])
-        if chance.random() < 0.7:
-            # so that the end of a pipe is seen
-            schedule = [max(each, 16) for each in schedule]
+    if kind in (PipeProgram, SpawnProgram) and chance.random() < 0.7:
+        # so that the end of a pipe is seen
+        schedule = [max(each, 16) for each in schedule]
+    if kind is SpawnProgram:
+        frames, steps = frames + chance.choice([0, 20, 60, 100, 500]), chance.choice([60000, 300000, 1000000])
     if kind is FileProgram:
         frames, steps = frames + chance.choice([0, 500, 500, 500]), chance.choice([20000, 200000, 1000000])
     if forks and program.fills_table:
@@ -252,8 +269,9 @@ def compare_instructions(seed, folder):
 def main():
     numbers = sys.argv[1:]
     compare_one = compare
-    if numbers[:1] in (["run"], ["instructions"]):
-        compare_one = compare_library if numbers.pop(0) == "run" else compare_instructions
+    kinds = {"run": compare_library, "spawn": lambda *words: compare_library(*words, SpawnProgram), "instructions": compare_instructions}
+    if numbers[:1] and numbers[0] in kinds:
+        compare_one = kinds[numbers.pop(0)]
     count = int(numbers[0]) if numbers else 1000
     first = int(numbers[1]) if len(numbers) > 1 else 0
     ends = collections.Counter()

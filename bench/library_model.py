@@ -5,7 +5,7 @@
 
 DISK stays as it is; as the run leaves it, it goes to the file that --left names.
 
-It is written after docs/library.md, and shares nothing with the code: the fence, the services 0 to 20, each with its
+It is written after docs/library.md, and shares nothing with the code: the fence, the services 0 to 21, each with its
 refusals and its steps, the handler of page faults, which copies a page that waits for that or ends the program, turns, and the end of a
 run, behind which the disk has what the file server has done.
 The processor is that of processor.py, with every instruction, the frames are those of model.py, and the file server is that of server_model.py.
@@ -24,6 +24,7 @@ from model import P, PAGE_SIZE, QUANTUM, SLOTS, STACK_TOP, TURN_MAX, U, W, Frame
 from processor import Processor
 from server_model import BAD_PATH, DEVICE, FILE, LONGEST_PATH, MAX_OPEN, MODE, NUMBER, OPEN, READ, REMOVE, REQUEST_BYTES, REQUEST_COUNT
 from server_model import REQUEST_MODE, REQUEST_NUMBER, SEEK, SET_SIZE, STAT, SYNC, WRITE, FileServer
+from spawn_model import Spawn
 
 SHARED, COPIED = 0x400, 0x800  # bits of an entry: its page is shared, or is copied when it is written
 KEPT = P | U | W | AVAILABLE  # the bits of an entry that a call gives
@@ -129,6 +130,7 @@ class Environment:
         self.processor = Processor(0, 0, {SERVICE})
         self.service = None  # its number, with the stage and what it has found out
         self.stage, self.found = "entered", ()
+        self.spawning = None  # spawn, where it is its service
         self.fault = None  # that the handler has: the error code, the address, and that of the instruction
         self.beneath = None  # the stage of the service that has raised it, and what that has found out
         self.runs = 0  # the turns that it has had
@@ -284,6 +286,8 @@ class Run:
             self.dup(edx, ecx)
         elif service == 20:
             self.pipe()
+        elif service == 21:
+            self.spawn(edx, ecx)
         else:
             self.now.answer(-INVALID)
 
@@ -1111,6 +1115,21 @@ class Run:
             self.now.go_on("region", child.id, (page >> 10) - 1)
         else:
             self.now.go_on("stack", child.id)
+
+    # ---- spawn
+
+    def spawn(self, path, argv):
+        """One call of it, or what a call of it raises; an access that is refused goes to the handler, which ends the program."""
+        if self.now.stage == "entered":
+            self.now.spawning = Spawn(self, path, argv)
+            self.now.go_on("spawning")
+        try:
+            answer = self.now.spawning.step()
+        except PageFault as fault:
+            self.page_fault(fault.error, fault.address, self.now.processor.eip)
+        else:
+            if answer is not None:
+                self.now.answer(answer)
 
     # ---- page faults
 

@@ -11,7 +11,7 @@ from typing import Callable
 
 from machine import EBX, ECX, EDI, EDX, ESI
 from model import PAGE_SIZE, UTOP
-from server_model import OPEN, READ, REMOVE, SEEK, SET_SIZE, STAT, SYNC, WRITE
+from server_model import OPEN, READ, READ_AT, REMOVE, SEEK, SET_SIZE, STAT, SYNC, WRITE
 
 REGISTERS = ("eax", "ecx", "edx", "ebx", "esp", "ebp", "esi", "edi")
 FLAGS = (
@@ -19,7 +19,8 @@ FLAGS = (
 )
 ERRORS = {
     2: "E_BAD_ENV", 3: "E_INVAL", 4: "E_NO_MEM", 5: "E_NO_FREE_ENV", 7: "E_IPC_NOT_RECV", 9: "E_NO_DISK",
-    10: "E_MAX_OPEN", 11: "E_NOT_FOUND", 12: "E_BAD_PATH", 13: "E_FILE_EXISTS", 15: "E_NOT_SUPP",
+    10: "E_MAX_OPEN", 11: "E_NOT_FOUND", 12: "E_BAD_PATH", 13: "E_FILE_EXISTS", 14: "E_NOT_EXEC",
+    15: "E_NOT_SUPP",
 }
 GREATEST_ERROR = max(ERRORS)
 BITS = (
@@ -32,12 +33,13 @@ MODES = ((0x100, "O_CREAT"), (0x200, "O_TRUNC"), (0x400, "O_EXCL"))
 STATUSES = {0: "ENV_FREE", 2: "ENV_RUNNABLE", 3: "ENV_RUNNING", 4: "ENV_NOT_RUNNABLE"}
 REQUESTS = {
     OPEN: "open", READ: "read", WRITE: "write", STAT: "stat", REMOVE: "remove", SYNC: "sync", SEEK: "seek",
-    SET_SIZE: "set_size",
+    SET_SIZE: "set_size", READ_AT: "read_at",
 }
 TRAPS = {0: "a division", 3: "a breakpoint", 6: "no instruction of the profile", 13: "what a program may not do"}
 PAGE_FAULT = 14
 CAME = {0: "", 1: ", with a page to read", 2: ", with a page to write"}  # what receive tells of a page
 PATH_SHOWN = 128  # bytes of a path
+WORDS_SHOWN = 16  # words of a program
 END_OF_INPUT = 4  # what cgetc answers there
 FRAME_BYTES, STAT_BYTES = 68, 136  # what env_set_trapframe reads, and what stat tells
 DECIMAL = 65536  # numbers below are decimal
@@ -213,6 +215,18 @@ def buffer(start, length):
     return lambda registers, sight: ": " + sight.text(registers[start], registers[length])
 
 
+def words_given(registers, sight):
+    """The words of spawn, whose addresses stand in a list."""
+    words, at = [], registers[ECX]
+    while len(words) < WORDS_SHOWN and len(content := sight.bytes(at, 4)) == 4:
+        (address_of_word,) = struct.unpack("<I", content)
+        if address_of_word == 0:
+            return f", [{', '.join(words)}]"
+        words.append(sight.path(address_of_word))
+        at += 4
+    return f", [{', '.join([*words, '..'])}]"
+
+
 def frame(registers, sight):
     """The registers that env_set_trapframe reads."""
     content = sight.bytes(registers[ECX], FRAME_BYTES)
@@ -308,6 +322,7 @@ SERVICES = {
     18: Form("sync"),
     19: Form("dup", ((EDX, FD), (ECX, named("as", descriptor)))),
     20: Form("pipe", answered=answers_pipe),
+    21: Form("spawn", path=True, behind=words_given, answered=answers_id),
 }
 
 

@@ -16,6 +16,7 @@ use Rattle.lib_read.specs.StatStages.{stat_at, telling}
 use Rattle.lib_request.specs.OpenStages.{open_at, opening}
 use Rattle.lib_request.specs.RemoveStages.{remove_at, removing}
 use Rattle.lib_request.specs.SyncStages.{sync_at, syncing}
+use Rattle.lib_spawn.specs.SpawnParts.{spawn_at, spawning}
 use Rattle.lib_spawn.specs.WaitStages.{wait_at, waiting}
 use Rattle.lib_write.specs.WriteStages.{write_at, writing}
 use Rattle.jos_run.specs.declared.services.ServiceStage.{ServiceStage}
@@ -38,6 +39,7 @@ plan_of (stage.Stat it) = telling it
 plan_of (stage.Sync it) = syncing it
 plan_of (stage.Remove it) = removing it
 plan_of (stage.Open it) = opening it
+plan_of (stage.Spawn it) = spawning it
 plan_of (stage.Nowhere it) = nowhere
 
 -- a service at a step
@@ -58,4 +60,5 @@ plan_at (service.SetSize fd size) step = or_nowhere offsetting (offset_at (of.Se
 plan_at service.Sync step = or_nowhere syncing (sync_at step)
 plan_at (service.Remove path) step = or_nowhere removing (remove_at path step)
 plan_at (service.OpenFile path mode) step = or_nowhere opening (open_at path mode step)
+plan_at (service.Spawn path argv) step = or_nowhere spawning (spawn_at path argv step)
 plan_at other step = or_nowhere memory_plan (memory_service other)

@@ -16,6 +16,10 @@ use Rattle.lib_os.specs.declared.place.Step.{Step}
 use Rattle.lib_os.specs.declared.place.Step.TheVariants as step
 use Rattle.lib_os.specs.declared.progress.Progress.{Progress}
 use Rattle.lib_os.specs.declared.service.Service.{Service}
+use Rattle.lib_os.specs.declared.service.Service.TheVariants as service
+use Rattle.lib_os.specs.declared.spawn_steps.GivenStep.{GivenStep}
+use Rattle.lib_os.specs.declared.spawn_steps.GivenStep.TheVariants as given
+use Rattle.lib_os.specs.declared.spawn_steps.SpawnStep.TheVariants as spawn
 use Rattle.lib_os.specs.Disk.{Disk}
 use Rattle.lib_os.specs.LibrarySteps.{GivesUp, Leaves, Lowers, TakesByPlace, is_to_copy}
 use Rattle.lib_os.specs.Places.{place_of}
@@ -23,6 +27,8 @@ use Rattle.lib_os.specs.Rows.{rows_of}
 use Rattle.lib_os.specs.StandsFor.{writes_buffer}
 use Rattle.lib_os.specs.StandsInHandler.{buffer_of}
 use Rattle.lib_os.specs.UserCalls.{is_file_server}
+use Rattle.lib_file.specs.Keeping.{next_va}
+use Rattle.lib_given.specs.Addresses.{address_va}
 use Rattle.jos_run.specs.declared.steps.StepOutcome.{StepOutcome}
 use Rattle.jos_run.specs.GuestSteps.{guest_instruction}
 use Rattle.jos_run.specs.ServerStands.{LeavesServed}
@@ -69,12 +75,22 @@ refused_line s n service done =
     let va = next_byte service done in
     fault_line s n (access_error (is_some (entry_at s n va)) (writes_buffer service)) va
 
--- the trap that a step of a service raises, which moves bytes of the console or of a file
+-- that where spawn can't load a byte of what the program gives
+abbrev pub unread_line : KernelState → ℕ → ℕ → TrapLine
+unread_line s n va = fault_line s n (access_error (is_some (entry_at s n va)) false) va
+
+abbrev pub raised_by_given : KernelState → ℕ → Service → GivenStep → Option TrapLine
+raised_by_given s n (service.Spawn path argv) (given.AddressFaulting index done) = Some (unread_line s n (address_va argv index done))
+raised_by_given s n (service.Spawn path argv) (given.StringFaulting address done) = Some (unread_line s n (next_va address done))
+raised_by_given s n _ _ = None
+
+-- the trap that a step of a service raises, which moves bytes of the console or of a file, or takes what a program gives
 abbrev pub raised_by : KernelState → ℕ → Service → Step → Option TrapLine
 raised_by s n service (step.Delivering done word) = copied_line s n service done
 raised_by s n service (step.PuttingBytes done count word) = copied_line s n service done
 raised_by s n service (step.Faulting done word) = Some (refused_line s n service done)
 raised_by s n service (step.FileFaulting done count) = Some (refused_line s n service done)
+raised_by s n service (step.Spawning (spawn.Given at)) = raised_by_given s n service at
 raised_by s n service _ = None
 
 -- A step of a program is its instruction, with the trap that this raises, if it raises one; so may an access of a service.

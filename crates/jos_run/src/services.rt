@@ -13,7 +13,7 @@ use lib_os::{Service, Step};
 use lib_pipe::Pipe;
 use lib_read::{Read, Stat};
 use lib_request::{Open, Remove, Sync};
-use lib_spawn::Wait;
+use lib_spawn::{Spawn, Wait};
 use lib_stage::{Ask, Next, Nowhere, Planned};
 use lib_write::Write;
 
@@ -36,6 +36,7 @@ pub(crate) enum ServiceStage {
     Sync(Sync),
     Remove(Remove),
     Open(Open),
+    Spawn(Spawn),
     /// The service has not this step.
     Nowhere(Nowhere),
 }
@@ -117,6 +118,10 @@ pub(crate) fn stage_of(service: Service, step: Step) -> ServiceStage
             Some(open) => ServiceStage::Open(open),
             None => ServiceStage::Nowhere(Nowhere),
         },
+        Service::Spawn { path, argv } => match Spawn::at_step(path, argv, step) {
+            Some(spawn) => ServiceStage::Spawn(spawn),
+            None => ServiceStage::Nowhere(Nowhere),
+        },
         _ => match MemoryService::of(service) {
             Some(memory) => ServiceStage::Memory(memory),
             None => ServiceStage::Nowhere(Nowhere),
@@ -147,6 +152,7 @@ impl Planned for ServiceStage {
             ServiceStage::Sync(sync) => sync.number(),
             ServiceStage::Remove(remove) => remove.number(),
             ServiceStage::Open(open) => open.number(),
+            ServiceStage::Spawn(spawn) => spawn.number(),
             ServiceStage::Nowhere(nowhere) => nowhere.number(),
         }
     }
@@ -169,6 +175,7 @@ impl Planned for ServiceStage {
             ServiceStage::Sync(sync) => sync.ask(),
             ServiceStage::Remove(remove) => remove.ask(),
             ServiceStage::Open(open) => open.ask(),
+            ServiceStage::Spawn(spawn) => spawn.ask(),
             ServiceStage::Nowhere(nowhere) => nowhere.ask(),
         }
     }
@@ -191,6 +198,7 @@ impl Planned for ServiceStage {
             ServiceStage::Sync(sync) => sync.next(called),
             ServiceStage::Remove(remove) => remove.next(called),
             ServiceStage::Open(open) => open.next(called),
+            ServiceStage::Spawn(spawn) => spawn.next(called),
             ServiceStage::Nowhere(nowhere) => nowhere.next(called),
         }
     }

@@ -17,7 +17,7 @@ ghost use Rattle.lib_os.specs.Rows.{rows_of};
 ghost use Rattle.lib_os.specs.StandsFor.{writes_buffer};
 ghost use Rattle.lib_os.specs.StandsInHandler.{AreSmall, buffer_of};
 ghost use Rattle.jos_run.specs.GuestSteps.{is_copying};
-ghost use Rattle.jos_run.specs.Steps.{entry_at, fault_line, is_awake, is_servers, raised_again, raised_by, step_progress};
+ghost use Rattle.jos_run.specs.Steps.{entry_at, fault_line, is_awake, is_servers, raised_again, raised_by, raised_by_given, step_progress, unread_line};
 ghost use Rattle.jos_run.specs.StepsAtOnce.{came_to, MakesSteps};
 ghost use Rattle.jos_run.specs.Worlds.{world_of};
 
@@ -29,7 +29,10 @@ use jos_cpu::{Decodings, Event, Gates, make_burst};
 use jos_host::{Failed, Host};
 use jos_kernel::TrapLine;
 use lib_fault::PageFaultHandler;
-use lib_os::{HandlerStep, PTE_COW, Place, Progress, Service, Step, UserOs, find_place};
+use lib_given::address_va;
+use lib_os::{
+    GivenStep, HandlerStep, PTE_COW, Place, Progress, Service, SpawnStep, Step, UserOs, find_place,
+};
 use lib_stage::drive;
 
 /// What a step has come to, and the trap that it raised, if it raised one.
@@ -219,6 +222,31 @@ impl Served {
         }
     }
 
+    /// The page fault of spawn, where it can't load the byte at an address.
+    fn unread_line(&self, va: u32) -> TrapLine
+        requires { is_live (slot_at (kernel_state self.now) self.now.slot) ≡ true }
+        ensures { result ≡ unread_line (kernel_state self.now) self.now.slot va }
+    {
+        let present = if self.is_there(va) { FEC_PR } else { 0 };
+        self.fault_line(FEC_U + present, va)
+    }
+
+    /// The trap that spawn raises with what the program gives, if it raises one.
+    fn raised_by_given(&self, service: Service, step: GivenStep) -> Option<TrapLine>
+        requires { is_live (slot_at (kernel_state self.now) self.now.slot) ≡ true }
+        ensures { result ≡ raised_by_given (kernel_state self.now) self.now.slot service step }
+    {
+        match (service, step) {
+            (Service::Spawn { argv, .. }, GivenStep::AddressFaulting { index, done }) => {
+                Some(self.unread_line(address_va(argv, index, done)))
+            }
+            (Service::Spawn { .. }, GivenStep::StringFaulting { address, done }) => {
+                Some(self.unread_line(address.wrapping_add(done)))
+            }
+            _ => None,
+        }
+    }
+
     /// The trap that a step of a service raises, if it raises one.
     fn raised_by(&self, service: Service, step: Step) -> Option<TrapLine>
         requires { is_live (slot_at (kernel_state self.now) self.now.slot) ≡ true }
@@ -239,6 +267,9 @@ impl Served {
                 let write = if writes_buffer(service) { FEC_WR } else { 0 };
                 Some(self.fault_line(FEC_U + present + write, va))
             }
+            Step::Spawning {
+                at: SpawnStep::Given { at },
+            } => self.raised_by_given(service, at),
             _ => None,
         }
     }

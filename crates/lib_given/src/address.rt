@@ -13,7 +13,7 @@ use lib_stage::{Ask, Next};
 pub(crate) const ARGS_MAX: u32 = jos_elf::ARGS_MAX as u32;
 
 /// Where the next byte of an address of the list is.
-pub(crate) fn address_va(argv: u32, index: u32, done: u32) -> u32
+pub fn address_va(argv: u32, index: u32, done: u32) -> u32
     ensures { result ≡ addresses.address_va argv index done }
 {
     argv.wrapping_add(4 * index.min(ARGS_MAX))

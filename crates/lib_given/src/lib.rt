@@ -13,6 +13,7 @@ mod path;
 mod stack;
 mod string;
 
+pub use address::address_va;
 pub use given::Given;
 pub use laws::page_fits_words;
 pub use path::{PathStage, SpawnPath};

@@ -28,8 +28,8 @@ built_of r built =
     by_built r.eax 11 _ _ (λ is. refl) (λ n11. by_built r.eax 12 _ _ (λ is. refl) (λ n12. by_built r.eax 13 _ _ (λ is. refl) (λ n13.
     by_built r.eax 14 _ _ (λ is. refl) (λ n14. by_built r.eax 15 _ _ (λ is. refl) (λ n15. by_built r.eax 16 _ _ (λ is. refl) (λ n16.
     by_built r.eax 17 _ _ (λ is. refl) (λ n17. by_built r.eax 18 _ _ (λ is. refl) (λ n18. by_built r.eax 19 _ _ (λ is. refl) (λ n19.
-    by_built r.eax 20 _ _ (λ is. refl) (λ n20.
-    let no_number : ⊥ = grind (arith, nat_tests) in absurd no_number)))))))))))))))))))))
+    by_built r.eax 20 _ _ (λ is. refl) (λ n20. by_built r.eax 21 _ _ (λ is. refl) (λ n21.
+    let no_number : ⊥ = grind (arith, nat_tests) in absurd no_number))))))))))))))))))))))
 
 built_service : (r : Regs) → is_built_service (service_of r) ≡ true
 unfolding service_of

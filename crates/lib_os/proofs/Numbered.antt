@@ -54,7 +54,8 @@ numbered r built =
     by_number r.eax 8 _ _ refl (λ n8. by_number r.eax 9 _ _ refl (λ n9. by_number r.eax 10 _ _ refl (λ n10. by_number r.eax 11 _ _ refl (λ n11.
     by_number r.eax 12 _ _ refl (λ n12. by_number r.eax 13 _ _ refl (λ n13. by_number r.eax 14 _ _ refl (λ n14. by_number r.eax 15 _ _ refl (λ n15.
     by_number r.eax 16 _ _ refl (λ n16. by_number r.eax 17 _ _ refl (λ n17. by_number r.eax 18 _ _ refl (λ n18. by_number r.eax 19 _ _ refl (λ n19.
-    by_number r.eax 20 _ _ refl (λ n20. let no_number : ⊥ = grind (arith, nat_tests) in absurd no_number)))))))))))))))))))))
+    by_number r.eax 20 _ _ refl (λ n20. by_number r.eax 21 _ _ refl (λ n21.
+    let no_number : ⊥ = grind (arith, nat_tests) in absurd no_number))))))))))))))))))))))
 
 pub named_again : (r : Regs) (s : Service) → service_of r ≡ s → service_of (record r { eax = number_of s }) ≡ s
 unfolding service_of

@@ -64,15 +64,8 @@ named_so number is_one other_one r = by_test (is_built r.eax) refl
         let off : (r.eax == number) ≡ false = grind (arith, nat_tests, other) in
         other_one ∙ sym off
 
--- spawn is not named, as long as it is not built
 spawn_named : (r : Regs) → (number_of (service_of r) == SERVICE_SPAWN) ≡ (is_built SERVICE_SPAWN && (r.eax == SERVICE_SPAWN))
-unfolding service_of
-spawn_named r = by_test (is_built r.eax) refl
-  where
-    by_test : (t : Bool) → is_built r.eax ≡ t → (number_of (if t then named_service r else service.Unknown) == SERVICE_SPAWN) ≡ false
-    by_test true built =
-        let other : (r.eax == SERVICE_SPAWN) ≡ false = grind (arith, nat_tests) in ap (λ (n : ℕ). n == SERVICE_SPAWN) (numbered r built) ∙ other
-    by_test false none = refl
+spawn_named r = named_so SERVICE_SPAWN refl refl r
 
 none_spawns : (words : List ℕ) → (service_word words == 0) ≡ true → (service_word words == SERVICE_SPAWN + 1) ≡ false
 none_spawns words none = grind (arith, nat_tests)

@@ -47,9 +47,9 @@ last_services r =
 unfoldable pub named_service : Regs → Service
 named_service r = first_services r (last_services r)
 
--- The numbers that name a service so far: that which starts programs is not built yet.
+-- the numbers that name a service
 abbrev pub is_built : ℕ → Bool
-is_built number = nat_le number SERVICE_PIPE
+is_built number = nat_le number SERVICE_SPAWN
 
 unfoldable pub service_of : Regs → Service
 service_of r = if is_built r.eax then named_service r else service.Unknown
@@ -77,5 +77,5 @@ is_built_service (service.Remove path) = true
 is_built_service service.Sync = true
 is_built_service (service.Dup old new) = true
 is_built_service service.Pipe = true
+is_built_service (service.Spawn path argv) = true
 is_built_service service.Unknown = true
-is_built_service _ = false

@@ -63,11 +63,11 @@ pub enum Service {
     Unknown,
 }
 
-/// Whether a number names a service that is built.
+/// Whether a number names a service.
 fn is_built(number: u32) -> bool
     ensures { result ≡ services.is_built number }
 {
-    number <= SERVICE_PIPE
+    number <= SERVICE_SPAWN
 }
 
 /// The service that a program asks for by INT 0x40, with its number in EAX and what it gives in EDX, ECX and EBX.

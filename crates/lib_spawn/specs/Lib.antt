@@ -1,1 +1,2 @@
 pub mod WaitStages
+pub mod SpawnParts

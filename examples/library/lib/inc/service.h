@@ -11,7 +11,7 @@
 
 #define T_SERVICE 0x40
 
-/* those that are built; any other number is answered -E_INVAL */
+/* any other number is answered -E_INVAL */
 enum {
     SERVICE_exit = 0,
     SERVICE_cputs = 1,
@@ -34,6 +34,7 @@ enum {
     SERVICE_sync = 18,
     SERVICE_dup = 19,
     SERVICE_pipe = 20,
+    SERVICE_spawn = 21,
 };
 
 /* errors of the services on files, beside those of error.h */
@@ -43,6 +44,7 @@ enum {
     E_NOT_FOUND = 11,   /* the path leads to no file */
     E_BAD_PATH = 12,    /* the path, or a name in it, is too long */
     E_FILE_EXISTS = 13, /* with O_CREAT and O_EXCL: the file is there */
+    E_NOT_EXEC = 14,    /* the file is no image */
     E_NOT_SUPP = 15,    /* what the descriptor names is no file */
 };
 
@@ -157,5 +159,14 @@ int set_size(uint32_t fd, uint32_t size);
 
 int remove(uint32_t path); /* the file goes from the disk */
 int sync(void);            /* it writes what the disk lacks, and replies: 0 */
+
+/* ---- spawning.c */
+
+/* the most words that a program is given */
+#define ARGS_MAX 16
+
+/* A program of the disk is started in a child: the child's id. At argv stand the addresses of its words, with a 0 behind the last; the first is its
+   name, whatever the path is. The child has the descriptors and the shared pages of the environment. */
+int spawn(uint32_t path, uint32_t argv);
 
 #endif
