@@ -109,7 +109,7 @@ is_steady _ fd given from none = refl
 
 module _ (s : KernelState) (n : ℕ) (service : Service) (from : Step) (live : is_live (slot_at s n) ≡ true)
     (steady : is_pausing (place.InService service from) ≡ false) (stands : place_of (slot_at s n) ≡ place.InService service from) where
-  staged_at : (asks : Ask) (next : ℕ → Next) → is_plain asks ≡ true → frames_of asks ≤ 0 → ((word : ℕ) → Falls service from (next word)) →
+  pub staged_at : (asks : Ask) (next : ℕ → Next) → is_plain asks ≡ true → frames_of asks ≤ 0 → ((word : ℕ) → Falls service from (next word)) →
       IsAt s n (staged service asks next) service from
   staged_at asks next plain few falls = record {
     stands = stands;

@@ -1,3 +1,16 @@
 pub mod GivenFalls
 pub mod WordBytes
 pub mod PageFits
+pub mod GivenLists
+pub mod GivenStays
+pub mod AddressGoes
+pub mod StringGoes
+pub mod KeepingGoes
+pub mod GivenLooks
+pub mod GivenSteps
+pub mod GivenTakes
+pub mod AddressLoads
+pub mod GivenLoads
+pub mod StringLoads
+pub mod StackLists
+pub mod StackGoes

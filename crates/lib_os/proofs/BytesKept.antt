@@ -34,10 +34,10 @@ use Rattle.lib_os.specs.DescriptorPages.{lasting_words, place_page}
 use Rattle.lib_os.specs.Fence.{in_fence, is_buffer}
 use Rattle.lib_os.specs.InOrder.{IsInOrder}
 use Rattle.lib_os.specs.LibraryPages.{LibraryPages, IsOwnWritable, View, keeps_page, HasTaken}
-use Rattle.lib_os.specs.PipeEnds.{EndsStandAt, is_made}
+use Rattle.lib_os.specs.PipeEnds.{EndsStandAt, LocksStand, is_made}
 use Rattle.lib_os.specs.Places.{place_of, words_at}
 use Rattle.lib_os.specs.Rows.{EntryRow, Names, Rows, AreBytes, IsPage, rows_of, logical, page_seen, seen_where, shown_at}
-use Rattle.lib_os.specs.Rows.{is_clients, is_of_descriptor, is_programs, is_shared}
+use Rattle.lib_os.specs.Rows.{descriptor_seen, is_clients, is_of_descriptor, is_programs, is_shared}
 use Rattle.lib_os.specs.StandsFor.{HasChildren, HasServer, StandsForSlot, things_in}
 use Rattle.lib_os.specs.StandsFor.{StandsFor, StandsForBorn, StandsAt, StandsAtStep, view_of, HasTakenFrom, IsKeeping, IsTaking, borne_in}
 use Rattle.lib_os.specs.StandsFor.{refuses_next, seen_unless}
@@ -68,6 +68,19 @@ use Rattle.jos_base.proofs.Maps.{upd-at, upd-other}
 use Rattle.jos_base.proofs.Puts.{Elsewhere}
 
 -- ---- the bytes of a page that nobody sees
+
+-- All that stands beside what the environment in a slot is at its place, where one of its pages that nobody sees has other bytes.
+pub record StandsBeside (names : Names) (s : KernelState) (a : AbstractState) (sp : SpacesState) (n : ℕ) : Type 0 where
+  pub others : ((m : ℕ) → m ≢ n → CountsKept s.spaces sp (slot_at s m)) → (m : ℕ) → m ≢ n → StandsForSlot names sp (slot_at s m) (a.slots m)
+  pub children : HasChildren names sp s.environments.slots a.slots
+  pub entries : RowsStand names sp.pages a.shared (things_in (with_spaces s sp) a) a.next_name (logical sp s.environments.slots)
+  pub locks : LocksStand sp.pages s.environments.slots (logical sp s.environments.slots)
+  pub server : HasServer sp (slot_at s 0) a.opened a.files.blocks a.server
+  pub rows : rows_of sp ≡ rows_of s.spaces
+  pub regions : (d r : ℕ) → is_some (sp.regions d r) ≡ is_some (s.spaces.regions d r)
+  pub memory : (q : ℕ) → page_seen names sp (slot_at s n).directory q ≡ page_seen names s.spaces (slot_at s n).directory q
+  pub descriptors : (fd : ℕ) → descriptor_seen names sp (slot_at s n).directory fd ≡ descriptor_seen names s.spaces (slot_at s n).directory fd
+  pub in_order : IsInOrder (with_spaces s sp)
 
 -- A page of an environment's own, which may be written and is neither its program's nor a descriptor's, has other bytes.
 module _ {names : Names} {s : KernelState} {a : AbstractState} {sp : SpacesState} (h : StandsFor names s a) (n : ℕ) (b : Born)
@@ -243,6 +256,20 @@ module _ {names : Names} {s : KernelState} {a : AbstractState} {sp : SpacesState
 
   rows_so : RowsStand names sp.pages a.shared (things_in (with_spaces s sp) a) a.next_name (logical sp s.environments.slots)
   rows_so = rows_turned {things = things_in s a} (ap (λ (rows : Rows). rows (slot_at s 0).directory) rewritten.rows) rows_kept
+
+  pub stands_beside : StandsBeside names s a sp n
+  stands_beside = record {
+    others = λ counts m ne. other_stands counts m ne (a.slots m) refl (h.slots m);
+    children = children_so;
+    entries = rows_so;
+    locks = locks_same (λ m. refl) (λ m q pipes. counts_kept m q) (λ m q x pipes hx shared_page. counted_bytes m q x hx shared_page) h.locks;
+    server = server_so;
+    rows = rewritten.rows;
+    regions = rewritten.regions;
+    memory = memory_kept;
+    descriptors = descriptors_off names names s.spaces sp d p other shown_kept;
+    in_order = in_order;
+  }
 
   -- The same is so of it, where it stands so at its place.
   pub unseen_rewritten : ((m : ℕ) → m ≢ n → CountsKept s.spaces sp (slot_at s m)) →

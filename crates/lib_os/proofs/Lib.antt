@@ -195,3 +195,10 @@ pub mod PipeEndsStored
 pub mod PipeMade
 pub mod PipeOwners
 pub mod PipeFalls
+pub mod UnseenMoved
+pub mod PagesPut
+pub mod SpawnOwnPages
+pub mod SpawnTakesPages
+pub mod SpawnPagesTaken
+pub mod SpawnGathers
+pub mod SpawnGivesBack

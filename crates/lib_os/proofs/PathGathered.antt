@@ -53,7 +53,7 @@ use Rattle.lib_os.proofs.WindowWords.{read_at}
 -- ---- bytes of a path
 
 -- those that lie at a multiple of four with the first lie in the fence with it
-word_inside : (va i : ℕ) → va % 4 ≡ 0 → i < 4 → is_inside va ≡ true → is_inside (va + i) ≡ true
+pub word_inside : (va i : ℕ) → va % 4 ≡ 0 → i < 4 → is_inside va ≡ true → is_inside (va + i) ≡ true
 unfolding in_fence
 word_inside va i aligned lt inside = grind (arith, nat_tests)
 

@@ -61,7 +61,7 @@ module _ (b after : Born) (found_kept : after.spawning ≡ b.spawning) where
   pub quotes_kept : {name left taken : List ℕ} {words : List (List ℕ)} {stage : Stage} → Quotes b name left words taken stage →
       Quotes after name left words taken stage
   quotes_kept (behind_addresses name addresses taken found whole last) = behind_addresses name addresses taken (found_kept ∙ found) whole last
-  quotes_kept (amid_word name left words taken found no_end) = amid_word name left words taken (found_kept ∙ found) no_end
+  quotes_kept (amid_word name address left words taken found no_end) = amid_word name address left words taken (found_kept ∙ found) no_end
   quotes_kept (behind_word name address left words taken found ended) = behind_word name address left words taken (found_kept ∙ found) ended
 
 -- ---- its pages
@@ -128,6 +128,8 @@ module _ (v w : View) (row : w.row ≡ v.row) where
     few = h.few;
     whole = h.whole;
     small = h.small;
+    size = h.size;
+    passed = h.passed;
     esp = h.esp;
     stack = stack_kept own image.words h.esp h.stack;
   }
@@ -259,6 +261,7 @@ module _ (v w : View) (row : w.row ≡ v.row) (told : SameTold v w) (given_own :
       are = h.are;
       many = h.many;
       most = h.most;
+      room = h.room;
       small = h.small;
     }
 
@@ -276,6 +279,7 @@ module _ (v w : View) (row : w.row ≡ v.row) (told : SameTold v w) (given_own :
       kept = path_page_kept v w row path_own SPAWN_ADDRESSES _ h.kept;
       are = h.are;
       few = h.few;
+      reached = h.reached;
       left_is = h.left_is;
       many = h.many;
       used_is = h.used_is;
@@ -283,6 +287,7 @@ module _ (v w : View) (row : w.row ≡ v.row) (told : SameTold v w) (given_own :
       short = h.short;
       small = h.small;
       small_words = h.small_words;
+      no_ends = h.no_ends;
       strings = given_page_kept v w row given_own _ h.strings;
     }
 
@@ -314,13 +319,14 @@ module _ (v w : View) (row : w.row ≡ v.row) (told : SameTold v w) (given_own :
       word_is = h.word_is;
       small = h.small;
       small_words = h.small_words;
+      no_ends = h.no_ends;
       no_end = h.no_end;
       strings = given_page_kept v w row given_own _ h.strings;
     }
 
     wrongly_kept : (stage : Stage) → IsGivenWrongly b path argv stage → IsGivenWrongly born_after path argv stage
-    wrongly_kept stage (address_outside name addresses taken _ lists few outside) =
-        address_outside name addresses taken stage (lists_kept b born_after refl lists) few outside
+    wrongly_kept stage (address_outside name addresses taken _ lists are few outside) =
+        address_outside name addresses taken stage (lists_kept b born_after refl lists) are few outside
     wrongly_kept stage (too_many name addresses word _ lists many some) =
         too_many name addresses word stage (lists_kept b born_after refl lists) many some
     wrongly_kept stage (string_outside name left taken words address _ quotes outside) =
@@ -338,6 +344,7 @@ module _ (v w : View) (row : w.row ≡ v.row) (told : SameTold v w) (given_own :
       path_kept = path_kept v w row path_own h.name h.path_kept;
       fits = h.fits;
       small_words = h.small_words;
+      no_ends = h.no_ends;
     }
 
     abbrev strings_kept : (count size : ℕ) → HasStrings v k b path argv count size → HasStrings w slot_after born_after path argv count size
@@ -353,7 +360,7 @@ module _ (v w : View) (row : w.row ≡ v.row) (told : SameTold v w) (given_own :
         IsStacking w slot_after born_after path argv count size index copied addressed
     stacking_kept count size index copied addressed h = record {
       has = strings_kept count size h.has;
-      index_is = h.index_is;
+      lies = h.lies;
       most = h.most;
       kept = stack_page_kept v w row stack_own _ h.kept;
     }
@@ -380,7 +387,7 @@ module _ (v w : View) (row : w.row ≡ v.row) (told : SameTold v w) (given_own :
         (listing_kept index done word h.0, may_load_kept v w row (address_place argv index done) h.1)
     given_stands_kept (given.AddressFaulting index done) h =
         ((h.0.0, listing_kept index done h.0.0 h.0.1), may_not_load_kept v w row (address_place argv index done) h.1)
-    given_stands_kept (given.AddressKeeping index word) h = address_kept index word h
+    given_stands_kept (given.AddressKeeping index word) h = (address_kept index word h.0, may_load_kept v w row (address_place argv index 3) h.1)
     given_stands_kept (given.StringAddress index used) h = quoting_kept index used 0 h
     given_stands_kept (given.StringRegion index address used done) h = (at_string_kept index address used done h.0, h.1)
     given_stands_kept (given.StringEntry index address used done) h =
@@ -396,7 +403,7 @@ module _ (v w : View) (row : w.row ≡ v.row) (told : SameTold v w) (given_own :
       may_load_kept v w row (string_place address (done + left - 1)) h.1,
     )
     given_stands_kept (given.TakingStack count size) h = strings_kept count size h
-    given_stands_kept (given.StringFirst count size index copied) h = stacking_kept count size index copied index h
+    given_stands_kept (given.StringFirst count size index copied) h = (stacking_kept count size index copied index h.0, h.1)
     given_stands_kept (given.StringCopying count size index copied) h = stacking_kept count size index copied (index + 1) h
     given_stands_kept (given.StringPutting count size index copied byte) h = (stacking_kept count size index copied (index + 1) h.0, h.1)
     given_stands_kept (given.StoringArgv count size) h = stacked_kept count size _ h
@@ -464,9 +471,9 @@ module _ (v w : View) (row : w.row ≡ v.row) (told : SameTold v w) (given_own :
         IsBefore w slot_after born_after path argv wanted fd count place
     before_kept _ _ _ _ (before_header esp fd size so sized long) =
         before_header esp fd size (has_file_kept esp fd so) (sized_kept v w row told fd size sized) long
-    before_kept _ _ _ _ (before_table esp fd size entry_point headers place words header answer found sized stack begins many at few inside) =
+    before_kept _ _ _ _ (before_table esp fd size entry_point headers place words header answer found sized stack begins many at few inside long passed) =
         before_table esp fd size entry_point headers place words header answer (found_kept _ _ found) (sized_kept v w row told fd size sized)
-        (stack_kept v w row stack_own words esp stack) begins many at few inside
+        (stack_kept v w row stack_own words esp stack) begins many at few inside long passed
     before_kept _ _ _ _ (before_piece fd headers child header done end place so next at) =
         before_piece fd headers child header done end place (filled_kept fd headers child header done so) next at
 
@@ -706,7 +713,7 @@ module _ (v w : View) (row : w.row ≡ v.row) (told : SameTold v w) (given_own :
         (putting_at_kept fd headers child header va done end h.0, h.1, h.2, h.3)
     bearing_kept (bearing.PiecePutting fd headers child header va done end word) h = (putting_at_kept fd headers child header va done end h.0, h.1)
     bearing_kept (bearing.UnmappingHere fd headers child header end) h =
-        record { filled = filled_kept fd headers child header end h.filled; some = h.some }
+        record { filled = filled_kept fd headers child header end h.filled; some = h.some; loaded = h.loaded; ends = h.ends }
 
     -- it is finished
 
@@ -761,7 +768,7 @@ module _ (v w : View) (row : w.row ≡ v.row) (told : SameTold v w) (given_own :
         (sharing_kept fd headers child header page end other _ h.0, h.1)
     finishing_kept (finishing.SharedAddress fd headers child header page end other other_memory) h =
         (sharing_kept fd headers child header page end other _ h.0, h.1)
-    finishing_kept (finishing.RightsPage fd headers child header page end) h = (settling_kept fd headers child header _ h.0, h.1)
+    finishing_kept (finishing.RightsPage fd headers child header page end) h = (settling_kept fd headers child header _ h.0, h.1, h.2)
     finishing_kept (finishing.ChildStack fd child) h = stack_for_kept fd child h
     finishing_kept (finishing.ChildUpcall fd child) h = stack_for_kept fd child h
     finishing_kept (finishing.GivingStack fd child) h = stack_for_kept fd child h

@@ -81,8 +81,9 @@ module _ (a : AbstractState) (n : ℕ) (b : Born) (regs : Regs) (path argv va : 
       by_case _ same (behind_addresses name addresses taken found whole last) short there =
           let all : nat_lt (length taken) 4 ≡ false = grind (arith, nat_tests, whole) in
           rw (found, all, last, same) (string_ends (quoting name (address ∷ left) []) address [] short there)
-      by_case _ same (amid_word name all words taken found no_end) short there =
-          rw (found, same, no_end) (string_ends (quoting name (address ∷ left) words) address taken short there)
+      by_case _ same (amid_word name first rest words taken found no_end) short there =
+          let known : b.spawning ≡ Some (quoting name (address ∷ left) words) = found ∙ ap (λ (l : List ℕ). Some (quoting name l words)) same in
+          rw (known, no_end) (string_ends (quoting name (address ∷ left) words) address taken short there)
       by_case _ same (behind_word name first all words taken found ended) short there =
           rw (found, ended, same) (string_ends (quoting name (address ∷ left) _) address [] short there)
 

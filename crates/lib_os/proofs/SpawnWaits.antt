@@ -21,7 +21,7 @@ use Rattle.lib_os.specs.declared.spawn_steps.TestingStep.{TestingStep}
 use Rattle.lib_os.specs.declared.spawn_steps.TestingStep.TheVariants as testing
 use Rattle.lib_os.specs.declared.spawn_steps.UndoingStep.{UndoingStep}
 use Rattle.lib_os.specs.declared.spawn_steps.UndoingStep.TheVariants as undoing
-use Rattle.lib_os.specs.AbstractState.{Born, Stage, asked, awaiting, in_service, opening}
+use Rattle.lib_os.specs.AbstractState.{Born, ImageRead, Stage, asked, awaiting, in_service, opening}
 use Rattle.lib_os.specs.LibraryPages.{View}
 use Rattle.lib_os.specs.SpawnPages.{keeps_request_page}
 use Rattle.lib_os.specs.SpawnGiven.{Lists, Quotes, amid, amid_word, behind, behind_addresses, behind_path, behind_word}
@@ -48,19 +48,19 @@ lists_unasked (behind name addresses taken found whole) = refl
 pub quotes_unasked : {b : Born} {name left taken : List ℕ} {words : List (List ℕ)} {stage : Stage} → Quotes b name left words taken stage →
     is_unasked stage ≡ true
 quotes_unasked (behind_addresses name addresses taken found whole last) = refl
-quotes_unasked (amid_word name left words taken found no_end) = refl
+quotes_unasked (amid_word name address left words taken found no_end) = refl
 quotes_unasked (behind_word name address left words taken found ended) = refl
 
 wrongly_unasked : {b : Born} {path argv : ℕ} {stage : Stage} → IsGivenWrongly b path argv stage → is_unasked stage ≡ true
-wrongly_unasked (address_outside name addresses taken stage lists few outside) = lists_unasked lists
+wrongly_unasked (address_outside name addresses taken stage lists are few outside) = lists_unasked lists
 wrongly_unasked (too_many name addresses word stage lists many some) = lists_unasked lists
 wrongly_unasked (string_outside name left taken words address stage quotes outside) = quotes_unasked quotes
 wrongly_unasked (string_endless name left taken words address stage quotes long) = quotes_unasked quotes
 wrongly_unasked (no_fit name words stage quotes more) = quotes_unasked quotes
 
-pieces_unasked : {pieces had : List (List ℕ)} {stage : Stage} → HasPieces pieces had stage → is_unasked stage ≡ true
+pieces_unasked : {image : ImageRead} {pieces had : List (List ℕ)} {stage : Stage} → HasPieces image pieces had stage → is_unasked stage ≡ true
 pieces_unasked none_yet = refl
-pieces_unasked (and_last bytes answer) = refl
+pieces_unasked (and_last bytes answer piece rest next long) = refl
 
 -- ---- where it asks, and where it waits
 
@@ -126,7 +126,7 @@ module _ (v : View) (k : Slot) (b : Born) (path argv : ℕ) where
   given_unasked (given.AddressEntry index done word) h = so_far (lists_unasked h.0.lists) h.0.is_in
   given_unasked (given.AddressLoading index done word) h = so_far (lists_unasked h.0.lists) h.0.is_in
   given_unasked (given.AddressFaulting index done) h = so_far (lists_unasked h.0.1.lists) h.0.1.is_in
-  given_unasked (given.AddressKeeping index word) h = so_far (lists_unasked h.lists) h.is_in
+  given_unasked (given.AddressKeeping index word) h = so_far (lists_unasked h.0.lists) h.0.is_in
   given_unasked (given.StringAddress index used) h = so_far (quotes_unasked h.quotes) h.is_in
   given_unasked (given.StringRegion index address used done) h = so_far (quotes_unasked h.0.so.quotes) h.0.so.is_in
   given_unasked (given.StringEntry index address used done) h = so_far (quotes_unasked h.0.so.quotes) h.0.so.is_in
@@ -134,7 +134,7 @@ module _ (v : View) (k : Slot) (b : Born) (path argv : ℕ) where
   given_unasked (given.StringFaulting address done) h = so_far (quotes_unasked h.0.2.so.quotes) h.0.2.so.is_in
   given_unasked (given.StringKeeping index address used done word left) h = so_far refl h.0.found.is_in
   given_unasked (given.TakingStack count size) h = so_far (quotes_unasked h.has.quotes) h.has.is_in
-  given_unasked (given.StringFirst count size index copied) h = so_far (quotes_unasked h.has.has.quotes) h.has.has.is_in
+  given_unasked (given.StringFirst count size index copied) h = so_far (quotes_unasked h.0.has.has.quotes) h.0.has.has.is_in
   given_unasked (given.StringCopying count size index copied) h = so_far (quotes_unasked h.has.has.quotes) h.has.has.is_in
   given_unasked (given.StringPutting count size index copied byte) h = so_far (quotes_unasked h.0.has.has.quotes) h.0.has.has.is_in
   given_unasked (given.StoringArgv count size) h = so_far (quotes_unasked h.has.has.quotes) h.has.has.is_in
@@ -158,7 +158,7 @@ module _ (v : View) (k : Slot) (b : Born) (path argv : ℕ) where
 
   before_unasked : (wanted : FilePart) (fd count place : ℕ) → IsBefore v k b path argv wanted fd count place → IsUnasked k b path argv
   before_unasked _ _ _ _ (before_header esp fd size so sized long) = so_far refl so.found.is_in
-  before_unasked _ _ _ _ (before_table esp fd size entry_point headers place words header answer found sized stack begins many at few inside) =
+  before_unasked _ _ _ _ (before_table esp fd size entry_point headers place words header answer found sized stack begins many at few inside long passed) =
       so_far refl found.is_in
   before_unasked _ _ _ _ (before_piece fd headers child header done end place so next at) = so_far (pieces_unasked so.has) so.found.is_in
 

@@ -246,7 +246,7 @@ locks_set {s = s} h n k locked counts =
 
 -- ---- children that are not born
 
-same_space : (names : Names) (sp : SpacesState) (d : ℕ) → SeenAlike names names sp sp d
+pub same_space : (names : Names) (sp : SpacesState) (d : ℕ) → SeenAlike names names sp sp d
 same_space names sp d = record {
   rows = refl;
   bytes = λ p x is own_page. refl;

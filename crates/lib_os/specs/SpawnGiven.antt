@@ -24,8 +24,8 @@ pub data Quotes (b : Born) : List ℕ → List ℕ → List (List ℕ) → List 
   -- all addresses were taken, behind which stands 0
   behind_addresses : (name addresses taken : List ℕ) → b.spawning ≡ Some (listing name addresses) → length taken ≡ 4 →
       word_at (slice_index taken) 0 ≡ 0 → Quotes b name addresses [] [] (taking taken)
-  amid_word : (name left : List ℕ) (words : List (List ℕ)) (taken : List ℕ) → b.spawning ≡ Some (quoting name left words) →
-      has_nul taken ≡ false → Quotes b name left words taken (taking taken)
+  amid_word : (name : List ℕ) (address : ℕ) (left : List ℕ) (words : List (List ℕ)) (taken : List ℕ) →
+      b.spawning ≡ Some (quoting name (address ∷ left) words) → has_nul taken ≡ false → Quotes b name (address ∷ left) words taken (taking taken)
   behind_word : (name : List ℕ) (address : ℕ) (left : List ℕ) (words : List (List ℕ)) (taken : List ℕ) →
       b.spawning ≡ Some (quoting name (address ∷ left) words) → has_nul taken ≡ true →
       Quotes b name left (words ++ before_first is_nul taken ∷ []) [] (taking taken)

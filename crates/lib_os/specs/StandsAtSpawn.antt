@@ -1,6 +1,6 @@
 -- An environment in spawn, behind its path: what its pages have at each step, beside what the abstract system has found out by then.
 use Rattle.std.specs.Prelude.{◌≡◌, ◌≢◌, ◌<◌, ◌≤◌, ◌⊎◌, ℕ, ◌+◌, ◌-◌, ◌*◌, ◌/◌, ◌%◌, ◌^◌, ◌==◌, ◌&&◌, ◌||◌, nat_lt, nat_le, not, min, true, false}
-use Rattle.std.specs.Prelude.{List, [], ◌∷◌, ◌++◌, length, take, drop, map, flat_map, slice_index, All, count_by, Some, None, if◌then◌else◌}
+use Rattle.std.specs.Prelude.{List, [], ◌∷◌, ◌++◌, length, take, drop, map, flat_map, slice_index, All, Some, None, if◌then◌else◌}
 use Rattle.std.specs.Int.{w32, to_le_bytes}
 use Rattle.jos_base.specs.declared.numbers.TheConstants.{E_INVAL, E_MAX_OPEN, FDTABLE, FIRST_ENV_ID, FL_1, FL_IF, NENV, NPTENTRIES, PGSIZE}
 use Rattle.jos_base.specs.declared.numbers.TheConstants.{USTABDATA, USTACKTOP, UTEMP, UTEXT, UTOP}
@@ -45,7 +45,6 @@ use Rattle.lib_os.specs.AbstractState.{closed, dropping, heading, loading, openi
 use Rattle.lib_os.specs.AbstractSpawn.{Piece, all_of, headers_in, packed_at, pieces_left, pieces_of, table_size}
 use Rattle.lib_os.specs.DescriptorPages.{number_of, size_of}
 use Rattle.lib_os.specs.FileServer.{is_count}
-use Rattle.lib_os.specs.FileServices.{is_nul}
 use Rattle.lib_os.specs.Fence.{is_inside}
 use Rattle.lib_os.specs.InService.{EachIsOpenBelow, HasTable, IsLowestFree}
 use Rattle.lib_os.specs.LibraryPages.{View, region_index}
@@ -136,6 +135,7 @@ pub record HasAddress (v : View) (k : Slot) (b : Born) (path argv index word : �
   pub are : All (λ address. (address ≢ 0) × (address < 2 ^ 32)) addresses
   pub many : length addresses ≡ index
   pub most : index ≤ ARGS_MAX
+  pub room : word ≢ 0 → index < ARGS_MAX
   pub small : word < 2 ^ 32
 
 -- so many bytes of the strings are in their page, at most: where they have no room there, none is looked for
@@ -156,6 +156,7 @@ pub record IsQuoting (v : View) (k : Slot) (b : Born) (path argv index used done
   pub kept : HasAddresses v (addresses ++ 0 ∷ [])
   pub are : All (λ address. (address ≢ 0) × (address < 2 ^ 32)) addresses
   pub few : length addresses ≤ ARGS_MAX
+  pub reached : index ≤ length addresses
   pub left_is : left ≡ drop index addresses
   pub many : length words ≡ index
   pub used_is : used ≡ min (strings_size words) (PGSIZE + 1)
@@ -163,6 +164,7 @@ pub record IsQuoting (v : View) (k : Slot) (b : Born) (path argv index used done
   pub short : done ≤ PGSIZE
   pub small : AreBytes taken
   pub small_words : All AreBytes words
+  pub no_ends : All HasNoEnd words
   pub strings : GivenHas v (kept_strings (used + done) (strings_of words ++ taken))
 
 -- the next word's address is this one
@@ -194,13 +196,15 @@ pub record IsKeepingString (v : View) (k : Slot) (b : Born) (path argv index add
   pub word_is : take left (to_le_bytes w32 word) ≡ drop done taken
   pub small : AreBytes taken
   pub small_words : All AreBytes words
+  pub no_ends : All HasNoEnd words
   pub no_end : HasNoEnd (take done taken)
   pub strings : GivenHas v (kept_strings (used + done) (strings_of words ++ take done taken))
 
 -- What it is given is refused: the next byte of an address, or of a string, lies outside of the fence; there is one address more than may be, or
 -- none; a string has no end; or the words need more than a page.
 pub data IsGivenWrongly (b : Born) (path argv : ℕ) : Stage → Type 0 where
-  address_outside : (name addresses taken : List ℕ) (stage : Stage) → Lists b name addresses taken stage → length addresses ≤ ARGS_MAX →
+  address_outside : (name addresses taken : List ℕ) (stage : Stage) → Lists b name addresses taken stage →
+      All (λ address. (address ≢ 0) × (address < 2 ^ 32)) addresses → length addresses ≤ ARGS_MAX →
       is_inside (address_place argv (length addresses) (length taken)) ≡ false → IsGivenWrongly b path argv stage
   too_many : (name addresses : List ℕ) (word : ℕ) (stage : Stage) → Lists b name (addresses ++ word ∷ []) [] stage → length addresses ≡ ARGS_MAX →
       word ≢ 0 → IsGivenWrongly b path argv stage
@@ -220,6 +224,7 @@ pub record HasWords (v : View) (k : Slot) (b : Born) (path argv : ℕ) (words : 
   pub path_kept : HasPath v name
   pub fits : fits_stack words ≡ true
   pub small_words : All AreBytes words
+  pub no_ends : All HasNoEnd words
 
 pub record HasStrings (v : View) (k : Slot) (b : Born) (path argv count size : ℕ) : Type 0 where
   pub words : List (List ℕ)
@@ -234,13 +239,15 @@ stack_so_far words copied index =
     overlaid (overlaid zero_page (PGSIZE - strings_size words) (take copied (strings_of words)))
     (stack_pointer words + 8 - (USTACKTOP - PGSIZE)) (bytes_of_words (take index (addresses_from (USTACKTOP - strings_size words) words)))
 
--- how many strings end within the first so many of these bytes
-abbrev pub ended_within : ℕ → List (List ℕ) → ℕ
-ended_within copied words = count_by is_nul (take copied (strings_of words))
+-- the byte behind so many of the strings' bytes is one of the string of this number
+pub record LiesIn (words : List (List ℕ)) (index copied : ℕ) : Type 0 where
+  pub below : index < length words
+  pub from : strings_size (take index words) ≤ copied
+  pub to : copied < strings_size (take (index + 1) words)
 
 pub record IsStacking (v : View) (k : Slot) (b : Born) (path argv count size index copied addressed : ℕ) : Type 0 where
   pub has : HasStrings v k b path argv count size
-  pub index_is : index ≡ ended_within copied has.words
+  pub lies : LiesIn has.words index copied
   pub most : copied < size
   pub kept : PageHas v (page_number SPAWN_STACK) 0 (stack_so_far has.words copied addressed)
 
@@ -286,7 +293,8 @@ GivenStands v k b path argv (given.AddressLoading index done word) =
     IsListing v k b path argv index done word × MayLoad v (address_place argv index done)
 GivenStands v k b path argv (given.AddressFaulting index done) =
     ((word : ℕ) × IsListing v k b path argv index done word) × MayNotLoad v (address_place argv index done)
-GivenStands v k b path argv (given.AddressKeeping index word) = HasAddress v k b path argv index word
+GivenStands v k b path argv (given.AddressKeeping index word) =
+    HasAddress v k b path argv index word × MayLoad v (address_place argv index 3)
 GivenStands v k b path argv (given.StringAddress index used) = IsQuoting v k b path argv index used 0
 GivenStands v k b path argv (given.StringRegion index address used done) =
     IsAtString v k b path argv index address used done × (is_inside (string_place address done) ≡ true)
@@ -299,7 +307,8 @@ GivenStands v k b path argv (given.StringFaulting address done) =
 GivenStands v k b path argv (given.StringKeeping index address used done word left) =
     IsKeepingString v k b path argv index address used done word left × MayLoad v (string_place address (done + left - 1))
 GivenStands v k b path argv (given.TakingStack count size) = HasStrings v k b path argv count size
-GivenStands v k b path argv (given.StringFirst count size index copied) = IsStacking v k b path argv count size index copied index
+GivenStands v k b path argv (given.StringFirst count size index copied) =
+    (so : IsStacking v k b path argv count size index copied index) × (copied ≡ strings_size (take index so.has.words))
 GivenStands v k b path argv (given.StringCopying count size index copied) = IsStacking v k b path argv count size index copied (index + 1)
 GivenStands v k b path argv (given.StringPutting count size index copied byte) =
     (so : IsStacking v k b path argv count size index copied (index + 1)) × (byte ≡ slice_index (strings_of so.has.words) copied)
@@ -406,20 +415,23 @@ pieces_behind image header done =
 abbrev pub HaveComeTo : ImageRead → ℕ → ℕ → List (List ℕ) → Type 0
 HaveComeTo image header done pieces = length (all_of pieces) ≡ packed_at (headers_in image.table) header + done
 
--- its page has the program headers of its image, and the stack is ready
+-- its page has the program headers of its image, which pass their tests, and the stack is ready
 pub record HasImage (v : View) (image : ImageRead) (headers : ℕ) : Type 0 where
   pub table : GivenHas v image.table
   pub many : headers ≡ entry_count_of (slice_index image.header)
   pub few : headers ≤ ARGS_MAX
   pub whole : length image.table ≡ table_size image.header
   pub small : AreBytes image.table
+  pub size : ℕ
+  pub passed : first_failed (table_tests size (headers_in image.table) headers) ≡ None
   pub esp : ℕ
   pub stack : HasStack v image.words esp
 
--- Nothing is asked for; or the piece that was asked for has come, and the child has its bytes.
-pub data HasPieces (pieces : List (List ℕ)) : List (List ℕ) → Stage → Type 0 where
-  none_yet : HasPieces pieces pieces (taking [])
-  and_last : (bytes : List ℕ) (answer : ℕ) → HasPieces pieces (pieces ++ bytes ∷ []) (replied bytes answer)
+-- Nothing is asked for; or the piece that was asked for has come whole, and the child has its bytes.
+pub data HasPieces (image : ImageRead) (pieces : List (List ℕ)) : List (List ℕ) → Stage → Type 0 where
+  none_yet : HasPieces image pieces pieces (taking [])
+  and_last : (bytes : List ℕ) (answer : ℕ) (piece : Piece) (rest : List Piece) → pieces_left image pieces ≡ piece ∷ rest → length bytes ≡ piece.len →
+      HasPieces image pieces (pieces ++ bytes ∷ []) (replied bytes answer)
 
 -- the child has all bytes in front of these of the segment of a program header
 pub record IsFilled (v : View) (k : Slot) (b : Born) (path argv fd headers child header done : ℕ) : Type 0 where
@@ -428,7 +440,7 @@ pub record IsFilled (v : View) (k : Slot) (b : Born) (path argv fd headers child
   pub had : List (List ℕ)
   pub stage : Stage
   pub found : Found k b path argv stage (loading fd image (child % NENV) pieces)
-  pub has : HasPieces pieces had stage
+  pub has : HasPieces image pieces had stage
   pub of_file : IsOfFile v fd
   pub whole : HasImage v image headers
   pub below : header < headers
@@ -449,7 +461,8 @@ pub data IsBefore (v : View) (k : Slot) (b : Born) (path argv : ℕ) : FilePart 
   before_table : (esp fd size entry_point headers place : ℕ) (words : List (List ℕ)) (header : List ℕ) (answer : ℕ) →
       Found k b path argv (replied header answer) (heading fd words) → IsOfFileWith v fd size → HasStack v words esp →
       entry_point ≡ entry_point_of (slice_index header) → headers ≡ entry_count_of (slice_index header) → place ≡ table_of (slice_index header) →
-      headers ≤ ARGS_MAX → place + PHDR_LEN * headers ≤ size →
+      headers ≤ ARGS_MAX → place + PHDR_LEN * headers ≤ size → length header ≡ EHDR_LEN →
+      first_failed (header_tests size (slice_index header)) ≡ None →
       IsBefore v k b path argv (part.Table esp fd size entry_point headers place) fd (PHDR_LEN * headers) place
   before_piece : (fd headers child header done end place : ℕ) → (so : IsFilled v k b path argv fd headers child header done) →
       IsNextPiece so.image header done end → place ≡ (headers_in so.image.table header).file_at + done →
@@ -736,10 +749,16 @@ pub record IsPuttingAt (v : View) (k : Slot) (b : Born) (path argv fd headers ch
 abbrev pub put_at_once : ℕ → ℕ → ℕ
 put_at_once at wanted = if (at % 4 == 0) && nat_le 4 wanted then 4 else 1
 
+-- a piece of a segment ends behind so many of its bytes
+abbrev pub IsPieceEnd : ℕ → ProgramHeader → Type 0
+IsPieceEnd end header = (end ≤ header.file_len) × (end ≢ header.file_len → end % TRANSFER_MAX ≡ 0)
+
 -- all bytes of the piece are put
 pub record HasPut (v : View) (k : Slot) (b : Born) (path argv fd headers child header end : ℕ) : Type 0 where
   pub filled : IsFilled v k b path argv fd headers child header end
   pub some : 0 < end
+  pub loaded : is_loaded (headers_in filled.image.table header) ≡ true
+  pub ends : IsPieceEnd end (headers_in filled.image.table header)
 
 abbrev pub BearingStands : View → Slot → Born → ℕ → ℕ → BearingStep → Type 0
 BearingStands v k b path argv (bearing.MakingChild esp fd entry_point headers) = IsImage v k b path argv esp fd entry_point headers
@@ -753,7 +772,7 @@ BearingStands v k b path argv (bearing.PlacingPage fd headers child header page 
 BearingStands v k b path argv (bearing.PieceKind fd headers child header) = IsFilling v k b path argv fd headers child header 0 nothing_known
 BearingStands v k b path argv (bearing.PieceMemory fd headers child header) = IsFilling v k b path argv fd headers child header 0 IsOfKind
 BearingStands v k b path argv (bearing.PieceLength fd headers child header done) =
-    IsFilling v k b path argv fd headers child header done (λ one. is_loaded one ≡ true)
+    IsFilling v k b path argv fd headers child header done (λ one. (is_loaded one ≡ true) × IsPieceEnd done one)
 BearingStands v k b path argv (bearing.PieceOffset fd headers child header done end) =
     IsFilling v k b path argv fd headers child header done (HasNext done end)
 BearingStands v k b path argv (bearing.PieceAddress fd headers child header done end) =
@@ -777,7 +796,7 @@ pub record HasAllBytes (v : View) (k : Slot) (b : Born) (path argv fd child : �
   pub had : List (List ℕ)
   pub stage : Stage
   pub found : Found k b path argv stage (loading fd image (child % NENV) pieces)
-  pub has : HasPieces pieces had stage
+  pub has : HasPieces image pieces had stage
   pub none_left : pieces_left image had ≡ []
   pub of_file : IsOfFile v fd
 
@@ -845,7 +864,9 @@ FinishingStands v k b path argv (finishing.SharedMemory fd headers child header 
 FinishingStands v k b path argv (finishing.SharedAddress fd headers child header page end other other_memory) =
     IsSharing v k b path argv fd headers child header page end other (IsWritableOf other_memory) × (other < headers)
 FinishingStands v k b path argv (finishing.RightsPage fd headers child header page end) =
-    IsSettling v k b path argv fd headers child header IsReadOnly × (page < end)
+    (so : IsSettling v k b path argv fd headers child header IsReadOnly) × (page < end)
+    × ((p : ℕ) → page ≤ p → nat_lt p end ≡ (touches p (segment_of (headers_in so.has.image.table header))
+    && not (any_writes p (segments_of (headers_in so.has.image.table) headers))))
 FinishingStands v k b path argv (finishing.ChildStack fd child) = HasStackFor v k b path argv fd child
 FinishingStands v k b path argv (finishing.ChildUpcall fd child) = HasStackFor v k b path argv fd child
 FinishingStands v k b path argv (finishing.GivingStack fd child) = HasStackFor v k b path argv fd child

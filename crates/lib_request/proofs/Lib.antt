@@ -11,3 +11,5 @@ pub mod RemoveLaw
 pub mod StoringLaw
 pub mod Replying
 pub mod SyncLaw
+pub mod OwnPageLaws
+pub mod SpawnGoes
