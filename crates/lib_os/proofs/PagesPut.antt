@@ -150,8 +150,15 @@ module _ {v w : View} {p at : ℕ} {bytes : List ℕ} (it : IsPutIn v w p at byt
 
   -- where all bytes of the page were known, they are with these over them
   pub page_over : {had : List ℕ} → length had ≡ PGSIZE → PageHas v p 0 had → PageHas w p 0 (overlaid had at bytes)
-  page_over {had = had} whole h = it_has 0 (overlaid had at bytes) (λ i lt. by_place i lt (nat_lt i at) refl (nat_lt i (at + length bytes)) refl)
+  page_over {had = had} whole h =
+      it_has 0 (overlaid had at bytes) (λ i lt. ap (slice_index now) (from_none i) ∙ by_place i lt (nat_lt i at) refl (nat_lt i (at + length bytes)) refl)
     where
+      from_none : (i : ℕ) → 0 + i ≡ i
+      from_none i = omega (arith)
+
+      was_there : (i : ℕ) → i < length had → slice_index (v.bytes it.page.entry.frame) i ≡ slice_index had i
+      was_there i lt = ap (slice_index (v.bytes it.page.entry.frame)) (sym (from_none i)) ∙ was_same h i lt
+
       within : at + length bytes ≤ length had
       within = let fits = it.fits in omega (arith, fits, whole)
 
@@ -159,10 +166,10 @@ module _ {v w : View} {p at : ℕ} {bytes : List ℕ} (it : IsPutIn v w p at byt
       long = overlaid_length had at bytes within
 
       by_place : (i : ℕ) → i < length (overlaid had at bytes) → (c : Bool) → nat_lt i at ≡ c → (d : Bool) → nat_lt i (at + length bytes) ≡ d →
-          slice_index now (0 + i) ≡ slice_index (overlaid had at bytes) i
+          slice_index now i ≡ slice_index (overlaid had at bytes) i
       by_place i lt true test d under =
           let low : i < at = grind (arith, nat_tests, test) in
-          put_before (v.bytes it.page.entry.frame) at bytes i low ∙ was_same h i (omega (arith, low, within))
+          put_before (v.bytes it.page.entry.frame) at bytes i low ∙ was_there i (omega (arith, low, within))
           ∙ sym (overlaid_before had at bytes within i low)
       by_place i lt false test true under =
           let later : at ≤ i = grind (arith, nat_tests, test) in
@@ -174,7 +181,7 @@ module _ {v w : View} {p at : ℕ} {bytes : List ℕ} (it : IsPutIn v w p at byt
           ∙ ap (slice_index (overlaid had at bytes)) (sym place)
       by_place i lt false test false under =
           let behind : at + length bytes ≤ i = grind (arith, nat_tests, under) in
-          put_behind (v.bytes it.page.entry.frame) at bytes i behind ∙ was_same h i (omega (arith, lt, long))
+          put_behind (v.bytes it.page.entry.frame) at bytes i behind ∙ was_there i (omega (arith, lt, long))
           ∙ sym (overlaid_behind had at bytes within i behind)
 
   -- a page of which nothing is told

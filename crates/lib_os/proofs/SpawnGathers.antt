@@ -207,8 +207,8 @@ module _ (a : AbstractState) (n : ℕ) (b : Born) (regs : Regs) (path argv : ℕ
   -- what it has found out says nothing of its memory
   pub bytes_spawning : (found : Spawning) (va count : ℕ) → bytes_from a (with_spawning b found) va count ≡ bytes_from a b va count
   unfolding bytes_from
-  bytes_spawning found va zero = refl
-  bytes_spawning found va (suc count) = ap (λ (l : List ℕ). byte_at a b va ∷ l) (bytes_spawning found ((va + 1) % 2 ^ 32) count)
+  bytes_spawning so_far va zero = refl
+  bytes_spawning so_far va (suc count) = ap (λ (l : List ℕ). byte_at a b va ∷ l) (bytes_spawning so_far ((va + 1) % 2 ^ 32) count)
 
 -- ---- the state behind it
 

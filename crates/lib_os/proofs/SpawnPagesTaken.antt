@@ -117,8 +117,11 @@ module _ {names : Names} {s : KernelState} {a : AbstractState} {sp : SpacesState
     entry = new_entry;
     stands = aside_here aside page_puts;
     own_page = refl;
-    same = λ i lt. ap (λ (l : List ℕ). slice_index l i) made.zero;
+    same = λ i lt. ap (slice_index (sp.pages made.frame)) (from_none i) ∙ ap (λ (l : List ℕ). slice_index l i) made.zero;
   }
+    where
+      from_none : (i : ℕ) → 0 + i ≡ i
+      from_none i = omega (arith)
 
   -- the others are what they were
   pub page_others : IsBesidePage (view_of s.spaces d) (view_of sp d) p
