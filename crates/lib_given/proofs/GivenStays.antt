@@ -10,11 +10,12 @@ use Rattle.lib_os.specs.LibraryPages.{View}
 use Rattle.lib_os.specs.StandsAtSpawn.{Found, HasPath, IsIn, IsListing}
 use Rattle.lib_os.proofs.PagesPut.{IsPutIn, page_before, page_beside}
 
-module _ {k : Slot} {b : Born} {path argv : ℕ} (words : List ℕ) where
-  abbrev told : Slot
-  told = record k { extra = words }
+-- an environment whose words are others
+abbrev told : Slot → List ℕ → Slot
+told k words = record k { extra = words }
 
-  pub in_told : {stage : Stage} → IsIn k b path argv stage → IsIn told b path argv stage
+module _ {k : Slot} {b : Born} {path argv : ℕ} (words : List ℕ) where
+  pub in_told : {stage : Stage} → IsIn k b path argv stage → IsIn (told k words) b path argv stage
   in_told h = record {
     regs = h.regs;
     program = h.program;
@@ -25,10 +26,10 @@ module _ {k : Slot} {b : Born} {path argv : ℕ} (words : List ℕ) where
     awake = h.awake;
   }
 
-  pub found_told : {stage : Stage} {found : Spawning} → Found k b path argv stage found → Found told b path argv stage found
+  pub found_told : {stage : Stage} {found : Spawning} → Found k b path argv stage found → Found (told k words) b path argv stage found
   found_told h = record { is_in = in_told h.is_in; is = h.is }
 
-  pub listing_told : {v : View} {index done word : ℕ} → IsListing v k b path argv index done word → IsListing v told b path argv index done word
+  pub listing_told : {v : View} {index done word : ℕ} → IsListing v k b path argv index done word → IsListing v (told k words) b path argv index done word
   listing_told h = record {
     name = h.name;
     addresses = h.addresses;
