@@ -34,7 +34,7 @@ module _ (v : View) (k : Slot) (b : Born) (path argv index done word : ℕ) (h :
   abbrev here : SpawnStep
   here = spawn.Given (given.AddressLoading index done word)
 
-  so : IsListing v k b path argv index done word
+  abbrev so : IsListing v k b path argv index done word
   so = h.0
 
   -- it has taken more

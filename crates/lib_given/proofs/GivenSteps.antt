@@ -241,7 +241,7 @@ module _ (s : KernelState) (n path argv : ℕ) (live : is_live (slot_at s n) ≡
         let at = spawn_there h n path argv (spawn.Given putting) stands in
         let has : GivenStands (view_of s.spaces home) (slot_at s n) at.b path argv putting = at.at in
         let short = has.0.short in
-        let few = used_few has.0.used_is in
+        let few = used_few _ has.0.used_is in
         let same : page_number SPAWN_GIVEN * PGSIZE + (used + done) % PGSIZE ≡ put_at = omega (arith, short, few) in
         let it =
         own_byte_stored h n path argv (spawn.Given putting) stands (page_number SPAWN_GIVEN) refl ((used + done) % PGSIZE) (word % 256) (omega arith)
@@ -251,8 +251,8 @@ module _ (s : KernelState) (n path argv : ℕ) (live : is_live (slot_at s n) ≡
         (λ order. string_kept_goes (view_of s.spaces home) (view_of it.spaces home) (slot_at s n) at.b path argv index address used done word left has
         (it.put order)))
       where
-        used_few : {size : ℕ} → used ≡ min size (PGSIZE + 1) → used ≤ PGSIZE + 1
-        used_few {size = size} is = let most = min-le_right size (PGSIZE + 1) in omega (arith, most, is)
+        used_few : (size : ℕ) → used ≡ min size (PGSIZE + 1) → used ≤ PGSIZE + 1
+        used_few size is = let most = min-le_right size (PGSIZE + 1) in omega (arith, most, is)
 
     pub string_keeping_holds : ServiceHolds s n (giving (record { argv = argv; at = given.StringKeeping index address used done word left }))
     string_keeping_holds =

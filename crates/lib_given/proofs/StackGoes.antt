@@ -56,6 +56,7 @@ module _ {v : View} {k : Slot} {b : Born} {path argv : ℕ} (words : List ℕ) w
 
   pub stacking_told : {count size index copied addressed : ℕ} → IsStacking v k b path argv count size index copied addressed →
       IsStacking v (record k { extra = words }) b path argv count size index copied addressed
+  unfolding strings_told
   stacking_told h = record { has = strings_told h.has; lies = h.lies; most = h.most; kept = h.kept }
 
 module _ (s : KernelState) (n path argv : ℕ) (live : is_live (slot_at s n) ≡ true) (count size index copied : ℕ)

@@ -85,6 +85,8 @@ ends_where (word ∷ rest) none zero copied lies zero_is = by_place (nat_lt copi
 ends_where (word ∷ rest) none (suc index) copied lies zero_is =
     let before = first_long word (take index rest) in
     let behind = first_long word (take (index + 1) rest) in
+    let one_more : suc index + 1 ≡ suc (index + 1) = omega arith in
+    let same = ap (λ (k : ℕ). strings_size (take k (word ∷ rest))) one_more in
     let low = lies.from in
     let high = lies.to in
     let below = lies.below in
@@ -92,5 +94,5 @@ ends_where (word ∷ rest) none (suc index) copied lies zero_is =
     let later : slice_index (strings_of rest) (copied - (length word + 1)) ≡ 0 =
     sym (later_byte word rest (copied - (length word + 1))) ∙ ap (slice_index (strings_of (word ∷ rest))) (sym place) ∙ zero_is in
     let found = ends_where rest (λ k d lt. none (suc k) d (omega (arith, lt))) index (copied - (length word + 1))
-    (record { below = omega (arith, below); from = omega (arith, before, low); to = omega (arith, behind, high, before, low) }) later in
-    omega (arith, found, behind, place)
+    (record { below = omega (arith, below); from = omega (arith, before, low); to = omega (arith, same, behind, high, before, low) }) later in
+    omega (arith, found, same, behind, place)

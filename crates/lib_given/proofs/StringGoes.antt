@@ -62,6 +62,7 @@ module _ {v : View} {k : Slot} {b : Born} {path argv : ℕ} (words : List ℕ) w
 
   pub at_string_told : {index address used done : ℕ} → IsAtString v k b path argv index address used done →
       IsAtString v (record k { extra = words }) b path argv index address used done
+  unfolding quoting_told
   at_string_told h = record { so = quoting_told h.so; rest = h.rest; next = h.next; within = h.within }
 
 -- ---- before the next byte
