@@ -32,7 +32,7 @@ use Rattle.lib_os.proofs.DescriptorLooks.{loaded_view}
 use Rattle.lib_os.proofs.Loading.{loaded}
 use Rattle.lib_os.proofs.Serving.{printed_nothing, service_step}
 use Rattle.lib_os.proofs.SpawnGathers.{given_allowed, given_byte, given_byte_small, given_bytes, given_last, given_loaded, given_long, given_small, given_word, lies}
-use Rattle.lib_os.proofs.SpawnGathers.{list_steps, more_steps, shown_stands, spawn_found}
+use Rattle.lib_os.proofs.SpawnGathers.{list_steps, more_steps, shown_from, spawn_found}
 use Rattle.lib_os.proofs.SpawnOwnPages.{spawn_there, spawn_words, spawns_at}
 use Rattle.lib_stage.specs.declared.ask.Ask.TheVariants as ask
 use Rattle.lib_stage.specs.declared.ask.Next.{Next}
@@ -70,7 +70,8 @@ module _ {names : Names} {s : KernelState} {a : AbstractState} (h : StandsFor na
         printed_nothing a,
         (
           names,
-          shown_stands (given_loaded h n path argv from stands va wanted may some) n path argv from on.at stands unborne on.unborne on.held found stage
+          shown_from (given_loaded h n path argv from stands va wanted may some) n path argv from on.at stands unborne on.unborne on.held found stage own_born
+              (spawn_there h n path argv from stands).is
               (subst (λ (w : View). StandsAtSpawn w (record (slot_at s n) { extra = spawn_words on.at }) (spawn_found own_born path argv found stage)
               path argv on.at) (sym (loaded_view s n va home)) on.stands),
         ),

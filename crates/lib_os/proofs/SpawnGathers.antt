@@ -23,7 +23,7 @@ use Rattle.lib_os.specs.declared.service.Service.TheVariants as service
 use Rattle.lib_os.specs.declared.spawn_steps.SpawnStep.{SpawnStep}
 use Rattle.lib_os.specs.AbstractMemory.{byte_at, page_allows, page_at}
 use Rattle.lib_os.specs.AbstractSpawn.{address_gathered, more_gathered, spawn_step, string_gathered, with_spawning}
-use Rattle.lib_os.specs.AbstractState.{AbstractState, Born, Stage, Spawning, in_service, quoting, taking, with_born}
+use Rattle.lib_os.specs.AbstractState.{AbstractState, Born, Stage, Spawning, born, in_service, quoting, taking, with_born}
 use Rattle.lib_os.specs.Answers.{at_stage, bytes_from, moved_at_once}
 use Rattle.lib_os.specs.Fence.{is_inside}
 use Rattle.lib_os.specs.LibraryCall.{library_step}
@@ -262,6 +262,19 @@ module _ {names : Names} {t : KernelState} {a : AbstractState} (h : StandsFor na
         flags = own.flags;
         at = subst (λ (p : Place). StandsAt p (view_of t.spaces (slot_at t n).directory) gone (spawn_found v.b path argv found stage)) (sym there) so;
       }) (calm_places calm calm_after) (λ fd. refl)
+
+  same_born : (d e : Born) → born d ≡ born e → d ≡ e
+  same_born d e same = cc
+
+  -- the same of what is known to stand in the slot
+  pub shown_from : (b : Born) → a.slots n ≡ born b →
+      StandsAtSpawn (view_of t.spaces (slot_at t n).directory) gone (spawn_found b path argv found stage) path argv to →
+      StandsFor names (with_extra t n (spawn_words to)) (with_born a n (spawn_found b path argv found stage))
+  shown_from b is so =
+      let same : v.b ≡ b = same_born v.b b (sym v.is ∙ is) in
+      subst (λ (x : Born). StandsFor names (with_extra t n (spawn_words to)) (with_born a n (spawn_found x path argv found stage))) same
+      (shown_stands (subst (λ (x : Born). StandsAtSpawn (view_of t.spaces (slot_at t n).directory) gone (spawn_found x path argv found stage) path argv to)
+      (sym same) so))
 
 -- ---- they are taken
 
