@@ -97,10 +97,10 @@ module _ (s : KernelState) (n path argv : ℕ) (live : is_live (slot_at s n) ≡
     abbrev b : Born
     b = (spawn_there h n path argv from stands).b
 
-    has : GivenStands view (slot_at s n) b path argv (given.AddressLoading index done word)
+    abbrev has : GivenStands view (slot_at s n) b path argv (given.AddressLoading index done word)
     has = (spawn_there h n path argv from stands).at
 
-    so : IsListing view (slot_at s n) b path argv index done word
+    abbrev so : IsListing view (slot_at s n) b path argv index done word
     so = has.0
 
     more_wanted : 0 < 4 - done
