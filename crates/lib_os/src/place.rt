@@ -100,7 +100,7 @@ pub enum Step {
     ChildRuns {
         id: u32,
     },
-    /// fork, and spawn where it has given all its own pages back: it was refused something with this answer, and is about to destroy the child.
+    /// fork: it was refused something with this answer, and is about to destroy the child.
     Undoing {
         id: u32,
         error: u32,
