@@ -201,4 +201,5 @@ pub mod SpawnOwnPages
 pub mod SpawnTakesPages
 pub mod SpawnPagesTaken
 pub mod SpawnGathers
+pub mod SpawnAsks
 pub mod SpawnGivesBack
