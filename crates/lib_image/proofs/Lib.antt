@@ -3,3 +3,7 @@ pub mod HeaderWords
 pub mod HeaderTests
 pub mod SegmentWords
 pub mod ImageFalls
+pub mod OpeningStays
+pub mod OpeningRequest
+pub mod OpeningAsks
+pub mod OpeningLaw

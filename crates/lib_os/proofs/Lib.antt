@@ -202,4 +202,5 @@ pub mod SpawnTakesPages
 pub mod SpawnPagesTaken
 pub mod SpawnGathers
 pub mod SpawnAsks
+pub mod SpawnAwaits
 pub mod SpawnGivesBack
