@@ -27,6 +27,7 @@ pub mod SpawnStays
 pub mod SpawnPath
 pub mod SpawnWaits
 pub mod SpawnStops
+pub mod GivenStopped
 pub mod SpawnReplies
 pub mod SpawnedReplied
 pub mod SlotsStand
