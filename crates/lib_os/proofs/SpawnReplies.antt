@@ -160,7 +160,7 @@ wanted_same path argv _ _ word (for_header esp fd size words found sized stack l
 wanted_same path argv _ _ word (for_table esp fd size entry_point headers place words header found sized stack begins many few) =
     ap (λ (o : Option Spawning). handed_in (service.Spawn path argv) o word) found
     ∙ ap (λ (n : ℕ). if nat_le word n then word else 0) (min-eq_left (omega (arith, many, few)) ∙ ap (λ (n : ℕ). PHDR_LEN * n) (sym many))
-wanted_same path argv _ _ word (for_piece fd headers child header done end place image pieces found of_file whole below left come next) =
+wanted_same path argv _ _ word (for_piece fd headers child header done end place image pieces found of_file whole below left come next sized) =
     ap (λ (o : Option Spawning). handed_in (service.Spawn path argv) o word) found
     ∙ ap (λ (n : ℕ). if nat_le word n then word else 0) (ap first_len left ∙ next_long image header done end next)
 
@@ -179,8 +179,8 @@ for_again : {v : View} {b : Born} (after : Born) → after.spawning ≡ b.spawni
 for_again after same _ _ (for_header esp fd size words found sized stack long) = for_header esp fd size words (same ∙ found) sized stack long
 for_again after same _ _ (for_table esp fd size entry_point headers place words header found sized stack begins many few) =
     for_table esp fd size entry_point headers place words header (same ∙ found) sized stack begins many few
-for_again after same _ _ (for_piece fd headers child header done end place image pieces found of_file whole below left come next) =
-    for_piece fd headers child header done end place image pieces (same ∙ found) of_file whole below left come next
+for_again after same _ _ (for_piece fd headers child header done end place image pieces found of_file whole below left come next sized) =
+    for_piece fd headers child header done end place image pieces (same ∙ found) of_file whole below left come next sized
 
 module _ (v : View) (k : Slot) (b : Born) (path argv sender answer : ℕ) (bytes : List ℕ) (small : answer < 2 ^ 32) (small_bytes : AreBytes bytes)
     (many : length bytes ≡ handed_in (service.Spawn path argv) b.spawning answer)
