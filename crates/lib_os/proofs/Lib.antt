@@ -28,6 +28,7 @@ pub mod SpawnPath
 pub mod SpawnWaits
 pub mod SpawnStops
 pub mod SpawnReplies
+pub mod SpawnRequests
 pub mod SpawnedReplied
 pub mod SlotsStand
 pub mod PipesStand
