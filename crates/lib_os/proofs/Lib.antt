@@ -29,6 +29,7 @@ pub mod SpawnWaits
 pub mod SpawnStops
 pub mod GivenStopped
 pub mod SpawnReplies
+pub mod SpawnRequests
 pub mod SpawnedReplied
 pub mod SlotsStand
 pub mod PipesStand

@@ -416,7 +416,7 @@ pieces_behind image header done =
 abbrev pub HaveComeTo : ImageRead → ℕ → ℕ → List (List ℕ) → Type 0
 HaveComeTo image header done pieces = length (all_of pieces) ≡ packed_at (headers_in image.table) header + done
 
--- its page has the program headers of its image, which pass their tests, and the stack is ready
+-- its page has the program headers of its image, which pass their tests with a file of this size, and the stack is ready
 pub record HasImage (v : View) (image : ImageRead) (headers : ℕ) : Type 0 where
   pub table : GivenHas v image.table
   pub many : headers ≡ entry_count_of (slice_index image.header)
@@ -447,6 +447,7 @@ pub record IsFilled (v : View) (k : Slot) (b : Born) (path argv fd headers child
   pub below : header < headers
   pub left : pieces_left image had ≡ pieces_behind image header done
   pub come : HaveComeTo image header done had
+  pub sized : IsOfFileWith v fd whole.size
 
 -- The bytes of a segment from so many on up to these are the next piece.
 pub record IsNextPiece (image : ImageRead) (header done end : ℕ) : Type 0 where
@@ -503,9 +504,9 @@ pub data IsFor (v : View) (b : Born) : FilePart → ℕ → Type 0 where
       headers ≡ entry_count_of (slice_index header) → headers ≤ ARGS_MAX →
       IsFor v b (part.Table esp fd size entry_point headers place) (PHDR_LEN * headers)
   for_piece : (fd headers child header done end place : ℕ) (image : ImageRead) (pieces : List (List ℕ)) →
-      b.spawning ≡ Some (loading fd image (child % NENV) pieces) → IsOfFile v fd → HasImage v image headers → header < headers →
+      b.spawning ≡ Some (loading fd image (child % NENV) pieces) → IsOfFile v fd → (whole : HasImage v image headers) → header < headers →
       pieces_left image pieces ≡ pieces_behind image header done → HaveComeTo image header done pieces → IsNextPiece image header done end →
-      IsFor v b (part.Piece fd headers child header done end place) (end - done)
+      IsOfFileWith v fd whole.size → IsFor v b (part.Piece fd headers child header done end place) (end - done)
 
 -- where it waits, or where the reply has come and is not read: its page has the bytes, as many as the word tells
 pub data AwaitsBytes (v : View) (k : Slot) (b : Born) (path argv count : ℕ) : Type 0 where
@@ -681,6 +682,7 @@ pub record HasChild (v : View) (k : Slot) (b : Born) (path argv fd headers child
   pub found : Found k b path argv (taking []) (loading fd image (child % NENV) [])
   pub of_file : IsOfFile v fd
   pub whole : HasImage v image headers
+  pub sized : IsOfFileWith v fd whole.size
 
 -- so many words of the record are in its page
 pub record IsRecording (v : View) (k : Slot) (b : Born) (path argv esp fd entry_point headers child index : ℕ) : Type 0 where
@@ -743,6 +745,7 @@ pub record IsPutting (v : View) (k : Slot) (b : Born) (path argv fd headers chil
   pub long : length bytes ≡ end - piece_start done
   pub small : AreBytes bytes
   pub kept : PageHas v (page_number UTEMP) 0 bytes
+  pub sized : IsOfFileWith v fd whole.size
 
 -- the segment begins there
 pub record IsPuttingAt (v : View) (k : Slot) (b : Born) (path argv fd headers child header va done end : ℕ) : Type 0 where
