@@ -202,3 +202,4 @@ pub mod SpawnTakesPages
 pub mod SpawnPagesTaken
 pub mod SpawnGathers
 pub mod SpawnGivesBack
+pub mod SpawnRefuses
