@@ -146,15 +146,13 @@ module _ (a : AbstractState) (n : ℕ) (k : Slot) (b : Born) (path argv : ℕ) (
       ∙ ap Some (answered_alike a n is_in (negated E_INVAL)) ∙ ap (λ (w : ℕ). Some (spawn_answered a n b k.registers w)) (sym same)
   refuses_step {answer = answer} (by_file words found none) =
       step_is found.is_in ∙ rw (found.is, none) refl ∙ ap Some (answered_alike a n found.is_in answer)
-  refuses_step {answer = answer} (by_drop number found same) =
-      step_is found.is_in ∙ rw found.is refl ∙ ap Some (answered_alike a n found.is_in (negated number))
-      ∙ ap (λ (w : ℕ). Some (spawn_answered a n b k.registers w)) (sym same)
+  refuses_step {answer = answer} (by_drop found) = step_is found.is_in ∙ rw found.is refl ∙ ap Some (answered_alike a n found.is_in answer)
 
 pub refuses_awake : {k : Slot} {b : Born} {path argv answer : ℕ} → Refuses k b path argv answer →
     (k.rendezvous.receiving ≡ false) × (b.blocked ≡ false)
 refuses_awake (by_given stage is_in wrongly same) = (is_in.silent, is_in.awake)
 refuses_awake (by_file words found none) = (found.is_in.silent, found.is_in.awake)
-refuses_awake (by_drop number found same) = (found.is_in.silent, found.is_in.awake)
+refuses_awake (by_drop found) = (found.is_in.silent, found.is_in.awake)
 
 -- ---- at its program nothing is told of what a spawn has found out
 
