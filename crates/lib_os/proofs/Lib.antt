@@ -203,3 +203,5 @@ pub mod SpawnPagesTaken
 pub mod SpawnGathers
 pub mod SpawnGivesBack
 pub mod SpawnRefuses
+pub mod SpawnedGoes
+pub mod SpawnedMoves
