@@ -161,11 +161,6 @@ others_low fd headers child header page end other = by_tests (nat_lt page end) (
     by_tests true true none is = omega arith
     by_tests true false none is = omega arith
 
--- a segment has no more pages than there are
-pages_few : (va memory : ℕ) → last_page va memory + 1 - page_number va ≤ page_limit
-unfolding page_limit
-pages_few va memory = omega arith
-
 module _ (path argv fd headers child header : ℕ) (below : header < headers) where
   step_more : rights_left headers header ≡ rights_left headers (header + 1) + page_limit + 4 * headers + 6
   step_more = by_room (headers - (header + 1)) refl
@@ -200,11 +195,11 @@ module _ (path argv fd headers child header : ℕ) (below : header < headers) wh
       by_test true = next_low fd headers child (header + 1) _ (omega arith)
       by_test false = omega arith
 
-  pub address_falls : (memory va : ℕ) → Spawns path argv (spawn.Finishing (finishing.RightsAddress fd headers child header memory))
+  -- where it has no more pages than there are
+  pub address_falls : (memory va : ℕ) → last_page va memory + 1 - page_number va ≤ page_limit → Spawns path argv (spawn.Finishing (finishing.RightsAddress fd headers child header memory))
       (finishing_next (finishing.RightsAddress fd headers child header memory) va)
-  address_falls memory va =
+  address_falls memory va few =
       let low = others_low fd headers child header (page_number va) (last_page va memory + 1) 0 in
-      let few = pages_few va memory in
       below_bound (most_left (step.Spawning (others_from fd headers child header (page_number va) (last_page va memory + 1) 0)))
       (rights_left headers (header + 1)) (last_page va memory + 1 - page_number va) low few
     where
