@@ -204,3 +204,9 @@ pub mod SpawnTakesPages
 pub mod SpawnPagesTaken
 pub mod SpawnGathers
 pub mod SpawnGivesBack
+pub mod SpawnRefuses
+pub mod BearsOn
+pub mod SpawnedGoes
+pub mod SpawnedMoves
+pub mod BorneCalls
+pub mod SpawnDestroys
