@@ -203,6 +203,7 @@ pub mod SpawnOwnPages
 pub mod SpawnTakesPages
 pub mod SpawnPagesTaken
 pub mod SpawnGathers
+pub mod SpawnAsks
 pub mod SpawnGivesBack
 pub mod SpawnRefuses
 pub mod BearsOn

@@ -202,10 +202,10 @@ module _ (v : View) (k : Slot) (b : Born) (path argv sender answer : ℕ) (bytes
       stack = so.stack;
       so = has_file (record {
         is_in = record {
-          regs = k.registers;
+          regs = so.awaiting_it.regs;
           program = so.awaiting_it.program;
           eax = 0;
-          registers = refl;
+          registers = λ i. record (so.awaiting_it.registers i) { eax = 0 };
           phase = λ i. in_service (service.Spawn path argv) (replied (none i) (answer_is i));
           silent = refl;
           awake = refl;
@@ -245,10 +245,10 @@ module _ (v : View) (k : Slot) (b : Born) (path argv sender answer : ℕ) (bytes
       count = so.count;
       so = for_again born_after refl wanted so.count so.so;
       awaits = has_bytes bytes (record {
-        regs = k.registers;
+        regs = so.awaiting_it.regs;
         program = so.awaiting_it.program;
         eax = 0;
-        registers = refl;
+        registers = λ i. record (so.awaiting_it.registers i) { eax = 0 };
         phase = refl;
         silent = refl;
         awake = refl;

@@ -206,7 +206,10 @@ module _ (v w : View) (row : w.row ≡ v.row) (told : SameTold v w) (given_own :
 
   pub awaiting_kept : (destination : ℕ) → IsAwaitingReply k b path argv destination → IsAwaitingReply slot_after born_after path argv destination
   awaiting_kept destination h = record {
+    regs = h.regs;
     program = h.program;
+    eax = h.eax;
+    registers = h.registers;
     phase = h.phase;
     blocked = h.blocked;
     receives = h.receives;
