@@ -308,6 +308,7 @@ module _ {names : Names} {s : SpacesState} {parent : Slot} {b : Born} {k : Slot}
     registers = h.registers;
     upcall = h.upcall;
     memory = λ p inside. h.memory p inside ∙ same_page p;
+    uncopied = h.uncopied;
     handed = h.handed;
     rest = h.rest;
     handler_stack = h.handler_stack;
