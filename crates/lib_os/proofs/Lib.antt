@@ -202,3 +202,5 @@ pub mod SpawnTakesPages
 pub mod SpawnPagesTaken
 pub mod SpawnGathers
 pub mod SpawnGivesBack
+pub mod SpawnedGoes
+pub mod SpawnedMoves
