@@ -137,9 +137,11 @@ module _ (s : KernelState) (n path argv : ℕ) (live : is_live (slot_at s n) ≡
     word_loaded names a h =
         let there = spawn_there h n path argv (spawn.Testing at) stands in
         let it = loads (view_of s.spaces home) (slot_at s n) there.b there.at in
+        let fits = it.fits in
+        let aligned = it.aligned in
         subst (λ (q : ℕ). IsLoadedSo s n (service.Spawn path argv) a (testing_next at) q (load s n q)) it.place
         (loaded_so h n path argv (spawn.Testing at) stands refl (testing_next at) it.word
-        (own_word_loaded h n path argv (spawn.Testing at) stands it.p it.keeps 0 it.bytes it.page it.i it.within it.fits it.aligned
+        (own_word_loaded h n path argv (spawn.Testing at) stands it.p it.keeps 0 it.bytes it.page it.i it.within (omega (arith, fits)) (omega (arith, aligned))
         ∙ ap (read_at s n (it.p * PGSIZE + (0 + it.i))) it.word_is)
         (step.Spawning (tested at it.word)) refl it.goes)
 
