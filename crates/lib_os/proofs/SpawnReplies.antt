@@ -20,6 +20,7 @@ use Rattle.lib_os.specs.declared.spawn_steps.SpawnStep.{SpawnStep}
 use Rattle.lib_os.specs.AbstractSpawn.{Piece, headers_in, image_segments, piece_of, pieces_left, pieces_of, table_size}
 use Rattle.lib_os.specs.AbstractState.{Born, ImageRead, Spawning, heading, in_service, loading, replied, tabling}
 use Rattle.lib_os.specs.AskedFor.{OpensBy, first_len, handed_in, is_opening, wanted_by}
+use Rattle.lib_os.specs.FileServer.{is_count}
 use Rattle.lib_os.specs.LibraryPages.{IsOwnWritable, View}
 use Rattle.lib_os.specs.Rows.{AreBytes}
 use Rattle.lib_os.specs.StandsAtSpawn.{IsFor, IsFreeOrNone, IsNextPiece, StandsAtSpawn, for_header, for_piece, for_table, has_bytes, has_file}
@@ -201,16 +202,16 @@ module _ (v : View) (k : Slot) (b : Born) (path argv sender answer : ℕ) (bytes
       stack = so.stack;
       so = has_file (record {
         is_in = record {
-          regs = k.registers;
+          regs = so.awaiting_it.regs;
           program = so.awaiting_it.program;
           eax = 0;
-          registers = refl;
+          registers = λ i. record (so.awaiting_it.registers i) { eax = 0 };
           phase = λ i. in_service (service.Spawn path argv) (replied (none i) (answer_is i));
           silent = refl;
           awake = refl;
         };
         is = so.is;
-      }) small (by_free so.free);
+      }) small (by_free so.free) (λ not_zero. error) (λ zero below. absurd (some zero));
     },
   )
     where
@@ -221,8 +222,14 @@ module _ (v : View) (k : Slot) (b : Born) (path argv sender answer : ℕ) (bytes
           by_test true test = grind (arith, nat_tests, test)
           by_test false test = refl
 
+      error : is_count answer ≡ false
+      error = subst (λ (o : Option Spawning). OpensBy (is_opening (service.Spawn path argv) o) answer None) so.is told
+
+      great : 2 ^ 31 ≤ answer
+      great = grind (arith, nat_tests, error)
+
       some : answer ≢ 0
-      some = subst (λ (o : Option Spawning). OpensBy (is_opening (service.Spawn path argv) o) answer None) so.is told
+      some = λ zero. omega (arith, great, zero)
 
       answer_is : answer ≡ opened_word answer fd
       answer_is =
@@ -238,10 +245,10 @@ module _ (v : View) (k : Slot) (b : Born) (path argv sender answer : ℕ) (bytes
       count = so.count;
       so = for_again born_after refl wanted so.count so.so;
       awaits = has_bytes bytes (record {
-        regs = k.registers;
+        regs = so.awaiting_it.regs;
         program = so.awaiting_it.program;
         eax = 0;
-        registers = refl;
+        registers = λ i. record (so.awaiting_it.registers i) { eax = 0 };
         phase = refl;
         silent = refl;
         awake = refl;

@@ -347,7 +347,10 @@ pub record HasAskedFile (v : View) (k : Slot) (b : Born) (path argv esp fd : ℕ
 
 -- It waits for the reply; a page that comes with it is put there.
 pub record IsAwaitingReply (k : Slot) (b : Born) (path argv destination : ℕ) : Type 0 where
-  pub program : b.program ≡ guest k.registers
+  pub regs : Regs
+  pub program : b.program ≡ guest regs
+  pub eax : ℕ
+  pub registers : k.registers ≡ record regs { eax = eax }
   pub phase : b.phase ≡ in_service (service.Spawn path argv) awaiting
   pub blocked : b.blocked ≡ true
   pub receives : k.rendezvous.receiving ≡ true
