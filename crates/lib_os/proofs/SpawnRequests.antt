@@ -104,6 +104,12 @@ behind_one (suc n) (x ∷ pieces) piece rest is = behind_one n pieces piece rest
 left_behind : (n m : ℕ) (pieces : List Piece) (piece : Piece) (rest : List Piece) → m ≡ n + 1 → drop n pieces ≡ piece ∷ rest → drop m pieces ≡ rest
 left_behind n m pieces piece rest more is = ap (λ (j : ℕ). drop j pieces) more ∙ behind_one n pieces piece rest is
 
+-- how many bytes a file had, by the page of its descriptor
+pub size_same : {v : View} {fd size : ℕ} → (x : IsOfFileWith v fd size) (y : IsOfFile v fd) → size ≡ size_of (v.bytes y.file.entry.frame)
+size_same {v = v} x y =
+    sym x.size_is
+    ∙ ap (λ (e : Entry). size_of (v.bytes e.frame)) (same_Some x.of_file.file.entry y.file.entry (sym x.of_file.file.stands ∙ y.file.stands))
+
 -- what the abstract system asks for, of a descriptor that names a file which had so many bytes
 module _ (c : AbstractState) (n : ℕ) (b : Born) (k : Slot) (v : View) (path argv : ℕ) (f : OpenFile) where
   abbrev AsksBytes : Regs → Stage → Spawning → ℕ → ℕ → Type 0
@@ -136,12 +142,6 @@ module _ (c : AbstractState) (n : ℕ) (b : Born) (k : Slot) (v : View) (path ar
       let behind : more ≡ piece ∷ rest =
       sym (left_behind (length pieces) (length (pieces ++ bytes ∷ [])) (pieces_wanted image) last more (omega (arith, many)) next) ∙ left in
       rw (found, come, object, next, whole, behind) refl
-
-  size_same : {fd size : ℕ} → (x : IsOfFileWith v fd size) (y : IsOfFile v fd) → size ≡ size_of (v.bytes y.file.entry.frame)
-  size_same x y =
-      sym x.size_is
-      ∙ ap (λ (e : Entry). size_of (v.bytes e.frame))
-      (same_Some x.of_file.file.entry y.file.entry (sym x.of_file.file.stands ∙ y.file.stands))
 
   -- by what is known before
   bytes_asked : {wanted : FilePart} {fd count place : ℕ} → (before : IsBefore v k b path argv wanted fd count place) → (of_file : IsOfFile v fd) →
@@ -207,7 +207,7 @@ module _ {names : Names} {s : KernelState} {a : AbstractState} (h : StandsFor na
   call = service.Spawn path argv
 
   -- its page tells the file
-  pub file_asking : {esp fd : ℕ} → (it : TellsFile seen (slot_at s n) b path argv esp fd) → IsAsking a n (with_spawning b (opening it.ready.words)) call
+  abbrev pub file_asking : {esp fd : ℕ} → (it : TellsFile seen (slot_at s n) b path argv esp fd) → IsAsking a n (with_spawning b (opening it.ready.words)) call
   file_asking it =
       let has = it.ready.has in
       record {
@@ -230,7 +230,7 @@ module _ {names : Names} {s : KernelState} {a : AbstractState} (h : StandsFor na
     object_is = ap (option_map a.objects) part_file.named ∙ ap (λ (o : Object). Some o) part_file.is
 
     -- its page tells the part
-    pub part_asking : IsAsking a n (with_spawning b (found_before it.before)) call
+    abbrev pub part_asking : IsAsking a n (with_spawning b (found_before it.before)) call
     part_asking = record {
       request = act (read_file part_file.f.way it.place it.count) None;
       asks = λ server.
