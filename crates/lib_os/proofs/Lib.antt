@@ -211,3 +211,4 @@ pub mod SpawnedGoes
 pub mod SpawnedMoves
 pub mod BorneCalls
 pub mod SpawnDestroys
+pub mod SpawnedProgress
