@@ -212,3 +212,4 @@ pub mod SpawnedMoves
 pub mod BorneCalls
 pub mod SpawnDestroys
 pub mod SpawnDrops
+pub mod SpawnedProgress

@@ -404,9 +404,10 @@ OpeningStands v k b path argv (opening_step.LoadingSize esp fd) = HasFile v k b 
 
 -- ---- its parts are read
 
--- what is left of the bytes of a program header's segment behind so many, in pieces
+-- what is left of the bytes of a program header's segment behind so many, which are whole pieces, in pieces
 abbrev pub rest_of : (ℕ → ProgramHeader) → ℕ → ℕ → List Piece
-rest_of headers header done = if is_loaded (headers header) then drop (done / TRANSFER_MAX) (pieces_of (segment_of (headers header))) else []
+rest_of headers header done =
+    if is_loaded (headers header) then drop ((done + (TRANSFER_MAX - 1)) / TRANSFER_MAX) (pieces_of (segment_of (headers header))) else []
 
 -- and of those behind it, of so many in all
 abbrev pub pieces_behind : ImageRead → ℕ → ℕ → List Piece
