@@ -4,6 +4,13 @@ pub mod HeaderTests
 pub mod SegmentWords
 pub mod ImageFalls
 pub mod OpeningStays
-pub mod OpeningRequest
 pub mod OpeningAsks
 pub mod OpeningLaw
+pub mod TestingLists
+pub mod TestingStays
+pub mod TestingGoes
+pub mod HeaderGoes
+pub mod SegmentGoes
+pub mod TestingLoads
+pub mod TestingCopies
+pub mod TestingLaw

@@ -45,6 +45,7 @@ use Rattle.lib_os.proofs.ReplyRead.{reply_load}
 use Rattle.lib_os.proofs.SlotsStand.{born_live}
 use Rattle.lib_os.proofs.SpawnAsks.{SpawnAsking, goes_unborne, hides_unborne}
 use Rattle.lib_os.proofs.SpawnOwnPages.{own_word_stored, spawn_there, spawn_words, spawns_at}
+use Rattle.lib_os.proofs.SpawnRequests.{file_asking}
 use Rattle.lib_os.proofs.SpawnWaits.{asks_file}
 use Rattle.lib_os.proofs.WindowWords.{read_at}
 use Rattle.lib_stage.specs.declared.ask.Next.{Next}
@@ -59,7 +60,6 @@ use Rattle.lib_image.specs.OpeningStages.{free_from, not_opened, opened_va, open
 use Rattle.lib_image.specs.SpawnNexts.{goes_on, no_image}
 use Rattle.lib_image.proofs.ImageFalls.{opening_falls}
 use Rattle.lib_image.proofs.OpeningAsks.{spawn_asking_holds, spawn_awaiting_holds, spawn_identifying_holds, spawn_pausing_holds}
-use Rattle.lib_image.proofs.OpeningRequest.{opens_path}
 use Rattle.lib_image.proofs.OpeningStays.{found_moved, has_file_moved, ready_moved, tells_file_moved, words_moved}
 
 -- One that may run does not wait.
@@ -293,7 +293,7 @@ module _ (s : KernelState) (n path argv : ℕ) (live : is_live (slot_at s n) ≡
           phase = is_in.phase;
           silent = is_in.silent;
           found = opens it.1.ready.words;
-          does = opens_path a n seen (slot_at s n) v.b path argv it.1.ready.words v.is it.1.ready.has;
+          does = file_asking h n v.b v.is path argv it.1;
           pauses = (it.0, tells_file_moved (slot_at s n).status (spawn_words (spawn.Opening (opening.OpenPausing esp fd id))) it.1);
           has_asked = (
             it.0,

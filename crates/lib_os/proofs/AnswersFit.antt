@@ -12,10 +12,10 @@ use Rattle.std.proofs.lemmas.List.{length-append, length-replicate, length-take}
 use Rattle.std.proofs.lemmas.Option.{none-some, same_Some}
 use Rattle.jos_base.specs.declared.numbers.TheConstants.{E_BAD_PATH, E_FILE_EXISTS, E_INVAL, E_MAX_OPEN, E_NO_DISK, E_NOT_FOUND}
 use Rattle.jos_base.specs.TrapFrames.{bytes_of_words}
-use Rattle.jos_base.specs.Words.{negated}
+use Rattle.jos_base.specs.Words.{has_bit, negated}
 use Rattle.jos_base.proofs.Maps.{upd-at}
-use Rattle.fs_layout.specs.declared.numbers.TheConstants.{BLKSIZE, FTYPE_REG, MAXFILESIZE, MAXNAMELEN}
-use Rattle.fs_layout.specs.FileActs.{Acted, Looked, bad_path, bytes_at, create_in, done_if_it_fits, file_act, file_named, handed_back, look_up, missing}
+use Rattle.fs_layout.specs.declared.numbers.TheConstants.{BLKSIZE, FTYPE_REG, MAXFILESIZE, MAXNAMELEN, O_TRUNC}
+use Rattle.fs_layout.specs.FileActs.{Acted, Looked, bad_path, bytes_at, create_in, done, done_if_it_fits, file_act, file_named, handed_back, look_up, missing}
 use Rattle.fs_layout.specs.FileActs.{nowhere, on_file, open_act, open_looked, open_there, read_act}
 use Rattle.fs_layout.specs.FileActs.{remove_act, remove_looked, set_size_act, set_size_to, stat_act, stat_bytes, stat_of, there, write_act, write_to}
 use Rattle.fs_layout.specs.FileTree.{FileAct, FileSystem, NamedNode, Node, a_directory, a_file, named_at, node_at, open_path, read_file, remove_path}
@@ -383,9 +383,14 @@ created_so : (s : FileSystem) (way : List ℕ) (directory : Node) (name : List �
 created_so s way (a_directory records indirect) name = if_so _ _ _ full_so (fits_so s _)
 created_so s way (a_file bytes indirect) name = missing_so
 
+size_so : (s : FileSystem) (way : List ℕ) (size : ℕ) (bytes : List ℕ) (indirect : Bool) →
+    IsZeroOrError (set_size_to s way size bytes indirect).answer
+size_so s way size bytes indirect = if_so (nat_lt MAXFILESIZE size) _ _ full_so (fits_so s _)
+
 there_so : (s : FileSystem) (mode : ℕ) (way : List ℕ) (node : Node) → IsZeroOrError (open_there s mode way node).answer
 there_so s mode way (a_directory records indirect) = error_so (negated E_INVAL) invalid_great
-there_so s mode way (a_file bytes indirect) = if_so _ _ _ (if_so _ _ _ full_so (fits_so s _)) zero_so
+there_so s mode way (a_file bytes indirect) =
+    if_so (has_bit mode O_TRUNC) (set_size_to s way 0 bytes indirect) (done s 0) (size_so s way 0 bytes indirect) zero_so
 
 looked_so : (s : FileSystem) (mode : ℕ) (looked : Looked) → IsZeroOrError (open_looked s mode looked).answer
 looked_so s mode bad_path = error_so (negated E_BAD_PATH) (omega arith)

@@ -7,6 +7,7 @@ use Rattle.jos_base.specs.declared.called.Called.{Called}
 use Rattle.jos_base.specs.declared.called.Called.TheVariants.{Blocked}
 use Rattle.jos_base.specs.declared.environment.Status.TheVariants.{NotRunnable}
 use Rattle.jos_base.specs.declared.numbers.TheConstants.{FDTABLE, FIRST_ENV_ID, PGSIZE, SYS_IPC_RECV, UTOP}
+use Rattle.jos_base.specs.declared.registers.Regs.{Regs}
 use Rattle.jos_base.specs.Environments.{Slot}
 use Rattle.jos_base.specs.KernelState.{KernelState, slot_at, with_extra, with_slot_at}
 use Rattle.jos_base.specs.Messages.{wanting}
@@ -132,6 +133,11 @@ module _ (v : View) (k : Slot) (b : Born) (path argv : ℕ) where
 
 -- ---- it begins to wait
 
+waits_asked : (a : AbstractState) (n : ℕ) (b : Born) (regs : Regs) (path argv : ℕ) (found : Spawning) → b.spawning ≡ Some found →
+    library_step a n b regs (service.Spawn path argv) asked ≡ Some (await_reply a n b (service.Spawn path argv))
+unfolding library_step spawn_step
+waits_asked a n b regs path argv found is = rw is refl
+
 module _ {names : Names} {s : KernelState} {a : AbstractState} (h : StandsFor names s a) (n path argv : ℕ) (from : SpawnStep)
     (stands : place_of (slot_at s n) ≡ spawns_at path argv from)
     (has : SpawnHasAsked (view_of s.spaces (slot_at s n).directory) (slot_at s n) (spawn_there h n path argv from stands).b path argv from)
@@ -148,11 +154,11 @@ module _ {names : Names} {s : KernelState} {a : AbstractState} (h : StandsFor na
 
   -- its step
   waiting_step : abs_step a n ≡ Some (await_reply a n v.b (service.Spawn path argv))
-  unfolding library_step spawn_step
   waiting_step =
       let so = asked_so has in
       let found = asked_found (view_of s.spaces k.directory) k v.b path argv from has in
-      service_step a n v.b so.regs (service.Spawn path argv) asked v.is so.program so.phase so.awake ∙ rw found.1 refl
+      service_step a n v.b so.regs (service.Spawn path argv) asked v.is so.program so.phase so.awake
+      ∙ waits_asked a n v.b so.regs path argv found.0 found.1
 
   abbrev j : Slot
   j = spawn_waiting_slot k from
