@@ -330,7 +330,7 @@ module _ (s : KernelState) (n path argv : ℕ) (live : is_live (slot_at s n) ≡
       spawn_pausing_holds s n path argv live (spawn.Opening (opening.OpenPausing esp fd id)) stands (spawn.Opening (opening.OpenAsking esp fd id)) refl
       (opening_falls path argv (opening.OpenPausing esp fd id) 0)
       (hides_unborne n path argv (spawn.Opening (opening.OpenPausing esp fd id)) (spawn.Opening (opening.OpenAsking esp fd id)) refl refl refl)
-      (λ v k b h. (h.1.ready.has.is_in.awake, h.0, tells_file_moved Runnable (spawn_words (spawn.Opening (opening.OpenAsking esp fd id))) h.1))
+      (λ v k b h. (h.1.ready.has.is_in.awake, (h.0, tells_file_moved Runnable (spawn_words (spawn.Opening (opening.OpenAsking esp fd id))) h.1)))
 
   -- ---- it waits
 

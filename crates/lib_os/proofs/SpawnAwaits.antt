@@ -86,7 +86,7 @@ module _ (v : View) (k : Slot) (b : Born) (path argv : ℕ) where
   for_found : (wanted : FilePart) (count : ℕ) → IsFor v b wanted count → (found : Spawning) × (b.spawning ≡ Some found)
   for_found _ _ (for_header esp fd size words found sized stack long) = (heading fd words, found)
   for_found _ _ (for_table esp fd size entry_point headers place words header found sized stack begins many few) = (tabling fd words header, found)
-  for_found _ _ (for_piece fd headers child header done end place image pieces found of_file whole below left come next) = (_, found)
+  for_found _ _ (for_piece fd headers child header done end place image pieces found of_file whole below left come next sized) = (_, found)
 
   pub asked_found : (at : SpawnStep) → SpawnHasAsked v k b path argv at → (found : Spawning) × (b.spawning ≡ Some found)
   asked_found _ (asks_file esp fd id self so) = (opening so.words, so.found.is)

@@ -65,7 +65,8 @@ piece_long done end file_len some end_is begins = by_room (nat_le (done + TRANSF
 -- It is the first of those that are left.
 pub next_piece : (image : ImageRead) (header done end : ℕ) → IsNextPiece image header done end →
     (rest : List Piece) × (pieces_behind image header done ≡ record { at = (headers_in image.table header).file_at + done; len = end - done } ∷ rest)
-next_piece image header done end next = (it.0, rw next.loaded (it.1 ∙ (λ i. record { at = at_is i; len = long_is i } ∷ it.0)))
+next_piece image header done end next =
+    (it.0, rw next.loaded (ap (λ (k : ℕ). drop k (pieces_of segment) ++ more) up ∙ it.1 ∙ (λ i. record { at = at_is i; len = long_is i } ∷ it.0)))
   where
     segment : Segment
     segment = segment_of (headers_in image.table header)
@@ -74,6 +75,9 @@ next_piece image header done end next = (it.0, rw next.loaded (it.1 ∙ (λ i. r
     more =
         flat_map (λ n. rest_of (headers_in image.table) n 0)
         (rising (header + 1) (entry_count_of (slice_index image.header) - (header + 1)))
+
+    up : (done + (TRANSFER_MAX - 1)) / TRANSFER_MAX ≡ done / TRANSFER_MAX
+    up = let begins = next.begins in omega (arith, begins)
 
     first : 0 + done / TRANSFER_MAX ≡ done / TRANSFER_MAX
     first = omega arith
