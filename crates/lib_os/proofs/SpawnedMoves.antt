@@ -20,7 +20,7 @@ use Rattle.lib_os.specs.DescriptorPages.{lock_of}
 use Rattle.lib_os.specs.InOrder.{IsInOrder}
 use Rattle.lib_os.specs.PipeEnds.{EndsStandAt, LocksStand, locked_at}
 use Rattle.lib_os.specs.Places.{place_of}
-use Rattle.lib_os.specs.Rows.{EntryRow, Names, counted, is_of_descriptor, is_pipe_page, is_shared, logical, pipe_page, rows_of}
+use Rattle.lib_os.specs.Rows.{EntryRow, Names, counted, descriptor_page, is_of_descriptor, is_pipe_page, is_shared, logical, pipe_page, rows_of}
 use Rattle.lib_os.specs.SpawnedChild.{spawning_child}
 use Rattle.lib_os.specs.SpawnPages.{has_given_stack, is_childs, keeps_here}
 use Rattle.lib_os.specs.StandsFor.{StandsFor, StandsForSlot, StandsForBorn, StandsForUnborn, IsBorneBy, by_spawn, borne_in, things_in}
@@ -43,6 +43,9 @@ use Rattle.jos_base.proofs.Maps.{upd-at, upd-other}
 pipe_is : (fd : ℕ) → fd < DESCRIPTORS →
     (is_pipe_page (pipe_page fd) ≡ true) × (is_of_descriptor (pipe_page fd) ≡ true) × (pipe_page fd ≢ page_number PFTEMP)
 pipe_is fd below = (grind (arith, nat_tests), grind (arith, nat_tests), (λ same. omega (arith, same)))
+
+pub descriptor_page_is : (fd : ℕ) → fd < DESCRIPTORS → is_of_descriptor (descriptor_page fd) ≡ true
+descriptor_page_is fd below = grind (arith, nat_tests)
 
 -- a descriptor's page is none of the child's that stand here
 pub descriptor_mine : (at : SpawnStep) (p : ℕ) → is_of_descriptor p ≡ true → is_childs at p ≡ false
