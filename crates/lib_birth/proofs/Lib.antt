@@ -1,2 +1,3 @@
 pub mod BirthFalls
 pub mod UndoingSteps
+pub mod DroppingSteps

@@ -209,3 +209,6 @@ pub mod SpawnedMoves
 pub mod BorneCalls
 pub mod SpawnDestroys
 pub mod SpawnDrops
+pub mod SpawnUndoes
+pub mod SpawnCopies
+pub mod SpawnReleases
