@@ -3,3 +3,11 @@ pub mod HeaderWords
 pub mod HeaderTests
 pub mod SegmentWords
 pub mod ImageFalls
+pub mod TestingLists
+pub mod TestingStays
+pub mod TestingGoes
+pub mod HeaderGoes
+pub mod SegmentGoes
+pub mod TestingLoads
+pub mod TestingCopies
+pub mod TestingLaw

@@ -20,28 +20,28 @@ use Rattle.lib_image.proofs.Passing.{at-end, branch, fails-cons, fails-rest, gat
 
 -- ---- program headers
 
-other-kind : (h : ProgramHeader) → (h.kind == PT_LOAD) ≡ false → is_loaded h ≡ false
+pub other-kind : (h : ProgramHeader) → (h.kind == PT_LOAD) ≡ false → is_loaded h ≡ false
 unfolding is_loaded
 other-kind h e = and_left (h.kind == PT_LOAD) (nat_lt 0 h.mem_len) e
 
-no-memory : (h : ProgramHeader) → (h.mem_len == 0) ≡ true → is_loaded h ≡ false
+pub no-memory : (h : ProgramHeader) → (h.mem_len == 0) ≡ true → is_loaded h ≡ false
 unfolding is_loaded
 no-memory h e = let none = eqb-true h.mem_len 0 e in and_right (h.kind == PT_LOAD) (nat_lt 0 h.mem_len) (le-ltb 0 h.mem_len (omega (arith, none)))
 
-has-segment : (h : ProgramHeader) → (h.kind == PT_LOAD) ≡ true → (h.mem_len == 0) ≡ false → is_loaded h ≡ true
+pub has-segment : (h : ProgramHeader) → (h.kind == PT_LOAD) ≡ true → (h.mem_len == 0) ≡ false → is_loaded h ≡ true
 unfolding is_loaded
 has-segment h e f =
     let some = eqb-false h.mem_len 0 f in and_from (h.kind == PT_LOAD) (nat_lt 0 h.mem_len) e (lt-ltb 0 h.mem_len (omega (arith, some)))
 
-placed : (h : ProgramHeader) → nat_le h.file_len h.mem_len ≡ true → lies_in_range h.va h.mem_len ≡ true → is_placed h ≡ true
+pub placed : (h : ProgramHeader) → nat_le h.file_len h.mem_len ≡ true → lies_in_range h.va h.mem_len ≡ true → is_placed h ≡ true
 unfolding is_placed
 placed h e f = and_from (nat_le h.file_len h.mem_len) (lies_in_range h.va h.mem_len) e f
 
-long : (h : ProgramHeader) → nat_le h.file_len h.mem_len ≡ false → is_placed h ≡ false
+pub long : (h : ProgramHeader) → nat_le h.file_len h.mem_len ≡ false → is_placed h ≡ false
 unfolding is_placed
 long h e = and_left (nat_le h.file_len h.mem_len) (lies_in_range h.va h.mem_len) e
 
-misplaced : (h : ProgramHeader) → lies_in_range h.va h.mem_len ≡ false → is_placed h ≡ false
+pub misplaced : (h : ProgramHeader) → lies_in_range h.va h.mem_len ≡ false → is_placed h ≡ false
 unfolding is_placed
 misplaced h e = and_right (nat_le h.file_len h.mem_len) (lies_in_range h.va h.mem_len) e
 
@@ -53,11 +53,11 @@ there-so : (x y : Bool) → x ≡ true → (not x || y) ≡ y
 there-so true y e = refl
 there-so false y e = absurd (true≢false (sym e))
 
-free-of-none : (a b : ProgramHeader) → is_loaded a ≡ false → leaves_free a b ≡ true
+pub free-of-none : (a b : ProgramHeader) → is_loaded a ≡ false → leaves_free a b ≡ true
 unfolding leaves_free
 free-of-none a b e = not-there (is_loaded a) (are_apart b.va b.mem_len a.va a.mem_len) e
 
-free-of-one : (a b : ProgramHeader) → is_loaded a ≡ true → leaves_free a b ≡ are_apart b.va b.mem_len a.va a.mem_len
+pub free-of-one : (a b : ProgramHeader) → is_loaded a ≡ true → leaves_free a b ≡ are_apart b.va b.mem_len a.va a.mem_len
 unfolding leaves_free
 free-of-one a b e = there-so (is_loaded a) (are_apart b.va b.mem_len a.va a.mem_len) e
 
@@ -95,17 +95,17 @@ module _ (size : ℕ) (headers : ℕ → ProgramHeader) where
       passes-cons (in_file p) (Truncated size) (later_tests p) e
       (passes-cons (is_placed (headers p)) (SegmentRange p) (overlap_tests headers p p) f g)
 
-  segment-short : (p : ℕ) → in_file p ≡ false → all_pass (segment_tests size headers p) ≡ false
+  pub segment-short : (p : ℕ) → in_file p ≡ false → all_pass (segment_tests size headers p) ≡ false
   unfolding segment_tests
   segment-short p e = fails-cons (in_file p) (Truncated size) (later_tests p) e
 
-  segment-misplaced : (p : ℕ) → is_placed (headers p) ≡ false → all_pass (segment_tests size headers p) ≡ false
+  pub segment-misplaced : (p : ℕ) → is_placed (headers p) ≡ false → all_pass (segment_tests size headers p) ≡ false
   unfolding segment_tests
   segment-misplaced p e =
       fails-rest (in_file p) (Truncated size) (later_tests p)
       (fails-cons (is_placed (headers p)) (SegmentRange p) (overlap_tests headers p p) e)
 
-  segment-overlaps : (p : ℕ) → all_pass (overlap_tests headers p p) ≡ false → all_pass (segment_tests size headers p) ≡ false
+  pub segment-overlaps : (p : ℕ) → all_pass (overlap_tests headers p p) ≡ false → all_pass (segment_tests size headers p) ≡ false
   unfolding segment_tests
   segment-overlaps p e =
       fails-rest (in_file p) (Truncated size) (later_tests p)
@@ -136,7 +136,7 @@ module _ (size : ℕ) (headers : ℕ → ProgramHeader) where
   table-goes k e f g =
       table-more k ∙ and_from _ _ e (ap (λ (b : Bool). all_pass (if b then segment_tests size headers k else [])) f ∙ g)
 
-  table-stops : (k n : ℕ) → k < n → is_loaded (headers k) ≡ true → all_pass (segment_tests size headers k) ≡ false → all_pass (table_tests size headers n) ≡ false
+  pub table-stops : (k n : ℕ) → k < n → is_loaded (headers k) ≡ true → all_pass (segment_tests size headers k) ≡ false → all_pass (table_tests size headers n) ≡ false
   table-stops k n lt f g =
       let more : all_pass (table_tests size headers (k + 1)) ≡ false =
       table-more k ∙ and_right _ _ (ap (λ (b : Bool). all_pass (if b then segment_tests size headers k else [])) f ∙ g) in

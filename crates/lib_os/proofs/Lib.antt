@@ -27,7 +27,9 @@ pub mod SpawnStays
 pub mod SpawnPath
 pub mod SpawnWaits
 pub mod SpawnStops
+pub mod GivenStopped
 pub mod SpawnReplies
+pub mod SpawnRequests
 pub mod SpawnedReplied
 pub mod SlotsStand
 pub mod PipesStand
@@ -201,6 +203,7 @@ pub mod SpawnOwnPages
 pub mod SpawnTakesPages
 pub mod SpawnPagesTaken
 pub mod SpawnGathers
+pub mod SpawnAsks
 pub mod SpawnGivesBack
 pub mod SpawnRefuses
 pub mod BearsOn
@@ -212,3 +215,4 @@ pub mod SpawnDrops
 pub mod SpawnUndoes
 pub mod SpawnCopies
 pub mod SpawnReleases
+pub mod SpawnedProgress

@@ -604,10 +604,10 @@ module _ {names : Names} {s : KernelState} {a : AbstractState} (h : StandsFor na
           stack = record { fits = so.stack.fits; esp_is = so.stack.esp_is; kept = stack_too order };
           so = spawn_has_file (record {
             is_in = record {
-              regs = (slot_at s client).registers;
+              regs = so.awaiting_it.regs;
               program = so.awaiting_it.program;
               eax = 0;
-              registers = refl;
+              registers = λ i. record (so.awaiting_it.registers i) { eax = 0 };
               phase = ap (λ (n : ℕ). in_service call_of_spawn (replied [] n)) fd_is;
               silent = refl;
               awake = refl;
@@ -684,10 +684,10 @@ module _ {names : Names} {s : KernelState} {a : AbstractState} (h : StandsFor na
           stack = so.stack;
           so = spawn_has_file (record {
             is_in = record {
-              regs = (slot_at s client).registers;
+              regs = so.awaiting_it.regs;
               program = so.awaiting_it.program;
               eax = 0;
-              registers = refl;
+              registers = λ i. record (so.awaiting_it.registers i) { eax = 0 };
               phase = ap (λ (n : ℕ). in_service from_spawn (replied [] n)) told_word;
               silent = refl;
               awake = refl;

@@ -120,7 +120,7 @@ module _ (v w : View) (row : w.row ≡ v.row) where
 
   -- the image
 
-  image_kept : SameAt v w (page_number SPAWN_GIVEN) → SameAt v w (page_number SPAWN_STACK) → (image : ImageRead) (headers : ℕ) →
+  abbrev image_kept : SameAt v w (page_number SPAWN_GIVEN) → SameAt v w (page_number SPAWN_STACK) → (image : ImageRead) (headers : ℕ) →
       HasImage v image headers → HasImage w image headers
   image_kept given_own own image headers h = record {
     table = given_page_kept given_own image.table h.table;
@@ -206,7 +206,10 @@ module _ (v w : View) (row : w.row ≡ v.row) (told : SameTold v w) (given_own :
 
   pub awaiting_kept : (destination : ℕ) → IsAwaitingReply k b path argv destination → IsAwaitingReply slot_after born_after path argv destination
   awaiting_kept destination h = record {
+    regs = h.regs;
     program = h.program;
+    eax = h.eax;
+    registers = h.registers;
     phase = h.phase;
     blocked = h.blocked;
     receives = h.receives;
@@ -220,9 +223,9 @@ module _ (v w : View) (row : w.row ≡ v.row) (told : SameTold v w) (given_own :
   for_kept _ _ (for_table esp fd size entry_point headers place words header found sized stack begins many few) =
       for_table esp fd size entry_point headers place words header found (sized_kept v w row told fd size sized)
       (stack_kept v w row stack_own words esp stack) begins many few
-  for_kept _ _ (for_piece fd headers child header done end place image pieces found of_file whole below left come next) =
+  for_kept _ _ (for_piece fd headers child header done end place image pieces found of_file whole below left come next sized) =
       for_piece fd headers child header done end place image pieces found (of_file_kept v w row told fd of_file)
-      (image_kept v w row given_own stack_own image headers whole) below left come next
+      (image_kept v w row given_own stack_own image headers whole) below left come next (sized_kept v w row told fd whole.size sized)
 
   pub asked_part_kept : (wanted : FilePart) → HasAskedPart v k b path argv wanted → HasAskedPart w slot_after born_after path argv wanted
   asked_part_kept wanted h = record { count = h.count; so = for_kept wanted h.count h.so; is_in = is_in_kept _ h.is_in }
@@ -466,6 +469,7 @@ module _ (v w : View) (row : w.row ≡ v.row) (told : SameTold v w) (given_own :
       below = h.below;
       left = h.left;
       come = h.come;
+      sized = sized_kept v w row told fd h.whole.size h.sized;
     }
 
     before_kept : (wanted : FilePart) (fd count place : ℕ) → IsBefore v k b path argv wanted fd count place →
@@ -645,6 +649,7 @@ module _ (v w : View) (row : w.row ≡ v.row) (told : SameTold v w) (given_own :
       found = found_kept _ _ h.found;
       of_file = of_file_kept v w row told fd h.of_file;
       whole = image_kept v w row given_own stack_own image headers h.whole;
+      sized = sized_kept v w row told fd h.whole.size h.sized;
     }
 
     recording_kept : (esp fd entry_point headers child index : ℕ) → IsRecording v k b path argv esp fd entry_point headers child index →
@@ -691,6 +696,7 @@ module _ (v w : View) (row : w.row ≡ v.row) (told : SameTold v w) (given_own :
       long = h.long;
       small = h.small;
       kept = path_page_kept v w row path_own 0 h.bytes h.kept;
+      sized = sized_kept v w row told fd h.whole.size h.sized;
     }
 
     abbrev putting_at_kept : (fd headers child header va done end : ℕ) → IsPuttingAt v k b path argv fd headers child header va done end →

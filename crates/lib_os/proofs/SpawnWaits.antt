@@ -162,7 +162,7 @@ module _ (v : View) (k : Slot) (b : Born) (path argv : ℕ) where
       so_far refl found.is_in
   before_unasked _ _ _ _ (before_piece fd headers child header done end place so next at) = so_far (pieces_unasked so.has) so.found.is_in
 
-  asks_unasked : (wanted : FilePart) → Asks v k b path argv wanted → IsUnasked k b path argv
+  pub asks_unasked : (wanted : FilePart) → Asks v k b path argv wanted → IsUnasked k b path argv
   asks_unasked wanted h = before_unasked wanted h.fd h.count h.place h.before
 
   reading_calls : (wanted : FilePart) (at : ReadStep) → ReadingStands v k b path argv wanted at → SpawnCalls v k b path argv (spawn.Reading wanted at)

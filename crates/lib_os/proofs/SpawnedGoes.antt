@@ -168,8 +168,10 @@ abbrev pub HereStill : SpawnStep → SpawnStep → Type 0
 HereStill from to = (q : ℕ) → page_here to ≡ Some q → page_here from ≡ Some q
 
 module _ {names : Names} {s : SpacesState} {parent : Slot} {b : Born} {k : Slot} {id : ℕ} (from to : SpawnStep)
-    (childs : (p : ℕ) → is_childs to p ≡ true → is_childs from p ≡ true) (told : HereStill from to) where
-  pub goes_with : (x : HasOfImage names s parent b from k id) → GoesWith b x.image x.file x.progress to → HasOfImage names s parent b to k id
+    (childs : (p : ℕ) → is_childs to p ≡ true → is_childs from p ≡ true) (told : HereStill from to) (words : List ℕ) where
+  -- whatever its parent's words are
+  pub goes_with : (x : HasOfImage names s parent b from k id) → GoesWith b x.image x.file x.progress to →
+      HasOfImage names s (record parent { extra = words }) b to k id
   goes_with x g = record {
     image = x.image;
     file = x.file;
@@ -398,7 +400,7 @@ module _ {names : Names} {s : KernelState} {a : AbstractState} (h : StandsFor na
       let named = born_named h n b is in
       let x = child_has children (unborn_named h) n path argv id b is named from to stands bears in
       children_go_on children (unborn_named h) n path argv id b is named from to stands bears moved spawned_at bears_after
-      (goes_with from to (λ p on. childs p ∙ on) told x (goes x.image x.file x.progress x.loads x.is_so))
+      (goes_with from to (λ p on. childs p ∙ on) told (spawn_words to) x (goes x.image x.file x.progress x.loads x.is_so))
 
   -- behind a store into a page of its own
   pub borne_stored : (sp : SpacesState) → StandsBeside names s a sp n → s.last ≡ Some n → Goes (spawn_there h n path argv from stands).b id from to →

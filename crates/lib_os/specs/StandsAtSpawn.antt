@@ -347,7 +347,10 @@ pub record HasAskedFile (v : View) (k : Slot) (b : Born) (path argv esp fd : ℕ
 
 -- It waits for the reply; a page that comes with it is put there.
 pub record IsAwaitingReply (k : Slot) (b : Born) (path argv destination : ℕ) : Type 0 where
-  pub program : b.program ≡ guest k.registers
+  pub regs : Regs
+  pub program : b.program ≡ guest regs
+  pub eax : ℕ
+  pub registers : k.registers ≡ record regs { eax = eax }
   pub phase : b.phase ≡ in_service (service.Spawn path argv) awaiting
   pub blocked : b.blocked ≡ true
   pub receives : k.rendezvous.receiving ≡ true
@@ -401,9 +404,10 @@ OpeningStands v k b path argv (opening_step.LoadingSize esp fd) = HasFile v k b 
 
 -- ---- its parts are read
 
--- what is left of the bytes of a program header's segment behind so many, in pieces
+-- what is left of the bytes of a program header's segment behind so many, which are whole pieces, in pieces
 abbrev pub rest_of : (ℕ → ProgramHeader) → ℕ → ℕ → List Piece
-rest_of headers header done = if is_loaded (headers header) then drop (done / TRANSFER_MAX) (pieces_of (segment_of (headers header))) else []
+rest_of headers header done =
+    if is_loaded (headers header) then drop ((done + (TRANSFER_MAX - 1)) / TRANSFER_MAX) (pieces_of (segment_of (headers header))) else []
 
 -- and of those behind it, of so many in all
 abbrev pub pieces_behind : ImageRead → ℕ → ℕ → List Piece
@@ -416,7 +420,7 @@ pieces_behind image header done =
 abbrev pub HaveComeTo : ImageRead → ℕ → ℕ → List (List ℕ) → Type 0
 HaveComeTo image header done pieces = length (all_of pieces) ≡ packed_at (headers_in image.table) header + done
 
--- its page has the program headers of its image, which pass their tests, and the stack is ready
+-- its page has the program headers of its image, which pass their tests with a file of this size, and the stack is ready
 pub record HasImage (v : View) (image : ImageRead) (headers : ℕ) : Type 0 where
   pub table : GivenHas v image.table
   pub many : headers ≡ entry_count_of (slice_index image.header)
@@ -447,6 +451,7 @@ pub record IsFilled (v : View) (k : Slot) (b : Born) (path argv fd headers child
   pub below : header < headers
   pub left : pieces_left image had ≡ pieces_behind image header done
   pub come : HaveComeTo image header done had
+  pub sized : IsOfFileWith v fd whole.size
 
 -- The bytes of a segment from so many on up to these are the next piece.
 pub record IsNextPiece (image : ImageRead) (header done end : ℕ) : Type 0 where
@@ -503,9 +508,9 @@ pub data IsFor (v : View) (b : Born) : FilePart → ℕ → Type 0 where
       headers ≡ entry_count_of (slice_index header) → headers ≤ ARGS_MAX →
       IsFor v b (part.Table esp fd size entry_point headers place) (PHDR_LEN * headers)
   for_piece : (fd headers child header done end place : ℕ) (image : ImageRead) (pieces : List (List ℕ)) →
-      b.spawning ≡ Some (loading fd image (child % NENV) pieces) → IsOfFile v fd → HasImage v image headers → header < headers →
+      b.spawning ≡ Some (loading fd image (child % NENV) pieces) → IsOfFile v fd → (whole : HasImage v image headers) → header < headers →
       pieces_left image pieces ≡ pieces_behind image header done → HaveComeTo image header done pieces → IsNextPiece image header done end →
-      IsFor v b (part.Piece fd headers child header done end place) (end - done)
+      IsOfFileWith v fd whole.size → IsFor v b (part.Piece fd headers child header done end place) (end - done)
 
 -- where it waits, or where the reply has come and is not read: its page has the bytes, as many as the word tells
 pub data AwaitsBytes (v : View) (k : Slot) (b : Born) (path argv count : ℕ) : Type 0 where
@@ -681,6 +686,7 @@ pub record HasChild (v : View) (k : Slot) (b : Born) (path argv fd headers child
   pub found : Found k b path argv (taking []) (loading fd image (child % NENV) [])
   pub of_file : IsOfFile v fd
   pub whole : HasImage v image headers
+  pub sized : IsOfFileWith v fd whole.size
 
 -- so many words of the record are in its page
 pub record IsRecording (v : View) (k : Slot) (b : Born) (path argv esp fd entry_point headers child index : ℕ) : Type 0 where
@@ -743,6 +749,7 @@ pub record IsPutting (v : View) (k : Slot) (b : Born) (path argv fd headers chil
   pub long : length bytes ≡ end - piece_start done
   pub small : AreBytes bytes
   pub kept : PageHas v (page_number UTEMP) 0 bytes
+  pub sized : IsOfFileWith v fd whole.size
 
 -- the segment begins there
 pub record IsPuttingAt (v : View) (k : Slot) (b : Born) (path argv fd headers child header va done end : ℕ) : Type 0 where

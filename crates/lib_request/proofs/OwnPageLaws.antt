@@ -17,7 +17,7 @@ use Rattle.lib_os.specs.LibrarySteps.{is_pausing}
 use Rattle.lib_os.specs.Places.{place_of}
 use Rattle.lib_os.specs.Rows.{Names, is_of_descriptor}
 use Rattle.lib_os.specs.StandsFor.{StandsFor}
-use Rattle.lib_os.specs.UserCalls.{CallStep, Got, giving, gone, got, load, load_byte, store, store_byte, to_handler}
+use Rattle.lib_os.specs.UserCalls.{CallStep, Got, answer_of, giving, gone, got, load, load_byte, store, store_byte, to_handler}
 use Rattle.lib_os.proofs.BytesKept.{store_byte_slots, store_slots}
 use Rattle.lib_os.proofs.Loading.{loaded}
 use Rattle.lib_os.proofs.WindowWords.{read_at}
@@ -26,8 +26,9 @@ use Rattle.lib_stage.specs.declared.ask.Ask.TheVariants as ask
 use Rattle.lib_stage.specs.declared.ask.Next.{Next}
 use Rattle.lib_stage.specs.Asks.{MayFail, frames_of, performed}
 use Rattle.lib_stage.specs.ServiceSteps.{Plan, ServiceHolds}
-use Rattle.lib_stage.proofs.Laws.{FailsBy, Falls, FollowsBy, GoesOn, KeepsBy, NeverFaults, is_plain, is_word_beside, law_of, law_of_load}
-use Rattle.lib_file.proofs.Finds.{Follows, staged, staged_at}
+use Rattle.lib_stage.proofs.Laws.{FailsBy, Falls, FallsOrAsks, FollowsBy, GoesOn, KeepsBy, NeverFaults, asking_lowers, falls_so, is_plain, is_word_beside}
+use Rattle.lib_stage.proofs.Laws.{law_of_load_with, law_with, plainly}
+use Rattle.lib_file.proofs.Finds.{Follows, staged}
 use Rattle.lib_file.proofs.Moves.{byte_goes, got_done, told_byte, told_done}
 
 -- What a store comes to, and what follows it.
@@ -49,9 +50,10 @@ own_word_beside p at fits none =
     let last : page_number (p * PGSIZE + at + 3) ≡ p = omega (arith, fits) in
     rw (first, last, none) refl
 
+-- where it is by where the service stands that the number of its hidden steps falls
 module _ (s : KernelState) (n : ℕ) (service : Service) (from : Step) (live : is_live (slot_at s n) ≡ true)
     (steady : is_pausing (place.InService service from) ≡ false) (stands : place_of (slot_at s n) ≡ place.InService service from) (next : ℕ → Next)
-    (falls : (word : ℕ) → Falls service from (next word)) where
+    (falls : (word : ℕ) → FallsOrAsks s n service from (next word)) where
   -- ---- a store
 
   module _ (asks : Ask) (call : CallStep (Unit {0})) (performs : performed s n asks ≡ told_done call) (plain : is_plain asks ≡ true)
@@ -90,37 +92,42 @@ module _ (s : KernelState) (n : ℕ) (service : Service) (from : Step) (live : i
 
     stores : ServiceHolds s n (staged service asks next)
     stores =
-        law_of s n storing service from (staged_at s n service from live steady stands asks next plain few falls)
-        (subst (λ (z : CallStep Called). GoesOn s n storing z) (sym performs) goes)
-        (subst (λ (z : CallStep Called). NeverFaults s n z) (sym performs) never)
+        let goes_so = subst (λ (z : CallStep Called). GoesOn s n storing z) (sym performs) goes in
+        let never_so = subst (λ (z : CallStep Called). NeverFaults s n z) (sym performs) never in
+        law_with s n storing service from (record { stands = stands; plain = plainly plain; goes_on = steady; few = omega (arith, few) }) goes_so.live
         (subst (λ (z : CallStep Called). IsInOrder z.state → KeepsBy s n storing z) (sym performs) keeps)
         (subst (λ (z : CallStep Called). FailsBy s n storing z) (sym performs) fails)
+        (asking_lowers s n storing (performed s n asks) service from stands refl goes_so never_so (λ called is. falls (answer_of called)))
 
   -- of a word
-  pub own_store_holds : (va word : ℕ) → is_word_beside va ≡ true →
+  pub own_store_known : (va word : ℕ) → is_word_beside va ≡ true →
       ((names : Names) (a : AbstractState) → StandsFor names s a → IsStoredSo s n service a next (store s n va word)) →
       ServiceHolds s n (staged service (ask.Store va word) next)
   unfolding performed
-  own_store_holds va word beside stored =
+  own_store_known va word beside stored =
       stores (ask.Store va word) (store s n va word) refl beside (omega arith) (λ g may. may) (store_slots s n va word) stored
 
   -- of a byte
-  pub own_store_byte_holds : (va byte : ℕ) → is_of_descriptor (page_number va) ≡ false →
+  pub own_store_byte_known : (va byte : ℕ) → is_of_descriptor (page_number va) ≡ false →
       ((names : Names) (a : AbstractState) → StandsFor names s a → IsStoredSo s n service a next (store_byte s n va byte)) →
       ServiceHolds s n (staged service (ask.StoreByte va byte) next)
   unfolding performed
-  own_store_byte_holds va byte none stored =
+  own_store_byte_known va byte none stored =
       stores (ask.StoreByte va byte) (store_byte s n va byte) refl (rw none refl) (omega arith) (λ g may. may) (store_byte_slots s n va byte) stored
 
   -- ---- a load
 
   -- of a word
-  pub own_load_holds : (va : ℕ) →
+  pub own_load_known : (va : ℕ) →
       ((names : Names) (a : AbstractState) → StandsFor names s a → IsLoadedSo s n service a next va (load s n va)) →
       ServiceHolds s n (staged service (ask.Load va) next)
-  own_load_holds va gives =
-      law_of_load s n (staged service (ask.Load va) next) service from (staged_at s n service from live steady stands (ask.Load va) next refl (omega arith) falls)
-      va refl (λ names a h. let it = gives names a h in (record { word = it.word; is = it.step_is }, it.follows))
+  own_load_known va gives =
+      law_of_load_with s n (staged service (ask.Load va) next) service from
+      (record { stands = stands; plain = plainly refl; goes_on = steady; few = omega arith }) live va refl
+      (λ names a h turn. let it = gives names a h in (record { word = it.word; is = it.step_is }, it.follows))
+      (λ goes never.
+      asking_lowers s n (staged service (ask.Load va) next) (performed s n (ask.Load va)) service from stands refl goes never
+      (λ called is. falls (answer_of called)))
 
   -- of a byte
   module _ (va : ℕ) (gives : (names : Names) (a : AbstractState) → StandsFor names s a → IsLoadedSo s n service a next va (load_byte s n va)) where
@@ -145,8 +152,36 @@ module _ (s : KernelState) (n : ℕ) (service : Service) (from : Step) (live : i
     byte_fails may a h turn =
         absurd (let contradiction : ◌≡◌ {A = Got Called} gone (got (Answered (gives h.0 a h.1).word)) = sym may ∙ byte_given h.0 a h.1 in cc)
 
-    pub own_load_byte_holds : ServiceHolds s n (staged service (ask.LoadByte va) next)
+    pub own_load_byte_known : ServiceHolds s n (staged service (ask.LoadByte va) next)
     unfolding performed
-    own_load_byte_holds =
-        law_of s n loading service from (staged_at s n service from live steady stands (ask.LoadByte va) next refl (omega arith) falls)
-        (byte_goes s n loading va live) byte_never byte_keeps byte_fails
+    own_load_byte_known =
+        let goes = byte_goes s n loading va live in
+        law_with s n loading service from (record { stands = stands; plain = plainly refl; goes_on = steady; few = omega arith }) goes.live byte_keeps byte_fails
+        (asking_lowers s n loading (performed s n (ask.LoadByte va)) service from stands refl goes byte_never (λ called is. falls (answer_of called)))
+
+-- and where it falls wherever the service stands
+module _ (s : KernelState) (n : ℕ) (service : Service) (from : Step) (live : is_live (slot_at s n) ≡ true)
+    (steady : is_pausing (place.InService service from) ≡ false) (stands : place_of (slot_at s n) ≡ place.InService service from) (next : ℕ → Next)
+    (falls : (word : ℕ) → Falls service from (next word)) where
+  known : (word : ℕ) → FallsOrAsks s n service from (next word)
+  known word = falls_so s n service from (next word) (falls word)
+
+  pub own_store_holds : (va word : ℕ) → is_word_beside va ≡ true →
+      ((names : Names) (a : AbstractState) → StandsFor names s a → IsStoredSo s n service a next (store s n va word)) →
+      ServiceHolds s n (staged service (ask.Store va word) next)
+  own_store_holds va word beside stored = own_store_known s n service from live steady stands next known va word beside stored
+
+  pub own_store_byte_holds : (va byte : ℕ) → is_of_descriptor (page_number va) ≡ false →
+      ((names : Names) (a : AbstractState) → StandsFor names s a → IsStoredSo s n service a next (store_byte s n va byte)) →
+      ServiceHolds s n (staged service (ask.StoreByte va byte) next)
+  own_store_byte_holds va byte none stored = own_store_byte_known s n service from live steady stands next known va byte none stored
+
+  pub own_load_holds : (va : ℕ) →
+      ((names : Names) (a : AbstractState) → StandsFor names s a → IsLoadedSo s n service a next va (load s n va)) →
+      ServiceHolds s n (staged service (ask.Load va) next)
+  own_load_holds va gives = own_load_known s n service from live steady stands next known va gives
+
+  pub own_load_byte_holds : (va : ℕ) →
+      ((names : Names) (a : AbstractState) → StandsFor names s a → IsLoadedSo s n service a next va (load_byte s n va)) →
+      ServiceHolds s n (staged service (ask.LoadByte va) next)
+  own_load_byte_holds va gives = own_load_byte_known s n service from live steady stands next known va gives

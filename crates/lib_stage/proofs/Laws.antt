@@ -440,7 +440,7 @@ FallsOrAsks s n service from (next.GoOn to) =
     (most_left to < steps_left from) ⊎ (AsksAgain (slot_at s n).runs (place.InService service from) × (most_left to ≤ TEST_STEPS_MAX))
 FallsOrAsks s n service from x = Falls service from x
 
-falls_so : (s : KernelState) (n : ℕ) (service : Service) (from : Step) (x : Next) → Falls service from x → FallsOrAsks s n service from x
+pub falls_so : (s : KernelState) (n : ℕ) (service : Service) (from : Step) (x : Next) → Falls service from x → FallsOrAsks s n service from x
 falls_so s n service from (next.GoOn to) falls = λ a h turn. inl falls
 falls_so s n service from (next.Answer word) falls = falls
 falls_so s n service from (next.Answers eax edx ecx ebx) falls = falls
