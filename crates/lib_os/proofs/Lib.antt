@@ -215,4 +215,5 @@ pub mod SpawnDrops
 pub mod SpawnUndoes
 pub mod SpawnCopies
 pub mod SpawnReleases
+pub mod SpawnCloses
 pub mod SpawnedProgress

@@ -131,7 +131,7 @@ module _ {names : Names} {s : KernelState} {a : AbstractState} {sp : SpacesState
   row_there : rows_of sp home p ≡ None
   row_there = ap (λ (rows : Rows). rows home p) puts.rows ∙ put-at (rows_of s.spaces) home p None
 
-  pub released_beside : IsBesidePage (view_of s.spaces (slot_at s n).directory) (view_of sp (slot_at s n).directory) p
+  released_beside : IsBesidePage (view_of s.spaces (slot_at s n).directory) (view_of sp (slot_at s n).directory) p
   released_beside = record {
     rows = row_beside;
     bytes = λ q x ne hx. puts.bytes home q x (λ same. ne) hx;
@@ -292,10 +292,11 @@ module _ {names : Names} {s : KernelState} {a : AbstractState} {sp : SpacesState
 
   -- ---- the state
 
-  pub released_stands : StandsAtSpawn (view_of sp (slot_at s n).directory) (record (slot_at s n) { extra = spawn_words to })
-      (spawn_there h n path argv from stands).b path argv to → StandsFor names (with_extra (with_spaces s sp) n (spawn_words to)) a
+  pub released_stands : (IsBesidePage (view_of s.spaces (slot_at s n).directory) (view_of sp (slot_at s n).directory) p →
+      StandsAtSpawn (view_of sp (slot_at s n).directory) (record (slot_at s n) { extra = spawn_words to }) (spawn_there h n path argv from stands).b path argv to) →
+      StandsFor names (with_extra (with_spaces s sp) n (spawn_words to)) a
   released_stands so =
-      spawning_moves h n path argv id from to b v bears_after sp (λ d not_mine not_childs. others d not_mine) (part so) has_still rows_then order
+      spawning_moves h n path argv id from to b v bears_after sp (λ d not_mine not_childs. others d not_mine) (part (so released_beside)) has_still rows_then order
       (others_counts h n last sp)
       (λ q pipes. row_beside q (λ same.
       let contradiction : true ≡ false = sym (pipe_descriptor q pipes) ∙ ap is_of_descriptor same ∙ no_descriptor in cc))
