@@ -1,2 +1,4 @@
 pub mod BirthFalls
 pub mod UndoingSteps
+pub mod DroppingSteps
+pub mod ReleasingSteps

@@ -14,3 +14,5 @@ pub mod SegmentGoes
 pub mod TestingLoads
 pub mod TestingCopies
 pub mod TestingLaw
+pub mod OpeningStays
+pub mod OpeningRequest

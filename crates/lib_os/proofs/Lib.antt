@@ -213,4 +213,8 @@ pub mod SpawnedMoves
 pub mod BorneCalls
 pub mod SpawnDestroys
 pub mod SpawnDrops
+pub mod SpawnUndoes
+pub mod SpawnCopies
+pub mod SpawnReleases
+pub mod SpawnCloses
 pub mod SpawnedProgress
