@@ -1,5 +1,5 @@
 -- Where spawn goes on from one of its tests: at the next, with what it has found out, or it drops its file, which is no image.
-use Rattle.std.proofs.Common.{◌≡◌, ◌≢◌, ◌⊎◌, inr, ℕ, Bool, true, false, if◌then◌else◌, refl, subst}
+use Rattle.std.proofs.Common.{◌≡◌, ◌≢◌, inr, ℕ, Bool, true, false, if◌then◌else◌, refl, subst}
 use Rattle.std.specs.Prelude.{None, slice_index}
 use Rattle.jos_base.specs.Environments.{Slot}
 use Rattle.jos_elf.specs.Tests.{first_failed, header_tests, table_tests}

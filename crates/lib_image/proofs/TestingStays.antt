@@ -1,5 +1,5 @@
 -- What spawn knows of the headers of its file stays so as its words tell another step, and as bytes are put into the page of the program headers.
-use Rattle.std.proofs.Common.{◌≡◌, ◌≢◌, ◌∙◌, ◌+◌, ℕ, List, ap, arith}
+use Rattle.std.proofs.Common.{◌≢◌, ◌∙◌, ℕ, List, ap, arith}
 use Rattle.jos_base.specs.Environments.{Slot}
 use Rattle.jos_base.specs.Words.{page_number}
 use Rattle.lib_os.specs.declared.numbers.TheConstants.{SPAWN_GIVEN}
