@@ -231,7 +231,7 @@ class Spawn:
         return size
 
     def part(self, place, size):
-        """So many bytes of the file from a place on: fewer are of no image."""
+        """So many bytes of the file from a place on: fewer are of no image. An error is answered as it is."""
         number = yield lambda: self.run.word_of(self.descriptor, NUMBER)
         for at, word in [(REQUEST_NUMBER, number), (REQUEST_COUNT, size), (REQUEST_PLACE, place)]:
             yield lambda: self.put_word(PATH_PAGE, at, word)
@@ -289,7 +289,7 @@ class Spawn:
     # ---- the child
 
     def begun(self, entry, esp):
-        """A child without pages, which has its registers: their record is put into the own page first."""
+        """A child without pages, which has its registers: their record is put into the own page first. Where there is none, that it was tried is a step."""
         child = yield lambda: self.run.make(self.me.id)
         if isinstance(child, int):
             raise Refused(self.run.wanting(child))

@@ -169,6 +169,7 @@ module _ (a b : AbstractState) (same : KeepsServed a b) where
       size = h.size;
       number_is = h.number_is;
       small = h.small;
+      sized = h.sized;
     }
 
     page_as : (a.opened it.state.number).held_by ≡ None → HasPage it → HasPage now

@@ -46,6 +46,7 @@ module _ (count : ℕ) (a : AbstractState) (it : Serving) (before : Memory) (fre
     size = h.size;
     number_is = h.number_is;
     small = h.small;
+    sized = h.sized;
   }
 
   object_paged : (object : Option ℕ) → HasObject a it object → HasObject a now object

@@ -52,6 +52,7 @@ module _ (disk : ℕ → ℕ) (a : AbstractState) (v : View) (holders : ℕ → 
     size = h.size;
     number_is = h.number_is;
     small = h.small;
+    sized = h.sized;
   }
 
   place_now : (number : ℕ) → PlaceStands disk a v number → PlaceStands disk a (counting v holders) number

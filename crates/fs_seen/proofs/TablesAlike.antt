@@ -49,6 +49,7 @@ module _ (disk : ℕ → ℕ) (a b : AbstractState) (v w : View) (same : SameObj
     size = word_again number FD_SIZE ∙ h.size;
     number_is = word_again number FD_FILE ∙ h.number_is;
     small = h.small;
+    sized = h.sized;
   }
 
   stands_again : (number : ℕ) → PlaceStands disk a v number → PlaceStands disk b w number

@@ -69,6 +69,7 @@ module _ (disk : ℕ → ℕ) (a b : AbstractState) (v : View) (t : TableStands 
       size = word_left number FD_SIZE ∙ h.size;
       number_is = word_left number FD_FILE ∙ h.number_is;
       small = h.small;
+      sized = h.sized;
     }
 
     stands_left : (number : ℕ) → number < MAXOPEN → PlaceStands disk a v number → PlaceStands disk b w number

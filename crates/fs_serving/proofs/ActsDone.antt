@@ -118,6 +118,7 @@ module _ (count : ℕ) (a : AbstractState) (v : View) (f : FileAct) (answer : �
               size = has.size;
               number_is = has.number_is;
               small = has.small;
+              sized = has.sized;
             }
         | inr gone ↦
             absurd (not-removed (is_file_open a) before.disk f has.f.way (v.homes number) gone.0 gone.1 (held-open a name has.f has.is held))

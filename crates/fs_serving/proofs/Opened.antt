@@ -22,7 +22,7 @@ use Rattle.fs_acts.proofs.DiskCounts.{image-counted}
 use Rattle.fs_acts.proofs.Stored.{same-word}
 use Rattle.fs_acts.proofs.Undamaged.{some-same, way-goes}
 use Rattle.fs_acts.proofs.WalkCounts.{slot-parts}
-use Rattle.fs_runs.specs.TreeRuns.{HasActed, Memory}
+use Rattle.fs_runs.specs.TreeRuns.{AreSmall, HasActed, Memory}
 use Rattle.lib_os.specs.declared.numbers.TheConstants.{DEVICE_FILE, FD_DEVICE, FD_FILE, FD_MODE, FD_OFFSET, FD_SIZE, MAXOPEN, REQUEST_MODE}
 use Rattle.lib_os.specs.AbstractState.{AbstractState, Object, OpenFile, Server, TablePlace, act, acted, busy, file}
 use Rattle.lib_os.specs.Descriptors.{is_held}
@@ -497,10 +497,10 @@ unfolding server_step
 steps a b client path mode k server is = ap (served a) server ∙ ap (λ (s : AbstractState). Some s) is
 
 pub storing_opened : ActsAreDone → (count : ℕ) (a : AbstractState) (it : Serving) (before : Memory) → HasFiles count before a.files →
-    TableStands before.disk a it.view → IsTold a it before 7 → (v : View) → v ≡ with_page_word it.view it.state.number FD_OFFSET it.state.at →
+    TableStands before.disk a it.view → AreSmall it.view.memory → IsTold a it before 7 → (v : View) → v ≡ with_page_word it.view it.state.number FD_OFFSET it.state.at →
     (word : ℕ) →
     let next = plans.next_for it.state step.StoringOffset word in Follows count a next.seen (gone_on it next v)
-storing_opened acts_are_done count a it before files table so v seen word =
+storing_opened acts_are_done count a it before files table small so v seen word =
     let k : ℕ = it.state.number in
     let next : ServerNext = plans.next_for it.state step.StoringOffset word in
     let w : View = with_page_word it.view it.state.number FD_OFFSET it.state.at in
@@ -532,6 +532,9 @@ storing_opened acts_are_done count a it before files table so v seen word =
           ∙ ap (λ (s : FileSystem). file_size s opened.way) done.files.are;
       number_is = page-left it.view k FD_OFFSET it.state.at FD_FILE (inr (omega arith)) ∙ so.number_is (omega arith);
       small = omega arith;
+      sized =
+          let short = opened-short count a it before files table small so.path so.mode so.home opened in
+          subst (λ (s : FileSystem). file_size s opened.way < 2 ^ 31) (sym done.files.are) (omega (arith, short));
     } in
     subst (λ (u : View). Follows count a next.seen (gone_on it next u)) (sym seen) (
       b,

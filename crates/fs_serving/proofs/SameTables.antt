@@ -22,6 +22,7 @@ module _ (disk : ℕ → ℕ) (a : AbstractState) (v : View) where
     size = has.size;
     number_is = has.number_is;
     small = has.small;
+    sized = has.sized;
   }
 
   place-over : (m : Memory) (number : ℕ) → PlaceStands disk a v number → PlaceStands disk a (record v { memory = m }) number
@@ -57,6 +58,7 @@ module _ (disk : ℕ → ℕ) (a : AbstractState) (v : View) where
     size = has.size;
     number_is = has.number_is;
     small = has.small;
+    sized = has.sized;
   }
 
   place-behind : (files : FileSystem) (server : Server) (number : ℕ) → PlaceStands disk a v number →

@@ -20,7 +20,7 @@ use Rattle.fs_acts.specs.BlockActs.{put_word, read_plan, turned_down, write_plan
 use Rattle.fs_acts.specs.BlockLaws.{HasString}
 use Rattle.fs_acts.proofs.Stored.{stored-word, stored-word_left}
 use Rattle.fs_acts.proofs.Undamaged.{way-reached}
-use Rattle.fs_runs.specs.TreeRuns.{HasActed, Memory, bytes_given}
+use Rattle.fs_runs.specs.TreeRuns.{AreSmall, HasActed, Memory, bytes_given}
 use Rattle.lib_os.specs.declared.numbers.TheConstants.{FD_DEVICE, FD_FILE, FD_MODE, FD_OFFSET, FD_SIZE, MAXOPEN, REQUEST_COUNT}
 use Rattle.lib_os.specs.declared.numbers.TheConstants.{REQUEST_FILE}
 use Rattle.lib_os.specs.declared.progress.Progress.TheVariants as progress
@@ -105,6 +105,7 @@ module _ (disk : ℕ → ℕ) (a : AbstractState) (v : View) (number name offset
         size = left FD_SIZE (inr (omega arith)) ∙ old_file.size ∙ ap (λ (g : OpenFile). g.size) same;
         number_is = left FD_FILE (inr (omega arith)) ∙ old_file.number_is;
         small = short;
+        sized = subst (λ (g : OpenFile). g.size < 2 ^ 31) same old_file.sized;
       }
 
   others : (k other : ℕ) → k ≢ number → other ≢ name → HasFile disk a v k other → HasFile disk at_offset seen_so k other
@@ -123,6 +124,7 @@ module _ (disk : ℕ → ℕ) (a : AbstractState) (v : View) (number name offset
         size = read FD_SIZE ∙ has.size;
         number_is = read FD_FILE ∙ has.number_is;
         small = has.small;
+        sized = has.sized;
       }
 
   holding : (k : ℕ) → k < MAXOPEN → (other : ℕ) → (a.opened k).held_by ≡ Some other → is_held a other ≡ true → HasFile disk at_offset seen_so k other
@@ -448,7 +450,7 @@ sought_in a page _ _ syncs = tt
 -- the store that opens a file
 abbrev pub OpenedFollows : Type 0
 OpenedFollows = (count : ℕ) (a : AbstractState) (it : Serving) (before : Memory) → HasFiles count before a.files → TableStands before.disk a it.view →
-    IsTold a it before 7 → (v : View) → v ≡ with_page_word it.view it.state.number FD_OFFSET it.state.at → (word : ℕ) →
+    AreSmall it.view.memory → IsTold a it before 7 → (v : View) → v ≡ with_page_word it.view it.state.number FD_OFFSET it.state.at → (word : ℕ) →
     let next = next_for it.state step.StoringOffset word in Follows count a next.seen (gone_on it next v)
 
 pub storing_offset : ActsAreDone → OpenedFollows → StepFollows step.StoringOffset
@@ -458,7 +460,7 @@ storing_offset acts_done storing_opened count a it before small files table so w
   where
     by_case : IsStoring a it before →
         Follows count a progress.Visible (gone_on it (shown it.state step.Replying) (with_page_word it.view it.state.number FD_OFFSET it.state.at))
-    by_case (opened told) = storing_opened count a it before files table told (with_page_word it.view it.state.number FD_OFFSET it.state.at) refl word
+    by_case (opened told) = storing_opened count a it before files table small told (with_page_word it.view it.state.number FD_OFFSET it.state.at) refl word
     by_case (moved has at_is) =
         by_move acts_done count a it before files table has.k (act has.f (Some has.name)) has.is_busy.asks has.moves has.is_busy.server
         has.is_busy.kind_is has.number has.has_acted has.many at_is

@@ -49,6 +49,7 @@ file-kept disk a objects opened next files server v w number name home page obje
       size = ap (λ (p : Option (ℕ → ℕ)). word_of p FD_SIZE) page ∙ has.size;
       number_is = ap (λ (p : Option (ℕ → ℕ)). word_of p FD_FILE) page ∙ has.number_is;
       small = has.small;
+      sized = has.sized;
     }
 
 pub place-kept : (disk : ℕ → ℕ) (a : AbstractState) (objects : ℕ → Object) (opened : ℕ → TablePlace) (next : ℕ) (files : FileSystem)

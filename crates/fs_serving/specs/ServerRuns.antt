@@ -64,6 +64,7 @@ pub record HasFile (disk : ℕ → ℕ) (a : AbstractState) (v : View) (number n
   pub size : page_word v number FD_SIZE ≡ f.size
   pub number_is : page_word v number FD_FILE ≡ number
   pub small : f.offset < 2 ^ 31
+  pub sized : f.size < 2 ^ 31
 
 -- A place: it has a page once it had a file; who holds it is told by how often that is mapped; and what is held there is a file.
 pub record PlaceStands (disk : ℕ → ℕ) (a : AbstractState) (v : View) (number : ℕ) : Type 0 where

@@ -259,7 +259,7 @@ module _ {names : Names} {s : KernelState} {a : AbstractState} (h : StandsFor na
         let contradiction : false ≡ true = sym (ap (is_opening (service.Spawn path argv)) found) ∙ opens_it in cc
     no_part (for_table esp fd size entry_point headers place words header found sized stack begins many few) =
         let contradiction : false ≡ true = sym (ap (is_opening (service.Spawn path argv)) found) ∙ opens_it in cc
-    no_part (for_piece fd headers child header done end place image pieces found of_file whole below left come next) =
+    no_part (for_piece fd headers child header done end place image pieces found of_file whole below left come next sized) =
         let contradiction : false ≡ true = sym (ap (is_opening (service.Spawn path argv)) found) ∙ opens_it in cc
 
     by_step : (path_is argv_is : ℕ) (at_step : SpawnStep) → place_of k ≡ place.InService (service.Spawn path_is argv_is) (step.Spawning at_step) →

@@ -21,6 +21,7 @@ use Rattle.lib_os.specs.declared.place.Step.{Step}
 use Rattle.lib_os.specs.declared.place.Step.TheVariants as step
 use Rattle.lib_os.specs.declared.service.Service.{Service}
 use Rattle.lib_os.specs.declared.service.Service.TheVariants as service
+use Rattle.lib_os.specs.declared.spawn_steps.SpawnStep.{SpawnStep}
 use Rattle.lib_os.specs.AbstractLaws.{ServesWhoAsked, client_served, has_asked}
 use Rattle.lib_os.specs.AbstractState.{AbstractState, Born, Server, acted, asked, awaiting, born, busy, idle, in_service, leaving, looking, Phase}
 use Rattle.lib_os.specs.Disk.{Disk}
@@ -31,14 +32,13 @@ use Rattle.lib_os.specs.Rows.{MayBeHad, Names, Rows, is_of_descriptor, is_shared
 use Rattle.lib_os.specs.StandsFor.{IsStatusFor, StandsFor, StandsForBorn, view_of}
 use Rattle.lib_os.proofs.AskedPlaces.{IsRequesting, asked_step, asks as asks_it, awaiting_step, expects, expects_so, is_request, is_requests}
 use Rattle.lib_os.proofs.AskedPlaces.{requesting, spawn_asks, spawn_expects}
-use Rattle.lib_os.proofs.BuiltServices.{built_at}
 use Rattle.lib_os.proofs.EntriesCount.{Counts, entry_counts}
 use Rattle.lib_os.proofs.EntriesStand.{other_frame, same_sharing}
 use Rattle.lib_os.proofs.Logical.{clients_so, is_plain, is_remapped, logical_beside, plain_unremapped}
 use Rattle.lib_os.proofs.ServedStay.{HasClient, client_is}
 use Rattle.lib_os.proofs.ServerStands.{first_slot}
 use Rattle.lib_os.proofs.SlotsStand.{born_at, born_live}
-use Rattle.lib_os.proofs.SpawnWaits.{expected_so}
+use Rattle.lib_os.proofs.SpawnWaits.{SpawnHasAsked, asks_file, asks_part, expected_so}
 use Rattle.lib_os.proofs.StatesStand.{born_not_first}
 use Rattle.fs_seen.specs.ServerMemory.{entry_of, has_request, request_page, sends_page}
 use Rattle.fs_seen.specs.ServerOthers.{LeavesBytes}
@@ -93,15 +93,20 @@ blocked_asleep : (status : Status) → IsStatusFor status true → is_awake stat
 blocked_asleep NotRunnable is awake = false≢true awake
 blocked_asleep _ is awake = is
 
--- One that may run does not wait for a reply; and spawn, which asks at other steps, is not built.
+-- spawn, too
+spawn_about : {v : View} {k : Slot} {b : Born} {path argv : ℕ} {to : SpawnStep} → SpawnHasAsked v k b path argv to →
+    awaits_reply (place.InService (service.Spawn path argv) (step.Spawning to)) ≡ true
+spawn_about (asks_file esp fd id self so) = refl
+spawn_about (asks_part wanted id self so) = refl
+
+-- One that may run does not wait for a reply.
 requesting_awaits : {v : View} {k : Slot} {b : Born} → IsStatusFor k.status b.blocked → is_awake k.status ≡ true → IsRequesting (place_of k) v k b →
     awaits_reply (place_of k) ≡ true
 requesting_awaits runs awake (asks_it s is id fd at self so) = ap awaits_reply at ∙ asking_awaits s is id fd
 requesting_awaits {v = v} {k = k} {b = b} runs awake (expects s is id fd at self so) =
     let blocked = (expects_so v k b s fd so).blocked in
     absurd (blocked_asleep k.status (subst (λ (c : Bool). IsStatusFor k.status c) blocked runs) awake)
-requesting_awaits {k = k} runs awake (spawn_asks path argv to at so) =
-    absurd (false≢true (built_at k.registers k.extra (service.Spawn path argv) (step.Spawning to) at))
+requesting_awaits runs awake (spawn_asks path argv to at so) = ap awaits_reply at ∙ spawn_about so
 requesting_awaits {k = k} runs awake (spawn_expects path argv to at so) =
     let blocked = (expected_so so).1.blocked in
     absurd (blocked_asleep k.status (subst (λ (c : Bool). IsStatusFor k.status c) blocked runs) awake)

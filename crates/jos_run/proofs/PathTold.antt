@@ -12,7 +12,7 @@ use Rattle.fs_runs.specs.TreeRuns.{HasPath}
 use Rattle.lib_os.specs.FileServices.{is_nul}
 
 -- none of the bytes before the first end is an end
-none_before : (bytes : List ℕ) → list_any is_nul (before_first is_nul bytes) ≡ false
+pub none_before : (bytes : List ℕ) → list_any is_nul (before_first is_nul bytes) ≡ false
 none_before [] = refl
 none_before (x ∷ rest) = by_test (none_before rest) (x == 0) refl
   where

@@ -6,9 +6,25 @@ use Rattle.lib_os.specs.declared.place.Place.{Place}
 use Rattle.lib_os.specs.declared.place.Place.TheVariants as place
 use Rattle.lib_os.specs.declared.place.Step.TheVariants as step
 use Rattle.lib_os.specs.declared.service.Service.TheVariants as service
+use Rattle.lib_os.specs.declared.spawn_steps.OpeningStep.TheVariants as opening
+use Rattle.lib_os.specs.declared.spawn_steps.ReadStep.TheVariants as read
+use Rattle.lib_os.specs.declared.spawn_steps.SpawnStep.{SpawnStep}
+use Rattle.lib_os.specs.declared.spawn_steps.SpawnStep.TheVariants as spawn
 use Rattle.lib_os.specs.AbstractState.{AbstractState}
 use Rattle.lib_os.specs.LibrarySteps.{Stands}
 use Rattle.lib_os.specs.Places.{place_of}
+
+-- spawn has asked, for its file or for a part of that, and is about to wait
+abbrev pub spawn_awaits : SpawnStep → Bool
+spawn_awaits (spawn.Opening (opening.OpenAwaiting esp fd id)) = true
+spawn_awaits (spawn.Reading wanted (read.Awaiting id)) = true
+spawn_awaits _ = false
+
+-- it is about to ask
+abbrev pub spawn_asks_at : SpawnStep → Bool
+spawn_asks_at (spawn.Opening (opening.OpenAsking esp fd id)) = true
+spawn_asks_at (spawn.Reading wanted (read.Asking id)) = true
+spawn_asks_at _ = false
 
 -- it has asked, and is about to wait
 abbrev pub awaits_reply : Place → Bool
@@ -20,6 +36,7 @@ awaits_reply (place.InService (service.SetSize fd size) (step.Awaiting id)) = tr
 awaits_reply (place.InService (service.Write fd va len) (step.Awaiting id)) = true
 awaits_reply (place.InService (service.Read fd va len) (step.Awaiting id)) = true
 awaits_reply (place.InService (service.Stat fd va) (step.Awaiting id)) = true
+awaits_reply (place.InService (service.Spawn path argv) (step.Spawning at)) = spawn_awaits at
 awaits_reply _ = false
 
 -- it is about to ask, with a page
@@ -31,6 +48,7 @@ asks_by_page (place.InService (service.SetSize fd size) (step.Asking id)) = true
 asks_by_page (place.InService (service.Write fd va len) (step.Asking id)) = true
 asks_by_page (place.InService (service.Read fd va len) (step.Asking id)) = true
 asks_by_page (place.InService (service.Stat fd va) (step.Asking id)) = true
+asks_by_page (place.InService (service.Spawn path argv) (step.Spawning at)) = spawn_asks_at at
 asks_by_page _ = false
 
 -- the environment in slot n has its own space

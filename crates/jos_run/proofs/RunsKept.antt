@@ -26,22 +26,28 @@ use Rattle.lib_os.specs.declared.progress.Progress.{Progress}
 use Rattle.lib_os.specs.declared.progress.Progress.TheVariants as progress
 use Rattle.lib_os.specs.declared.service.Service.{Service}
 use Rattle.lib_os.specs.declared.service.Service.TheVariants as service
+use Rattle.lib_os.specs.declared.spawn_steps.OpeningStep.TheVariants as opening
+use Rattle.lib_os.specs.declared.spawn_steps.ReadStep.TheVariants as read
+use Rattle.lib_os.specs.declared.spawn_steps.SpawnStep.{SpawnStep}
+use Rattle.lib_os.specs.declared.spawn_steps.SpawnStep.TheVariants as spawn
 use Rattle.lib_os.specs.AbstractState.{AbstractState, Born, AbstractSlot, free, unborn, born, idle, serving, Stage, entered, guest, Phase, in_service, can_run, is_idle}
 use Rattle.lib_os.specs.AbstractState.{Request, act, seek}
 use Rattle.lib_os.specs.FileServer.{request_begun}
 use Rattle.lib_os.specs.AbstractRun.{abs_step, program_step, slot_step}
 use Rattle.lib_os.specs.LibraryCall.{library_step}
-use Rattle.lib_os.specs.LibrarySteps.{NothingRefused, Stands, is_pausing, is_yield}
+use Rattle.lib_os.specs.LibrarySteps.{NothingRefused, Stands, is_pausing, is_yield, spawn_pauses_at}
 use Rattle.lib_os.specs.Places.{place_of}
 use Rattle.lib_os.specs.LibraryPages.{View}
 use Rattle.lib_os.specs.Rows.{Names}
+use Rattle.lib_os.specs.StandsAtSpawn.{StandsAtSpawn}
 use Rattle.lib_os.specs.StandsFor.{StandsFor, StandsForSlot, StandsAt, StandsAtStep, TellsRequest, IsStatusFor, borne_in, view_of}
 use Rattle.lib_os.specs.Disk.{Disk}
-use Rattle.lib_os.proofs.BuiltServices.{built_at}
 use Rattle.lib_os.proofs.PipesStand.{is_calm}
 use Rattle.lib_os.proofs.RequestPages.{IsBeside, brings_page, pausing_step, told_pausing}
-use Rattle.lib_os.proofs.RequestsTold.{request_told}
+use Rattle.lib_os.proofs.RequestsTold.{IsAsking, request_told}
 use Rattle.lib_os.proofs.SlotsStand.{born_at}
+use Rattle.lib_os.proofs.SpawnOwnPages.{spawns_at}
+use Rattle.lib_os.proofs.SpawnRequests.{file_asking, part_asking}
 use Rattle.lib_os.proofs.StatesStand.{turn_begun_stands, turn_ended_stands}
 use Rattle.jos_run.specs.AbstractTurns.{turn_begun, steps_taken, abs_run, asks, asks_behind, waits_in, stands_waiting}
 use Rattle.jos_run.specs.AbstractTurns.{yields_in, is_yielding, has_yielded, has_yielded_after, may_end, turn_fits, fits, all_fit}
@@ -296,6 +302,9 @@ begun_serves n (act (open_path path mode) object) = refl
 begun_serves n (act _ object) = refl
 begun_serves n (seek name offset) = refl
 
+asks_so : {a : AbstractState} {n : ℕ} {b : Born} {call : Service} → IsAsking a n b call → asks a n ≡ true
+asks_so {n = n} it = ap asks_behind (it.asks idle) ∙ ap not (begun_serves n it.request)
+
 module _ {names : Names} {s : KernelState} {a : AbstractState} (h : StandsFor names s a) (n : ℕ) (b : Born) (at : a.slots n ≡ born b) where
   abbrev seen : View
   seen = view_of s.spaces (slot_at s n).directory
@@ -303,9 +312,7 @@ module _ {names : Names} {s : KernelState} {a : AbstractState} (h : StandsFor na
   asks_told : (call : Service) (fd : ℕ) → borne_in (place_of (slot_at s n)) ≡ None → is_calm (place_of (slot_at s n)) ≡ true →
       IsBeside seen.row call fd →
       TellsRequest seen (slot_at s n) b call → asks a n ≡ true
-  asks_told call fd unborne calm beside tells =
-      let it = request_told h n b at unborne calm call fd beside tells in
-      ap asks_behind (it.asks idle) ∙ ap not (begun_serves n it.request)
+  asks_told call fd unborne calm beside tells = asks_so (request_told h n b at unborne calm call fd beside tells)
 
   -- a service that asks with a page
   pauses_to_ask : (call : Service) → brings_page call ≡ true → (id fd : ℕ) → place_of (slot_at s n) ≡ place.InService call (pausing_step call id fd) →
@@ -316,6 +323,14 @@ module _ {names : Names} {s : KernelState} {a : AbstractState} (h : StandsFor na
       let told = told_pausing seen (slot_at s n) b call with_page id fd there in
       ap (λ (c : Bool). waits_in a b b.phase || c) (asks_told call fd (ap borne_in is ∙ unborne) (ap is_calm is ∙ calm) told.1 told.2)
       ∙ or-true (waits_in a b b.phase)
+
+  -- and spawn
+  spawn_pauses : (path argv : ℕ) (from : SpawnStep) → place_of (slot_at s n) ≡ spawns_at path argv from →
+      StandsAtSpawn seen (slot_at s n) b path argv from → spawn_pauses_at from ≡ true → asks a n ≡ true
+  spawn_pauses path argv (spawn.Opening (opening.OpenPausing esp fd id)) is there pauses = asks_so (file_asking h n b at path argv there.1)
+  spawn_pauses path argv (spawn.Reading wanted (read.Pausing id)) is there pauses =
+      asks_so (part_asking h n b at path argv (read.Pausing id) is there.1.so.so.asks)
+  spawn_pauses path argv _ is there pauses = absurd (false≢true pauses)
 
   pausing_place : (p : Place) → place_of (slot_at s n) ≡ p → StandsAt p seen (slot_at s n) b → is_pausing p ≡ true → (waits_in a b b.phase || asks a n) ≡ true
   pausing_place (place.InService (service.Wait id) (step.Pausing perm)) is there pauses =
@@ -346,7 +361,7 @@ module _ {names : Names} {s : KernelState} {a : AbstractState} (h : StandsFor na
   pausing_place (place.InService (service.Stat fd va) (step.Piped stands)) is there pauses =
       ap (λ (c : Bool). c || asks a n) (stat_waits h n b at fd va stands is there pauses)
   pausing_place (place.InService (service.Spawn path argv) (step.Spawning stands)) is there pauses =
-      absurd (false≢true (built_at (slot_at s n).registers (slot_at s n).extra (service.Spawn path argv) (step.Spawning stands) is))
+      ap (λ (c : Bool). waits_in a b b.phase || c) (spawn_pauses path argv stands is there pauses) ∙ or-true (waits_in a b b.phase)
   pausing_place _ is there pauses = absurd (false≢true pauses)
 
 -- One that is about to give up its turn waits in a service.

@@ -1,7 +1,7 @@
 -- Whose step it is, and where the file server stands while others make their steps, and where turns begin and end.
 use Rattle.std.proofs.Common.{◌≡◌, ◌≢◌, ◌∙◌, inl, inr, ℕ, ◌+◌, ◌%◌, ◌^◌, ◌==◌, ◌<◌, Bool, true, false, List, [], ◌∷◌, Option, Some, None, length}
 use Rattle.std.proofs.Common.{refl, sym, ap, subst, arith, if◌then◌else◌}
-use Rattle.std.specs.Prelude.{IfSome, is_some}
+use Rattle.std.specs.Prelude.{IfSome, is_some, slice_index}
 use Rattle.std.specs.Option.{option_map}
 use Rattle.std.proofs.lemmas.Bool.Decides.{nat_tests}
 use Rattle.std.proofs.lemmas.Bool.{cases_eq, false≢true}
@@ -9,7 +9,7 @@ use Rattle.std.proofs.lemmas.Option.{none-some, same_Some}
 use Rattle.jos_base.specs.declared.environment.EnvType.{EnvType}
 use Rattle.jos_base.specs.declared.environment.Status.{Status}
 use Rattle.jos_base.specs.declared.environment.Status.TheVariants.{NotRunnable, Runnable, Running}
-use Rattle.jos_base.specs.declared.numbers.TheConstants.{FIRST_ENV_ID, NENV, UTEMP}
+use Rattle.jos_base.specs.declared.numbers.TheConstants.{FIRST_ENV_ID, NENV, PGSIZE, UTEMP}
 use Rattle.jos_base.specs.declared.registers.Regs.{Regs}
 use Rattle.jos_base.specs.Environments.{Slot, is_live, is_running}
 use Rattle.jos_base.specs.KernelState.{KernelState, slot_at, turn_begun, turn_ended, with_slot_at, with_status}
@@ -40,20 +40,23 @@ use Rattle.lib_os.specs.declared.service.Service.{Service}
 use Rattle.lib_os.specs.declared.service.Service.TheVariants as service
 use Rattle.lib_os.specs.AbstractLaws.{AsksOrLeaves, LeavesFiles, ServesWhoAsked, asks, asks_server, client_served, leaves}
 use Rattle.lib_os.specs.AbstractRun.{abs_step, program_step, slot_step}
-use Rattle.lib_os.specs.AbstractState.{AbstractSlot, AbstractState, Born, Request, Server, act, acted, asked, awaiting, born, busy, entered}
-use Rattle.lib_os.specs.AbstractState.{guest, idle, in_service, leaving, looking, seek, slot_id}
+use Rattle.lib_os.specs.AbstractSpawn.{with_spawning}
+use Rattle.lib_os.specs.AbstractState.{AbstractSlot, AbstractState, Born, Object, OpenFile, Request, Server, act, acted, asked, awaiting, born, busy, entered}
+use Rattle.lib_os.specs.AbstractState.{file, guest, idle, in_service, leaving, looking, seek, slot_id}
 use Rattle.lib_os.specs.AskedFor.{AsksBy, ServesAsAsked}
+use Rattle.lib_os.specs.Descriptors.{is_held}
 use Rattle.lib_os.specs.Disk.{Disk}
 use Rattle.lib_os.specs.FileServer.{request_begun, request_taken}
 use Rattle.lib_os.specs.LibraryCall.{library_step}
 use Rattle.lib_os.specs.LibraryPages.{View}
 use Rattle.lib_os.specs.LibrarySteps.{AbstractFollows, AsksServer, BringsRequest, BringsWithPage, GivesPage, GoesOn, KeepsPlaces, KeepsServer}
 use Rattle.lib_os.specs.LibrarySteps.{KeepsWorking, LeavesEach, LeavesOrAsks, LeavesServer, NothingRefused, Stands, Stays, asked_it, asking_step}
-use Rattle.lib_os.specs.LibrarySteps.{left_alone, request_perm, with_message_in}
+use Rattle.lib_os.specs.LibrarySteps.{left_alone, request_perm, spawn_asked, spawn_asks_by, with_message_in}
 use Rattle.lib_os.specs.MadeCalls.{is_server_page}
 use Rattle.lib_os.specs.Requests as requests_of
 use Rattle.lib_os.specs.Rows.{Names, is_of_descriptor, lasting, rows_of}
 use Rattle.lib_os.specs.InService.{IsIn}
+use Rattle.lib_os.specs.StandsAtSpawn.{StandsAtSpawn}
 use Rattle.lib_os.specs.StandsFor.{AwaitsRequest, IsServerStatus, IsStatusFor, StandsAt, StandsFor, StandsForBorn, TellsRequest, borne_in}
 use Rattle.lib_os.specs.StandsFor.{StandsForServer, StandsForSlot, view_of}
 use Rattle.lib_os.specs.UserCalls.{is_file_server}
@@ -68,6 +71,7 @@ use Rattle.lib_os.proofs.PipesStand.{is_calm}
 use Rattle.lib_os.proofs.RequestPages.{IsBeside, asking_calm, brings_page, brings_unborne, told_asking, word_asked}
 use Rattle.lib_os.proofs.ServedStay.{HasClient, client_is, served_clients_stay}
 use Rattle.lib_os.proofs.SlotsStand.{born_at, born_live}
+use Rattle.lib_os.proofs.SpawnOwnPages.{spawns_at}
 use Rattle.fs_tree.specs.TreeSteps.{memory_in, request_bytes}
 use Rattle.fs_serving.specs.ServerRuns.{AsksFor, TableStands, syncs}
 use Rattle.fs_seen.specs.ServerMemory.{HasRequested, entry_of, has_request, request_page, sends_page, view_in}
@@ -88,8 +92,8 @@ use Rattle.jos_run.specs.ServerStands.{BringsOwn, HasLent, IsClient, IsLent, IsL
 use Rattle.jos_run.specs.ServerStands.{WholeFollows, WholeGoesOn, WholeStays, serving_at, step_of}
 use Rattle.jos_run.specs.Steps.{is_awake, is_servers}
 use Rattle.jos_run.specs.Worlds.{beside}
-use Rattle.jos_run.proofs.RequestsCalm.{RequestsCalmly, asks_by_page}
-use Rattle.jos_run.proofs.RequestsMade.{Asks, asked_state, kind_asked, request_made, word_of_kind}
+use Rattle.jos_run.proofs.RequestsCalm.{RequestsCalmly, asks_by_page, spawn_asks_at}
+use Rattle.jos_run.proofs.RequestsMade.{Asks, asked_state, found_at, kind_asked, request_made, spawn_kind, spawn_made, spawn_word, word_of_kind}
 use Rattle.jos_run.proofs.PagesLeft.{lent_left, others_lack, pages_left, requests}
 use Rattle.jos_run.proofs.ServingKept.{serves_still}
 use Rattle.jos_base.proofs.Maps.{upd-all, upd-at}
@@ -441,11 +445,14 @@ module _ (d : Disk) (n : ℕ) (s after : KernelState) (other : n ≢ 0) (live : 
       by_server (acted client answer bytes object) is = none is.0
 
   -- and one that is asked does not wait
+  message_wakes : (slot_at after 0).status ≡ NotRunnable → (sender value perm : ℕ) → slot_at after 0 ≡ with_message_in (slot_at s 0) sender value perm → ⊥
+  message_wakes is sender value perm told = let contradiction : Runnable ≡ NotRunnable = sym (ap (λ (x : Slot). x.status) told) ∙ is in cc
+
   asked_wakes : AsksServer n s after → (slot_at after 0).status ≡ NotRunnable → ⊥
   asked_wakes it is = by_service it.by_service it.brings
     where
       runs : (sender value perm : ℕ) → slot_at after 0 ≡ with_message_in (slot_at s 0) sender value perm → ⊥
-      runs sender value perm told = let contradiction : Runnable ≡ NotRunnable = sym (ap (λ (x : Slot). x.status) told) ∙ is in cc
+      runs = message_wakes is
 
       by_service : (x : Service) → BringsRequest x n s after → ⊥
       by_service service.Sync brings = runs (slot_at s n).id FSREQ_SYNC 0 brings.0
@@ -480,6 +487,9 @@ module _ (d : Disk) (n : ℕ) (s after : KernelState) (other : n ≢ 0) (live : 
       by_way (asked_it it) =
           let status = subst (λ (x : Server). IsServerStatus x (slot_at after 0)) (waits_idle it.waited) stays.1.1.server.status in
           absurd (asked_wakes it status.status)
+      by_way (spawn_asked it) =
+          let status = subst (λ (x : Server). IsServerStatus x (slot_at after 0)) (waits_idle it.waited) stays.1.1.server.status in
+          absurd (message_wakes status.status (slot_at s n).id it.word request_perm it.brings.0)
 
   nobody_asks : (x : Slot) (request : Request) (y : Server) → y ≡ request_begun n request → IsServerStatus y x → x.status ≡ NotRunnable →
       {X : Type 0} → X
@@ -566,12 +576,12 @@ module _ (d : Disk) (n : ℕ) (s after : KernelState) (other : n ≢ 0) (live : 
 
   -- ---- it is asked
 
-  module _ (it : AsksServer n s after) (c : AbstractState) (step : abs_step a n ≡ Some c) (stands : Stands after c) where
+  module _ (waited : AwaitsRequest (slot_at s 0)) (c : AbstractState) (step : abs_step a n ≡ Some c) (stands : Stands after c) where
     own : StandsForBorn h.0 s.spaces (slot_at s n) b
     own = born_at h.1 n b at
 
     idle_so : a.server ≡ idle
-    idle_so = waits_idle it.waited
+    idle_so = waits_idle waited
 
     left : LeavesFiles a c
     left = (left_of c step).0
@@ -584,12 +594,12 @@ module _ (d : Disk) (n : ℕ) (s after : KernelState) (other : n ≢ 0) (live : 
     table = (subst (λ (x : Server). ServesBy x d s 0 a) idle_so k.serving.serves).table
 
     -- By what it is asked for, the message that has come, and the page that has come with it, it stands.
-    asked_for : (call : Service) (request : Request) (of : RequestKind) → c ≡ asked_state a n b call request → AsksBy call b.spawning request →
-        client_served (request_begun n request) ≡ Some n → IsAsked s after 0 → HasRequested (request_begun n request) after 0 →
-        AsksFor (asked_state a n b call request) (request_bytes after 0) of request → HasLent (request_begun n request) after →
+    asked_for : (e : Born) → e.id ≡ b.id → (call : Service) (request : Request) (of : RequestKind) → c ≡ asked_state a n e call request →
+        AsksBy call e.spawning request → client_served (request_begun n request) ≡ Some n → IsAsked s after 0 → HasRequested (request_begun n request) after 0 →
+        AsksFor (asked_state a n e call request) (request_bytes after 0) of request → HasLent (request_begun n request) after →
         (value perm : ℕ) → slot_at after 0 ≡ with_message_in (slot_at s 0) (slot_at s n).id value perm → value ≡ requests_of.request_word of →
         ServerStands d after c
-    asked_for call request of same by serves asked_so requested tells lent value perm slot value_is = record {
+    asked_for e same_id call request of same by serves asked_so requested tells lent value perm slot value_is = record {
       serving = served.serving;
       twelve = ap (λ (x : Slot). length x.extra) slot ∙ k.twelve;
       brings = subst (λ (words : List ℕ). BringsOwn d (state_in words).place) (sym (ap (λ (x : Slot). x.extra) slot)) k.brings;
@@ -597,15 +607,15 @@ module _ (d : Disk) (n : ℕ) (s after : KernelState) (other : n ≢ 0) (live : 
           let same : n ≡ m = same_Some n m (sym (ap (λ (x : Server). client_served x) server_is ∙ serves) ∙ of) in
           subst (λ (x : ℕ). IsClient c x (client_id (step_of (slot_at after 0)) (slot_at after 0))) same client;
       asked = served_clients_stay a c n below k.asked step;
-      fits = asked_fits c n (record b { phase = in_service call asked }) call request server_is own_slot refl by;
+      fits = asked_fits c n (record e { phase = in_service call asked }) call request server_is own_slot refl by;
       lent = subst (λ (x : Server). HasLent x after) (sym server_is) lent;
     }
       where
         server_is : c.server ≡ request_begun n request
         server_is = ap (λ (x : AbstractState). x.server) same
 
-        own_slot : c.slots n ≡ born (record b { phase = in_service call asked })
-        own_slot = ap (λ (x : AbstractState). x.slots n) same ∙ upd-at a.slots n (born (record b { phase = in_service call asked }))
+        own_slot : c.slots n ≡ born (record e { phase = in_service call asked })
+        own_slot = ap (λ (x : AbstractState). x.slots n) same ∙ upd-at a.slots n (born (record e { phase = in_service call asked }))
 
         sender_is : (slot_at after 0).rendezvous.sender ≡ (slot_at s n).id
         sender_is = ap (λ (x : Slot). x.rendezvous.sender) slot
@@ -620,43 +630,39 @@ module _ (d : Disk) (n : ℕ) (s after : KernelState) (other : n ≢ 0) (live : 
         client : IsClient c n (client_id (step_of (slot_at after 0)) (slot_at after 0))
         client = subst (λ (x : ServerStep). IsClient c n (client_id x (slot_at after 0))) (sym served.at_step) (record {
           slot = sym (h.1.tabled.ids n live) ∙ ap (λ (x : ℕ). x % NENV) (sym sender_is);
-          same = ap (λ (x : AbstractSlot). slot_id x) own_slot ∙ sym own.id ∙ sym sender_is;
+          same = ap (λ (x : AbstractSlot). slot_id x) own_slot ∙ same_id ∙ sym own.id ∙ sym sender_is;
         })
 
     -- for sync
-    asked_sync : place_of (slot_at s n) ≡ place.InService service.Sync (step_at.Asking it.id) → BringsRequest service.Sync n s after →
+    asked_sync : (id : ℕ) → place_of (slot_at s n) ≡ place.InService service.Sync (step_at.Asking id) → BringsRequest service.Sync n s after →
         ServerStands d after c
-    asked_sync place_is brings =
+    asked_sync id place_is brings =
         let asking : IsIn (slot_at s n) b service.Sync entered =
         (subst (λ (p : Place). StandsAt p (view_of s.spaces (slot_at s n).directory) (slot_at s n) b) place_is own.at).1 in
-        asked_for service.Sync (act sync_files None) kind.Sync
+        asked_for b refl service.Sync (act sync_files None) kind.Sync
         (sync_asked a c n b (slot_at s n).registers idle_so at asking.awake asking.program asking.phase step) tt refl
         (asked_by_word d s after 0 (slot_at s n).id FSREQ_SYNC k.serving.stands brings.0 brings.1) (λ sends. absurd (false≢true sends)) syncs
         (word_request s after 0 (slot_at s n).id FSREQ_SYNC brings.0 brings.1 ∙ nobody) FSREQ_SYNC 0 brings.0 refl
 
-    -- and by a page
-    asked_page : (call : Service) → brings_page call ≡ true → place_of (slot_at s n) ≡ place.InService call (asking_step call it.id it.fd) →
-        BringsWithPage (word_asked call) n s after → ServerStands d after c
+    -- and by a page, which tells what it asks for
+    asked_with : (e : Born) → e.id ≡ b.id → (call : Service) (of : RequestKind) (word : ℕ) → word ≡ requests_of.request_word of →
+        asks_by_page (place_of (slot_at s n)) ≡ true →
+        ((page : Entry) → rows_of s.spaces (slot_at s n).directory (page_number UTEMP) ≡ Some page →
+        ((i : ℕ) → i < PGSIZE → request_bytes after 0 i ≡ slice_index (s.spaces.pages page.frame) i) → Asks a n e call of (request_bytes after 0)) →
+        BringsWithPage word n s after → ServerStands d after c
     unfolding rows_of
-    asked_page call is place_is brings =
-        asked_for call made.request (kind_asked call) (sym (same_Some (asked_state a n b call made.request) c (sym made.asks ∙ step)))
+    asked_with e same_id call of word word_is asks_so makes brings =
+        asked_for e same_id call made.request of (sym (same_Some (asked_state a n e call made.request) c (sym made.asks ∙ step)))
         made.by made.served come.asked
         (requested_where after 0 (ap (λ (o : Option Entry). is_some o) come.entry) (request_begun n made.request)) made.tells
-        (lent_begun after n made.request (subst (λ (t : Bool). IsLentBy t after n) (sym made.sends) lent)) (word_asked call) request_perm brings.0
-        (word_of_kind call is)
+        (lent_begun after n made.request (subst (λ (t : Bool). IsLentBy t after n) (sym made.sends) lent)) word request_perm brings.0 word_is
       where
         gives : GivesPage n s after
         gives = brings.1
 
-        there : (it.id ≡ (slot_at s n).id) × IsBeside (rows_of s.spaces (slot_at s n).directory) call it.fd
-            × TellsRequest (view_of s.spaces (slot_at s n).directory) (slot_at s n) b call
-        there =
-            told_asking (view_of s.spaces (slot_at s n).directory) (slot_at s n) b call is it.id it.fd
-            (subst (λ (p : Place). StandsAt p (view_of s.spaces (slot_at s n).directory) (slot_at s n) b) place_is own.at)
-
         come : IsAskedBy s after 0 gives.entry.frame
         come =
-            asked_by_page d s after 0 (slot_at s n).id (word_asked call) request_perm (slot_at s n).directory (page_number UTEMP) gives.entry
+            asked_by_page d s after 0 (slot_at s n).id word request_perm (slot_at s n).directory (page_number UTEMP) gives.entry
             k.serving.stands stands.1.in_order brings.0 gives.stands gives.spaces lone
           where
             lone : (q : ℕ) (y : Entry) → is_server_page q ≡ true → entry_of s 0 q ≡ Some y → y.frame ≡ gives.entry.frame → q ≡ request_page
@@ -667,14 +673,11 @@ module _ (d : Disk) (n : ℕ) (s after : KernelState) (other : n ≢ 0) (live : 
                   absurd (others_lack h.1 n other live q ne y y_is (page_number UTEMP) gives.entry beside gives.stands (sym same))
             ]
 
-        made : Asks a n b call (request_bytes after 0)
-        made =
-            request_made h.1 n below b at (ap borne_in place_is ∙ brings_unborne call is (asking_step call it.id it.fd))
-            (ap is_calm place_is ∙ asking_calm call it.id it.fd) idle_so (lasting gives.entry)
-            (ap (option_map lasting) gives.stands) (request_bytes after 0) come.bytes call it.fd there.1 there.2
+        made : Asks a n e call of (request_bytes after 0)
+        made = makes (lasting gives.entry) (ap (option_map lasting) gives.stands) come.bytes
 
         home : (slot_at after n).directory ≡ (slot_at s n).directory
-        home = calm.asks a h (ap asks_by_page place_is ∙ page_asks call is it.id it.fd)
+        home = calm.asks a h asks_so
 
         apart : (slot_at s n).directory ≢ (slot_at s 0).directory
         apart same = other (h.1.in_order.spaces.apart n 0 live (first_serves h.1).lives same)
@@ -698,18 +701,61 @@ module _ (d : Disk) (n : ℕ) (s after : KernelState) (other : n ≢ 0) (live : 
           same = refl;
         }
 
+    asked_page : (call : Service) → brings_page call ≡ true → (id fd : ℕ) → place_of (slot_at s n) ≡ place.InService call (asking_step call id fd) →
+        BringsWithPage (word_asked call) n s after → ServerStands d after c
+    asked_page call is id fd place_is brings =
+        asked_with b refl call (kind_asked call) (word_asked call) (word_of_kind call is) (ap asks_by_page place_is ∙ page_asks call is id fd)
+        (λ page kept bytes.
+        request_made h.1 n below b at idle_so page kept (request_bytes after 0) bytes
+        (ap borne_in place_is ∙ brings_unborne call is (asking_step call id fd)) (ap is_calm place_is ∙ asking_calm call id fd) call fd there.1 there.2)
+        brings
+      where
+        there : (id ≡ (slot_at s n).id) × IsBeside (rows_of s.spaces (slot_at s n).directory) call fd
+            × TellsRequest (view_of s.spaces (slot_at s n).directory) (slot_at s n) b call
+        there =
+            told_asking (view_of s.spaces (slot_at s n).directory) (slot_at s n) b call is id fd
+            (subst (λ (p : Place). StandsAt p (view_of s.spaces (slot_at s n).directory) (slot_at s n) b) place_is own.at)
+
+    -- and by spawn: no file is so long that a place in it is none for the server
+    short_file : (name : ℕ) (f : OpenFile) → is_held a name ≡ true → a.objects name ≡ file f → f.size < 2 ^ 31
+    short_file name f held is =
+        let found = table.held name f held is in
+        let has = (table.places found.0 found.1).holds name found.2 held in
+        subst (λ (o : Object). size_in o < 2 ^ 31) (sym has.is ∙ is) has.sized
+      where
+        size_in : Object → ℕ
+        size_in (file g) = g.size
+        size_in _ = 0
+
+    spawn_asks_page : (from : SpawnStep) (word : ℕ) → spawn_asks_by from ≡ Some word → spawn_asks_at from ≡ true
+    spawn_asks_page (spawn.Opening (opening_step.OpenAsking esp fd id)) word is = refl
+    spawn_asks_page (spawn.Reading wanted (read.Asking id)) word is = refl
+    spawn_asks_page _ word is = absurd (none-some word is)
+
+    asked_by_spawn : (path argv : ℕ) (from : SpawnStep) (word : ℕ) → spawn_asks_by from ≡ Some word →
+        place_of (slot_at s n) ≡ spawns_at path argv from → BringsWithPage word n s after → ServerStands d after c
+    asked_by_spawn path argv from word asks_so place_is brings =
+        asked_with (with_spawning b (found_at from there)) refl (service.Spawn path argv) (spawn_kind from) word (spawn_word from word asks_so)
+        (ap asks_by_page place_is ∙ spawn_asks_page from word asks_so)
+        (λ page kept bytes.
+        spawn_made h.1 n below b at idle_so page kept (request_bytes after 0) bytes path argv short_file from word asks_so place_is there)
+        brings
+      where
+        there : StandsAtSpawn (view_of s.spaces (slot_at s n).directory) (slot_at s n) b path argv from
+        there = subst (λ (p : Place). StandsAt p (view_of s.spaces (slot_at s n).directory) (slot_at s n) b) place_is own.at
+
     -- by each service
-    asked_whole : (x : Service) → place_of (slot_at s n) ≡ place.InService x (asking_step x it.id it.fd) → BringsRequest x n s after →
+    asked_whole : (x : Service) (id fd : ℕ) → place_of (slot_at s n) ≡ place.InService x (asking_step x id fd) → BringsRequest x n s after →
         ServerStands d after c
-    asked_whole service.Sync place_is brings = asked_sync place_is brings
-    asked_whole (service.OpenFile path mode) place_is brings = asked_page (service.OpenFile path mode) refl place_is brings
-    asked_whole (service.Remove path) place_is brings = asked_page (service.Remove path) refl place_is brings
-    asked_whole (service.Seek fd offset) place_is brings = asked_page (service.Seek fd offset) refl place_is brings
-    asked_whole (service.SetSize fd size) place_is brings = asked_page (service.SetSize fd size) refl place_is brings
-    asked_whole (service.Write fd va len) place_is brings = asked_page (service.Write fd va len) refl place_is brings
-    asked_whole (service.Read fd va len) place_is brings = asked_page (service.Read fd va len) refl place_is brings
-    asked_whole (service.Stat fd va) place_is brings = asked_page (service.Stat fd va) refl place_is brings
-    asked_whole _ place_is brings = absurd brings
+    asked_whole service.Sync id fd place_is brings = asked_sync id place_is brings
+    asked_whole (service.OpenFile path mode) id fd place_is brings = asked_page (service.OpenFile path mode) refl id fd place_is brings
+    asked_whole (service.Remove path) id fd place_is brings = asked_page (service.Remove path) refl id fd place_is brings
+    asked_whole (service.Seek given offset) id fd place_is brings = asked_page (service.Seek given offset) refl id fd place_is brings
+    asked_whole (service.SetSize given size) id fd place_is brings = asked_page (service.SetSize given size) refl id fd place_is brings
+    asked_whole (service.Write given va len) id fd place_is brings = asked_page (service.Write given va len) refl id fd place_is brings
+    asked_whole (service.Read given va len) id fd place_is brings = asked_page (service.Read given va len) refl id fd place_is brings
+    asked_whole (service.Stat given va) id fd place_is brings = asked_page (service.Stat given va) refl id fd place_is brings
+    asked_whole _ id fd place_is brings = absurd brings
 
   pub whole_goes_on : (written : List ℕ) → GoesOn n after a written → WholeGoesOn n (beside after (Some d)) a written
   whole_goes_on written goes = (goes.0, goes.1, goes.2, (goes.3, by_way (way goes.0 goes.3)))
@@ -719,7 +765,8 @@ module _ (d : Disk) (n : ℕ) (s after : KernelState) (other : n ≢ 0) (live : 
           let same = same_abstract it goes.0 goes.1 goes.3 in
           left_whole it goes.0 goes.3 (clients_leave_served a goes.0 n b below at k.asked goes.1 same) (ids_kept goes.0 goes.1 goes.3 same)
           (served_clients_stay a goes.0 n below k.asked goes.1) (client_fits a goes.0 n b at k.asked k.fits goes.1 same)
-      by_way (asked_it it) = asked_whole it goes.0 goes.1 goes.3 it.by_service it.at it.brings
+      by_way (asked_it it) = asked_whole it.waited goes.0 goes.1 goes.3 it.by_service it.id it.fd it.at it.brings
+      by_way (spawn_asked it) = asked_by_spawn it.waited goes.0 goes.1 goes.3 it.path it.argv it.from it.word it.asks it.at it.brings
 
 -- A step of one that is RUNNING keeps what the library's steps promise.
 abbrev pub KeepsRunning : Progress → ℕ → KernelState → KernelState → List ℕ → Type 0

@@ -1,0 +1,2 @@
+pub mod BirthFalls
+pub mod UndoingSteps

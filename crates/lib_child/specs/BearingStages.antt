@@ -94,7 +94,7 @@ ask_of (bearing.UnmappingHere fd headers child header end) = drop_asked_at SPAWN
 -- The child is there, by its id; where there is none, it was refused, and the descriptor of the file is dropped first.
 abbrev pub next_of_making : ℕ → ℕ → ℕ → ℕ → ℕ → Next
 next_of_making esp fd entry_point headers word =
-    if is_error word then goes_on (spawn.Undoing (undoing.ClosingFile fd word))
+    if is_error word then shows (spawn.Undoing (undoing.ClosingFile fd word))
     else shows (registers_from esp fd entry_point headers word 0)
 
 -- behind a page of a segment comes the next, up to its last

@@ -129,7 +129,7 @@ fn next_of_making(esp: u32, fd: u32, entry_point: u32, headers: u32, word: u32) 
     ensures { result ≡ stages.next_of_making esp fd entry_point headers word }
 {
     if is_error(word) {
-        return go_on(SpawnStep::Undoing {
+        return show(SpawnStep::Undoing {
             at: UndoingStep::ClosingFile { fd, error: word },
         });
     }

@@ -5,6 +5,7 @@ use Rattle.jos_base.specs.declared.called.Called.{Called}
 use Rattle.jos_base.specs.KernelState.{KernelState, slot_at}
 use Rattle.jos_base.specs.Words.{page_number}
 use Rattle.lib_os.specs.declared.place.Place.TheVariants as place
+use Rattle.lib_os.specs.declared.place.Step.{Step}
 use Rattle.lib_os.specs.declared.place.Step.TheVariants as step
 use Rattle.lib_os.specs.declared.service.Service.{Service}
 use Rattle.lib_os.specs.declared.service.Service.TheVariants as service
@@ -38,15 +39,14 @@ pub record IsHandedOver (s : KernelState) (n : ℕ) (names : Names) (a : Abstrac
   pub stands : IsInOrder after → s.last ≡ Some n → StandsFor names after a
   pub lower : hidden_left after n < hidden_left s n
 
-module _ (s : KernelState) (n : ℕ) (service : Service) (done word : ℕ)
-    (stands : place_of (slot_at s n) ≡ place.InService service (step.Faulting done word))
-    (steady : is_pausing (place.InService service (step.Faulting done word)) ≡ false) (asks : Ask) (plain : IsPlain s n asks)
+module _ (s : KernelState) (n : ℕ) (service : Service) (from : Step) (stands : place_of (slot_at s n) ≡ place.InService service from)
+    (steady : is_pausing (place.InService service from) ≡ false) (asks : Ask) (plain : IsPlain s n asks)
     (few : frames_of asks ≤ 0) (fails_gone : MayFail asks (performed s n asks).gives → (performed s n asks).gives ≡ gone)
     (handed : (names : Names) (a : AbstractState) → StandsFor names s a → IsHandedOver s n names a (performed s n asks)) where
   abbrev plan : Plan
   plan = staged service asks (λ w. next.Gone)
 
-  there : StandsThere s n plan service (step.Faulting done word)
+  there : StandsThere s n plan service from
   there = record { stands = stands; plain = plain; goes_on = steady; few = omega (arith, few) }
 
   keeps : IsInOrder (performed s n asks).state → KeepsBy s n plan (performed s n asks)
@@ -69,7 +69,7 @@ module _ (s : KernelState) (n : ℕ) (service : Service) (done word : ℕ)
 
   pub handed_holds : ServiceHolds s n plan
   handed_holds =
-      law_with s n plan service (step.Faulting done word) there
+      law_with s n plan service from there
       (λ called is stays. absurd (let contradiction : true ≡ false = stays in cc)) keeps fails (lowers_by (performed s n asks).gives)
 
 -- a byte that a program may touch lies on no page of a descriptor's
@@ -104,7 +104,7 @@ module _ (s : KernelState) (n : ℕ) (small : AreSmall (slot_at s n).registers) 
 
     pub read_faulting_holds : ServiceHolds s n (staged (service.Read fd va len) (ask.StoreByte ((va + done) % 2 ^ 32) byte) (λ w. next.Gone))
     read_faulting_holds =
-        handed_holds s n (service.Read fd va len) done word stands refl (ask.StoreByte ((va + done) % 2 ^ 32) byte)
+        handed_holds s n (service.Read fd va len) (step.Faulting done word) stands refl (ask.StoreByte ((va + done) % 2 ^ 32) byte)
         (store_byte_aside s n ((va + done) % 2 ^ 32) byte read_aside) (omega arith)
         (λ may. may) read_handed
 
@@ -129,7 +129,7 @@ module _ (s : KernelState) (n : ℕ) (small : AreSmall (slot_at s n).registers) 
 
     pub stat_faulting_holds : ServiceHolds s n (staged (service.Stat fd va) (ask.StoreByte ((va + done) % 2 ^ 32) byte) (λ w. next.Gone))
     stat_faulting_holds =
-        handed_holds s n (service.Stat fd va) done word stands refl (ask.StoreByte ((va + done) % 2 ^ 32) byte)
+        handed_holds s n (service.Stat fd va) (step.Faulting done word) stands refl (ask.StoreByte ((va + done) % 2 ^ 32) byte)
         (store_byte_aside s n ((va + done) % 2 ^ 32) byte stat_aside) (omega arith)
         (λ may. may) stat_handed
 
@@ -148,5 +148,5 @@ module _ (s : KernelState) (n : ℕ) (small : AreSmall (slot_at s n).registers) 
 
     pub write_faulting_holds : ServiceHolds s n (staged (service.Write fd va len) (ask.LoadByte ((va + done) % 2 ^ 32)) (λ w. next.Gone))
     write_faulting_holds =
-        handed_holds s n (service.Write fd va len) done word stands refl (ask.LoadByte ((va + done) % 2 ^ 32)) (plainly refl) (omega arith)
+        handed_holds s n (service.Write fd va len) (step.Faulting done word) stands refl (ask.LoadByte ((va + done) % 2 ^ 32)) (plainly refl) (omega arith)
         (λ may. may) write_handed

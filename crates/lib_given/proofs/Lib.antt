@@ -12,5 +12,11 @@ pub mod GivenTakes
 pub mod AddressLoads
 pub mod GivenLoads
 pub mod StringLoads
+pub mod StackBytes
 pub mod StackLists
+pub mod StackPlaces
 pub mod StackGoes
+pub mod StackPuts
+pub mod GivenFaults
+pub mod GivenLaw
+pub mod PathLaw

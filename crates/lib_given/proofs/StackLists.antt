@@ -2,12 +2,14 @@
 use Rattle.std.proofs.Common.{◌≡◌, ◌≢◌, ◌∙◌, ◌+◌, ◌-◌, ◌<◌, ◌≤◌, ℕ, zero, suc, Bool, true, false, List, [], ◌∷◌, length, refl, sym, ap, arith}
 use Rattle.std.specs.Prelude.{All, nat_lt, slice_index, take}
 use Rattle.std.proofs.lemmas.Bool.Decides.{nat_tests}
-use Rattle.std.proofs.lemmas.List.{get_or-append_right, get_or_append_left, get_or_at, length-append}
+use Rattle.std.proofs.lemmas.List.{get_or-append_right, get_or_append_left, get_or_at, length-append, take_all}
 use Rattle.std.proofs.lemmas.List.Sums.{fails_before_first}
 use Rattle.jos_elf.specs.StackPage.{addresses_from, strings_of, strings_size}
 use Rattle.lib_os.specs.FileServices.{is_nul}
+use Rattle.lib_os.specs.Rows.{AreBytes}
 use Rattle.lib_os.specs.StandsAtSpawn.{LiesIn}
 use Rattle.lib_os.specs.StandsInHandler.{HasNoEnd}
+use Rattle.lib_os.proofs.PageBytes.{bytes_append, bytes_more, bytes_none}
 
 -- ---- addresses
 
@@ -96,3 +98,104 @@ ends_where (word ∷ rest) none (suc index) copied lies zero_is =
     let found = ends_where rest (λ k d lt. none (suc k) d (omega (arith, lt))) index (copied - (length word + 1))
     (record { below = omega (arith, below); from = omega (arith, before, low); to = omega (arith, same, behind, high, before, low) }) later in
     omega (arith, found, same, behind, place)
+
+-- ---- how many bytes the first strings have
+
+-- They are more with each string.
+pub size_rises : (words : List (List ℕ)) (index : ℕ) → index < length words → strings_size (take index words) < strings_size (take (index + 1) words)
+unfolding strings_of
+size_rises [] index below = absurd (omega (arith, below))
+size_rises (word ∷ rest) zero below = let all = first_long word [] in omega (arith, all)
+size_rises (word ∷ rest) (suc index) below =
+    let more = size_rises rest index (omega (arith, below)) in
+    let before = first_long word (take index rest) in
+    let behind = first_long word (take (index + 1) rest) in
+    let one_more : suc index + 1 ≡ suc (index + 1) = omega arith in
+    let same = ap (λ (k : ℕ). strings_size (take k (word ∷ rest))) one_more in
+    omega (arith, more, before, behind, same)
+
+-- none have more than all
+size_most : (words : List (List ℕ)) (index : ℕ) → strings_size (take index words) ≤ strings_size words
+unfolding strings_of
+size_most words zero = omega arith
+size_most [] (suc index) = omega arith
+size_most (word ∷ rest) (suc index) =
+    let more = size_most rest index in
+    let some = first_long word (take index rest) in
+    let all = first_long word rest in
+    omega (arith, more, some, all)
+
+-- the byte in front of the next string is a 0
+pub ends_zero : (words : List (List ℕ)) (index copied : ℕ) → index < length words → copied + 1 ≡ strings_size (take (index + 1) words) →
+    slice_index (strings_of words) copied ≡ 0
+unfolding strings_of
+ends_zero [] index copied below end = absurd (omega (arith, below))
+ends_zero (word ∷ rest) zero copied below end =
+    let all = first_long word [] in
+    let place : copied ≡ length word = omega (arith, all, end) in ap (slice_index (strings_of (word ∷ rest))) place ∙ first_end word rest
+ends_zero (word ∷ rest) (suc index) copied below end =
+    let behind = first_long word (take (index + 1) rest) in
+    let some = size_rises rest index (omega (arith, below)) in
+    let one_more : suc index + 1 ≡ suc (index + 1) = omega arith in
+    let same = ap (λ (k : ℕ). strings_size (take k (word ∷ rest))) one_more in
+    let place : copied ≡ length word + 1 + (copied - (length word + 1)) = omega (arith, behind, some, same, end) in
+    ap (slice_index (strings_of (word ∷ rest))) place
+    ∙ later_byte word rest (copied - (length word + 1))
+    ∙ ends_zero rest index (copied - (length word + 1)) (omega (arith, below)) (omega (arith, behind, some, same, end))
+
+-- Where words are bytes, their strings are.
+pub strings_small : (words : List (List ℕ)) → All AreBytes words → AreBytes (strings_of words)
+unfolding strings_of
+strings_small [] each = bytes_none
+strings_small (word ∷ rest) each =
+    bytes_append word (0 ∷ strings_of rest) (each 0 [] (omega arith))
+    (bytes_more 0 (strings_of rest) (omega arith) (strings_small rest (λ k d lt. each (suc k) d (omega (arith, lt)))))
+
+-- ---- one byte is copied
+
+-- behind the end of a string the next begins, unless it is the last
+module _ (words : List (List ℕ)) (index copied : ℕ) (lies : LiesIn words index copied) where
+  abbrev ends : ℕ
+  ends = strings_size (take (index + 1) words)
+
+  -- where all are copied, this is the last string
+  pub last_string : copied + 1 ≡ strings_size words → index + 1 ≡ length words
+  last_string all = by_place (nat_lt (index + 1) (length words)) refl
+    where
+      below : index < length words
+      below = lies.below
+
+      by_place : (c : Bool) → nat_lt (index + 1) (length words) ≡ c → index + 1 ≡ length words
+      by_place false test = let low = below in let past : length words ≤ index + 1 = grind (arith, nat_tests, test) in omega (arith, low, past)
+      by_place true test =
+          let more : index + 1 < length words = grind (arith, nat_tests, test) in
+          let rises = size_rises words (index + 1) more in
+          let most = size_most words (index + 1 + 1) in
+          let low = lies.to in
+          absurd (omega (arith, rises, most, low, all))
+
+  -- and else the next string follows
+  pub next_string_lies : copied + 1 < strings_size words → copied + 1 ≡ strings_size (take (index + 1) words) → LiesIn words (index + 1) (copied + 1)
+  next_string_lies some end = by_place (nat_lt (index + 1) (length words)) refl
+    where
+      by_place : (c : Bool) → nat_lt (index + 1) (length words) ≡ c → LiesIn words (index + 1) (copied + 1)
+      by_place true test =
+          let more : index + 1 < length words = grind (arith, nat_tests, test) in
+          let rises = size_rises words (index + 1) more in record { below = more; from = omega (arith, end); to = omega (arith, end, rises) }
+      by_place false test =
+          let past : length words ≤ index + 1 = grind (arith, nat_tests, test) in
+          let whole : strings_size (take (index + 1) words) ≡ strings_size words = ap (λ (l : List (List ℕ)). strings_size l) (take_all (index + 1) words past) in
+          absurd (omega (arith, whole, end, some))
+
+  -- or the next byte of this one
+  pub next_byte_lies : slice_index (strings_of words) copied ≢ 0 → LiesIn words index (copied + 1)
+  next_byte_lies some =
+      let from = lies.from in
+      let to = lies.to in
+      record { below = lies.below; from = omega (arith, from); to = by_place (nat_lt (copied + 1) ends) refl }
+    where
+      by_place : (c : Bool) → nat_lt (copied + 1) ends ≡ c → copied + 1 < ends
+      by_place true test = grind (arith, nat_tests, test)
+      by_place false test =
+          let past : ends ≤ copied + 1 = grind (arith, nat_tests, test) in
+          let low = lies.to in absurd (some (ends_zero words index copied lies.below (omega (arith, past, low))))

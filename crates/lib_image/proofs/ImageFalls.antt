@@ -19,6 +19,7 @@ use Rattle.lib_os.specs.declared.spawn_steps.SpawnStep.{SpawnStep}
 use Rattle.lib_os.specs.declared.spawn_steps.SpawnStep.TheVariants as spawn
 use Rattle.lib_os.specs.declared.spawn_steps.TestingStep.{TestingStep}
 use Rattle.lib_os.specs.declared.spawn_steps.TestingStep.TheVariants as testing
+use Rattle.lib_os.specs.FileServer.{is_count}
 use Rattle.lib_os.specs.LibrarySteps.{reply_steps_left, steps_left, tests_left}
 use Rattle.lib_stage.specs.declared.ask.Next.TheVariants as next
 use Rattle.lib_stage.proofs.Laws.{Falls, most_left}
@@ -143,9 +144,11 @@ once_low (part.Header esp fd size) = omega arith
 once_low (part.Table esp fd size entry_point headers place) = let low = words_low esp fd size entry_point headers 0 in omega (arith, low)
 once_low (part.Piece fd headers child header done end place) = omega arith
 
-read_low : (wants : FilePart) (whole : Bool) → most_at (if whole then once_read wants else not_read wants (negated E_NOT_EXEC)) < reply_steps_left wants
-read_low wants true = once_low wants
-read_low wants false = let low = undone_low wants (negated E_NOT_EXEC) in let most = reply_most wants in omega (arith, low, most)
+read_low : (wants : FilePart) (word : ℕ) (counts whole : Bool) →
+    most_at (if not counts then not_read wants word else if whole then once_read wants else not_read wants (negated E_NOT_EXEC)) < reply_steps_left wants
+read_low wants word false whole = let low = undone_low wants word in let most = reply_most wants in omega (arith, low, most)
+read_low wants word true true = once_low wants
+read_low wants word true false = let low = undone_low wants (negated E_NOT_EXEC) in let most = reply_most wants in omega (arith, low, most)
 
 pub reading_falls : (path argv : ℕ) (wants : FilePart) (at : ReadStep) (word : ℕ) →
     Falls (service.Spawn path argv) (step.Spawning (spawn.Reading wants at)) (reading_next wants at word)
@@ -160,7 +163,7 @@ reading_falls path argv wants (read.Asking id) word =
     (not_read wants word) word (omega (arith, low)) (λ asks e. refl)
 reading_falls path argv wants (read.Pausing id) word = omega arith
 reading_falls path argv wants (read.Awaiting id) word = tt
-reading_falls path argv wants (read.ReadingReply id) word = read_low wants (is_whole (wanted wants) word)
+reading_falls path argv wants (read.ReadingReply id) word = read_low wants word (is_count word) (is_whole (wanted wants) word)
 
 -- ---- it is tested
 

@@ -1,11 +1,12 @@
 -- Spawn, where it reads a part of its file: its page at UTEMP tells the number of the file, how many bytes are wanted, and the place of the first; it
 -- asks the file server with that page, and waits. The bytes that come stand in the page from its beginning on. Fewer than were wanted are those of
--- a file that was cut, which is no image.
+-- a file that was cut, which is no image; an error of the file server is spawn's.
 -- (MIT 6.828, lab 5: lib/spawn.c, where the file is read by seek and read. That a request tells the place is this system's own.)
-use Rattle.std.specs.Prelude.{ℕ, ◌+◌, ◌-◌, ◌*◌, ◌==◌, ◌||◌, Bool, min, if◌then◌else◌}
+use Rattle.std.specs.Prelude.{ℕ, ◌+◌, ◌-◌, ◌*◌, ◌==◌, ◌||◌, Bool, not, min, if◌then◌else◌}
 use Rattle.jos_base.specs.declared.numbers.TheConstants.{SEGMENT_MAX, SYS_GETENVID, SYS_YIELD, UTEMP}
 use Rattle.jos_base.specs.Words.{negated}
 use Rattle.jos_elf.specs.declared.numbers.TheConstants.{E_NOT_EXEC, EHDR_LEN, PHDR_LEN}
+use Rattle.lib_os.specs.FileServer.{is_count}
 use Rattle.lib_os.specs.declared.numbers.TheConstants.{FD_FILE, FSREQ_READ_AT, REQUEST_COUNT, REQUEST_FILE, REQUEST_PLACE}
 use Rattle.lib_os.specs.declared.spawn_steps.BearingStep.TheVariants as bearing
 use Rattle.lib_os.specs.declared.spawn_steps.FilePart.{FilePart}
@@ -72,12 +73,16 @@ reading_asks wants (read.ReadingReply id) = ask.Load (reply_place id)
 
 -- ---- what it does next
 
--- By the word of a reply, all bytes have come: it tells how many did, or an error, with which none come.
+-- By the word of a reply, all bytes have come: it tells how many did. Where none are wanted, all have.
 abbrev pub is_whole : ℕ → ℕ → Bool
 is_whole count word = (word == count) || (count == 0)
 
+-- A word that is no count is an error, which it answers.
 abbrev pub read_by : FilePart → ℕ → SpawnStep
-read_by wants word = if is_whole (wanted wants) word then once_read wants else not_read wants (negated E_NOT_EXEC)
+read_by wants word =
+    if not (is_count word) then not_read wants word
+    else if is_whole (wanted wants) word then once_read wants
+    else not_read wants (negated E_NOT_EXEC)
 
 abbrev pub reading_next : FilePart → ReadStep → ℕ → Next
 reading_next wants read.LoadingNumber word = goes_on (spawn.Reading wants (read.StoringNumber word))

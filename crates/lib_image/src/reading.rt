@@ -2,6 +2,7 @@
 
 ghost use Rattle.std.specs.Prelude.{◌≡◌};
 ghost use Rattle.lib_stage.specs.Asks.{IsAligned};
+ghost use Rattle.lib_os.specs.FileServer as told;
 ghost use Rattle.lib_image.specs.ReadingStages as stages;
 
 use crate::nexts::{go_on, next_by, show};
@@ -127,10 +128,20 @@ fn once_read(part: FilePart) -> SpawnStep
     }
 }
 
+/// A reply of less than this tells how many bytes have come.
+fn is_count(word: u32) -> bool
+    ensures { result ≡ told.is_count word }
+{
+    word < 0x8000_0000
+}
+
 /// By the word of a reply: it tells how many bytes have come, or an error.
 fn read_by(part: FilePart, word: u32) -> SpawnStep
     ensures { result ≡ stages.read_by part word }
 {
+    if !is_count(word) {
+        return not_read(part, word);
+    }
     let count = request_for(part).count;
     if word == count || count == 0 {
         return once_read(part);

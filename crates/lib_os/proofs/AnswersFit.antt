@@ -10,12 +10,13 @@ use Rattle.std.proofs.lemmas.Bool.Decides.{nat_tests}
 use Rattle.std.proofs.lemmas.Bool.{cases_eq}
 use Rattle.std.proofs.lemmas.List.{length-append, length-replicate, length-take}
 use Rattle.std.proofs.lemmas.Option.{none-some, same_Some}
-use Rattle.jos_base.specs.declared.numbers.TheConstants.{E_INVAL, E_MAX_OPEN}
+use Rattle.jos_base.specs.declared.numbers.TheConstants.{E_BAD_PATH, E_FILE_EXISTS, E_INVAL, E_MAX_OPEN, E_NO_DISK, E_NOT_FOUND}
 use Rattle.jos_base.specs.TrapFrames.{bytes_of_words}
-use Rattle.jos_base.specs.Words.{negated}
+use Rattle.jos_base.specs.Words.{has_bit, negated}
 use Rattle.jos_base.proofs.Maps.{upd-at}
-use Rattle.fs_layout.specs.declared.numbers.TheConstants.{BLKSIZE, FTYPE_REG, MAXFILESIZE, MAXNAMELEN}
-use Rattle.fs_layout.specs.FileActs.{Acted, Looked, bad_path, bytes_at, file_act, file_named, handed_back, look_up, missing, nowhere, on_file, read_act}
+use Rattle.fs_layout.specs.declared.numbers.TheConstants.{BLKSIZE, FTYPE_REG, MAXFILESIZE, MAXNAMELEN, O_TRUNC}
+use Rattle.fs_layout.specs.FileActs.{Acted, Looked, bad_path, bytes_at, create_in, done, done_if_it_fits, file_act, file_named, handed_back, look_up, missing}
+use Rattle.fs_layout.specs.FileActs.{nowhere, on_file, open_act, open_looked, open_there, read_act}
 use Rattle.fs_layout.specs.FileActs.{remove_act, remove_looked, set_size_act, set_size_to, stat_act, stat_bytes, stat_of, there, write_act, write_to}
 use Rattle.fs_layout.specs.FileTree.{FileAct, FileSystem, NamedNode, Node, a_directory, a_file, named_at, node_at, open_path, read_file, remove_path}
 use Rattle.fs_layout.specs.FileTree.{set_file_size, stat_file, sync_files, write_file}
@@ -350,6 +351,57 @@ remove_none is_open s path = by_looked (look_up s path)
     by_looked (there way (a_directory records indirect)) = refl
     by_looked (there way (a_file bytes indirect)) = if_none (is_open way) _ _ refl refl
 
+-- ---- what opening answers
+
+no_count : (word : ℕ) → 2 ^ 31 ≤ word → is_count word ≡ false
+no_count word great = grind (arith, nat_tests, great)
+
+-- it is 0, or an error
+abbrev IsZeroOrError : ℕ → Type 0
+IsZeroOrError word = word ≢ 0 → is_count word ≡ false
+
+zero_so : IsZeroOrError 0
+zero_so some = absurd (some refl)
+
+error_so : (word : ℕ) → 2 ^ 31 ≤ word → IsZeroOrError word
+error_so word great some = no_count word great
+
+if_so : (c : Bool) (x y : Acted) → IsZeroOrError x.answer → IsZeroOrError y.answer → IsZeroOrError (if c then x else y).answer
+if_so true x y first second = first
+if_so false x y first second = second
+
+full_so : IsZeroOrError (negated E_NO_DISK)
+full_so = error_so (negated E_NO_DISK) (omega arith)
+
+missing_so : IsZeroOrError (negated E_NOT_FOUND)
+missing_so = error_so (negated E_NOT_FOUND) (omega arith)
+
+fits_so : (before after : FileSystem) → IsZeroOrError (done_if_it_fits before after 0).answer
+fits_so before after = if_so _ _ _ zero_so full_so
+
+created_so : (s : FileSystem) (way : List ℕ) (directory : Node) (name : List ℕ) → IsZeroOrError (create_in s way directory name).answer
+created_so s way (a_directory records indirect) name = if_so _ _ _ full_so (fits_so s _)
+created_so s way (a_file bytes indirect) name = missing_so
+
+size_so : (s : FileSystem) (way : List ℕ) (size : ℕ) (bytes : List ℕ) (indirect : Bool) →
+    IsZeroOrError (set_size_to s way size bytes indirect).answer
+size_so s way size bytes indirect = if_so (nat_lt MAXFILESIZE size) _ _ full_so (fits_so s _)
+
+there_so : (s : FileSystem) (mode : ℕ) (way : List ℕ) (node : Node) → IsZeroOrError (open_there s mode way node).answer
+there_so s mode way (a_directory records indirect) = error_so (negated E_INVAL) invalid_great
+there_so s mode way (a_file bytes indirect) =
+    if_so (has_bit mode O_TRUNC) (set_size_to s way 0 bytes indirect) (done s 0) (size_so s way 0 bytes indirect) zero_so
+
+looked_so : (s : FileSystem) (mode : ℕ) (looked : Looked) → IsZeroOrError (open_looked s mode looked).answer
+looked_so s mode bad_path = error_so (negated E_BAD_PATH) (omega arith)
+looked_so s mode nowhere = missing_so
+looked_so s mode (missing way directory name) = if_so _ _ _ (created_so s way directory name) missing_so
+looked_so s mode (there way node) = if_so _ _ _ (error_so (negated E_FILE_EXISTS) (omega arith)) (there_so s mode way node)
+
+opened_so : (is_open : List ℕ → Bool) (s : FileSystem) (path : List ℕ) (mode : ℕ) → IsZeroOrError (file_act is_open s (open_path path mode)).answer
+unfolding file_act open_act
+opened_so is_open s path mode = looked_so s mode (look_up s path)
+
 -- spawn moves no offset
 spawn_seeks_not : (path argv : ℕ) (found : Option Spawning) (name at : ℕ) → AsksBy (service.Spawn path argv) found (seek name at) → ⊥
 spawn_seeks_not path argv (Some (opening words)) name at asks = asks
@@ -396,7 +448,7 @@ module _ (a : AbstractState) where
     word_answers call found answer great = record { many = sym (error_hands call found answer great); opened = by_test (is_opening call found) }
       where
         by_test : (opens : Bool) → OpensBy opens answer None
-        by_test true = λ zero. omega (arith, great, zero)
+        by_test true = no_count answer great
         by_test false = tt
 
     acted_fits : (x : AbstractState) (answer : ℕ) (bytes : List ℕ) (object : Option ℕ) → x.slots ≡ a.slots → x.server ≡ acted client answer bytes object →
@@ -479,17 +531,17 @@ module _ (a : AbstractState) where
       asks : (call : Service) (found : Option Spawning) → IsFor a.server call found → AsksBy call found request
       asks call found fits = subst (λ (x : Server). IsFor x call found) server fits
 
-  -- no file is opened, and the answer is none that says so
-  refused_open : (path : List ℕ) (mode : ℕ) (object : Option ℕ) (call : Service) (found : Option Spawning) (answer : ℕ) → answer ≢ 0 →
-      AsksBy call found (act (open_path path mode) object) → AnswersBy call found answer [] None
-  refused_open path mode None (service.OpenFile name bits) found answer some asks = record { many = refl; opened = some }
-  refused_open path mode None (service.Spawn at argv) (Some (opening words)) answer some asks =
-      let test : nat_le answer 0 ≡ false = grind (arith, nat_tests, some) in
-      record { many = sym (ap (λ (t : Bool). if t then answer else 0) test); opened = some }
-  refused_open path mode None _ _ answer some asks = absurd asks
-  refused_open path mode (Some name) (service.OpenFile at bits) found answer some asks = absurd asks
-  refused_open path mode (Some name) (service.Spawn at argv) (Some (opening words)) answer some asks = absurd asks
-  refused_open path mode (Some name) _ _ answer some asks = absurd asks
+  -- no file is opened, and the answer is an error
+  refused_open : (path : List ℕ) (mode : ℕ) (object : Option ℕ) (call : Service) (found : Option Spawning) (answer : ℕ) →
+      is_count answer ≡ false → AsksBy call found (act (open_path path mode) object) → AnswersBy call found answer [] None
+  refused_open path mode None (service.OpenFile name bits) found answer error asks = record { many = refl; opened = error }
+  refused_open path mode None (service.Spawn at argv) (Some (opening words)) answer error asks =
+      let test : nat_le answer 0 ≡ false = grind (arith, nat_tests, error) in
+      record { many = sym (ap (λ (t : Bool). if t then answer else 0) test); opened = error }
+  refused_open path mode None _ _ answer error asks = absurd asks
+  refused_open path mode (Some name) (service.OpenFile at bits) found answer error asks = absurd asks
+  refused_open path mode (Some name) (service.Spawn at argv) (Some (opening words)) answer error asks = absurd asks
+  refused_open path mode (Some name) _ _ answer error asks = absurd asks
 
   opens_named : (path : List ℕ) (mode : ℕ) (object : Option ℕ) (call : Service) (found : Option Spawning) (name : ℕ) →
       AsksBy call found (act (open_path path mode) object) → AnswersBy call found 0 [] (Some name)
@@ -544,7 +596,8 @@ module _ (a : AbstractState) where
           let did = file_act (is_file_open a) a.files (open_path path mode) in
           if_fits (did.answer == 0) _ _ (λ test. well_opened path mode object is did refl (grind (arith, nat_tests, test)))
           (λ test. acted_fits client _ did.answer [] None refl refl who (λ call found fits.
-          refused_open path mode object call found did.answer (grind (arith, nat_tests, test)) (asks call found fits)))
+          refused_open path mode object call found did.answer (opened_so (is_file_open a) a.files path mode (grind (arith, nat_tests, test)))
+          (asks call found fits)))
 
       by_request : (r : Request) → a.server ≡ busy client r place → FitsOn a (act_done a client r place)
       by_request (act (open_path path mode) object) is = opening path mode object is

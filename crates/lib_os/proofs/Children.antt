@@ -89,6 +89,7 @@ spawn_stays {names = names} {after = after} {s = s} {t = t} {k = k} parent_after
   upcall = child.upcall ∙ h.upcall;
   memory = λ p inside.
       ap (λ (d : ℕ). page_seen after t d p) child.directory ∙ seen_but_pipes seen p ∙ h.memory p inside;
+  uncopied = λ p x inside is own_page. h.uncopied p x inside (sym (row p) ∙ is) own_page;
   handed = λ p is passed. row p ∙ h.handed p is passed ∙ sym (kept p);
   rest = λ p is off. row p ∙ h.rest p is off;
   handler_stack = λ has. subst (λ (r : EntryRow). IsOwnWritable r (page_number UXSTACK)) (sym rows) (h.handler_stack has);
@@ -99,6 +100,7 @@ spawn_stays {names = names} {after = after} {s = s} {t = t} {k = k} parent_after
       let it = h.here p is in
       record {
         place = it.place;
+        is_told = it.is_told;
         programs = it.programs;
         here = it.here;
         there = it.there;

@@ -104,7 +104,7 @@ library_kept at words row after fd below same bits h =
         same q (λ is. let contradiction : true ≡ false = sym (is_descriptors fd below) ∙ ap is_of_descriptor (sym is) ∙ none in cc)
 
 -- It stands at any page of theirs, be it that of a pipe.
-library_put_there : (at : Place) (words : List ℕ) (row after : EntryRow) (p : ℕ) → is_of_descriptor p ≡ true →
+pub library_put_there : (at : Place) (words : List ℕ) (row after : EntryRow) (p : ℕ) → is_of_descriptor p ≡ true →
     ((q : ℕ) → q ≢ p → after q ≡ row q) → ((x : Entry) → after p ≡ Some x → x.perm ≡ descriptor_perm) → LibraryPages at words row → LibraryPages at words after
 library_put_there at words row after p is_there same bits h = record {
   stack = own_alike row after _ (beside (page_number UXSTACK) refl) h.stack;

@@ -46,7 +46,7 @@ use Rattle.lib_os.proofs.DescriptorLooks.{SeesDescriptors, name_seen, read_answe
 use Rattle.lib_os.proofs.DescriptorLooks.{table_told, table_va, table_word}
 use Rattle.lib_os.proofs.GoingOn.{in_with_words}
 use Rattle.lib_os.proofs.Loading.{loaded}
-use Rattle.lib_os.proofs.Logical.{is_making_pipe, logical_beside, unborne_unremapped}
+use Rattle.lib_os.proofs.Logical.{is_making_pipe, is_remapped, logical_beside, unborne_unremapped}
 use Rattle.lib_os.proofs.Numbered.{number_of}
 use Rattle.lib_os.proofs.PageWords.{load_page_word}
 use Rattle.lib_os.proofs.Serving.{IsServed, holds_page, printed_nothing, served, step_in, kept_where}
@@ -141,35 +141,78 @@ pub record NamesEnd (names : Names) (s : KernelState) (a : AbstractState) (b : B
   pub page_is : names.name page.frame ≡ pipe
 
 module _ {names : Names} {s : KernelState} {a : AbstractState} (h : StandsFor names s a) (n : ℕ) (b : Born) (at : a.slots n ≡ born b)
-    (unborne : borne_in (place_of (slot_at s n)) ≡ None) (unmade : is_making_pipe (place_of (slot_at s n)) ≡ false) (seen : SeesDescriptors names s n b)
     (fd : ℕ) (below : fd < DESCRIPTORS) where
-  abbrev row : EntryRow
-  row = rows_of s.spaces (slot_at s n).directory
+  abbrev own_row : EntryRow
+  own_row = rows_of s.spaces (slot_at s n).directory
 
-  module _ (x : Entry) (is : row (descriptor_page fd) ≡ Some x) where
+  module _ (x : Entry) (is : own_row (descriptor_page fd) ≡ Some x) where
     shared_page : is_shared x.perm ≡ true
     shared_page = ap is_shared (entry_bits h n b at fd x below is)
 
     user : IsUsers x.perm
     user = subst (λ (perm : ℕ). IsUsers perm) (sym (entry_bits h n b at fd x below is)) descriptor_user
 
-    counts : logical s.spaces s.environments.slots n (descriptor_page fd) ≡ Some x
-    counts =
-        logical_beside s.spaces s.environments.slots n (clients_live h n b at) (descriptor_page fd)
-        (λ same. absurd (omega (arith, same, below))) (unborne_unremapped (place_of (slot_at s n)) (descriptor_page fd) unborne unmade)
-        ∙ is
+    -- a word of its page, at a place
+    pub word_beside : (o : ℕ) → o % 4 ≡ 0 → o < 4096 →
+        load s n (descriptor_va fd + o) ≡ read_at s n (descriptor_va fd + o) (word_at (slice_index (s.spaces.pages x.frame)) o)
+    word_beside o aligned inside =
+        let number : page_number (descriptor_va fd + o) ≡ descriptor_page fd = omega (arith, below, inside) in
+        let offset : page_offset (descriptor_va fd + o) ≡ o = omega (arith, inside) in
+        load_page_word s n (descriptor_va fd + o) x (omega (arith, aligned)) (ap own_row number ∙ is) user.page h.in_order.frames
+        ∙ ap (λ (at : ℕ). read_at s n (descriptor_va fd + o) (stands.page_word (s.spaces.pages x.frame) at)) offset
 
-    named_so : IsNamed names s.spaces.pages a.shared (things_in s a) a.next_name (descriptor_page fd) x.frame
-    named_so = h.named n (descriptor_page fd) x counts shared_page
+    -- Where the page counts as it stands, it shows the object that its frame names.
+    module _ (apart : is_remapped (place_of (slot_at s n)) (descriptor_page fd) ≡ false) where
+      counts : logical s.spaces s.environments.slots n (descriptor_page fd) ≡ Some x
+      counts =
+          logical_beside s.spaces s.environments.slots n (clients_live h n b at) (descriptor_page fd)
+          (λ same. absurd (omega (arith, same, below))) apart
+          ∙ is
 
+      named_so : IsNamed names s.spaces.pages a.shared (things_in s a) a.next_name (descriptor_page fd) x.frame
+      named_so = h.named n (descriptor_page fd) x counts shared_page
+
+      pub shows_beside : HasObject (things_in s a) (names.name x.frame) x.frame (a.objects (names.name x.frame)) (s.spaces.pages x.frame)
+      shows_beside =
+          let no_pipe : is_pipe_page (descriptor_page fd) ≡ false = grind (arith, nat_tests) in
+          subst (λ (c : Bool). HasThing (things_in s a) (names.name x.frame) x.frame c (s.spaces.pages x.frame)) (named_so.of_pipe ∙ no_pipe)
+          (subst
+          (λ (c : Bool). ShowsBy (things_in s a) (names.name x.frame) x.frame c (names.is_pipe (names.name x.frame)) (a.shared (names.name x.frame))
+          (s.spaces.pages x.frame))
+          (named_so.kind ∙ is_descriptors fd below) named_so.shows)
+
+      -- whose word stands there
+      told_beside : device_for (a.objects (names.name x.frame)) ≡ Some (device_of (s.spaces.pages x.frame))
+      told_beside = object_device (things_in s a) (names.name x.frame) x.frame (a.objects (names.name x.frame)) (s.spaces.pages x.frame) shows_beside
+
+  -- By its word it is a file.
+  pub names_file_beside : SeesDescriptors names s n b → is_remapped (place_of (slot_at s n)) (descriptor_page fd) ≡ false →
+      (open_as : IsFileOpen (view_of s.spaces (slot_at s n).directory) fd) → NamesFile s a b fd open_as.entry
+  names_file_beside seen apart open_as =
+      let x = open_as.entry in
+      let found = is_file (a.objects (names.name x.frame)) (told_beside x open_as.stands apart ∙ ap (λ (w : ℕ). Some w) open_as.device) in
+      record {
+        name = names.name x.frame;
+        f = found.0;
+        named = object_is h n b at seen fd x below open_as.stands;
+        is = found.1;
+        told = subst (λ (o : Object). HasObject (things_in s a) (names.name x.frame) x.frame o (s.spaces.pages x.frame)) found.1
+            (shows_beside x open_as.stands apart);
+      }
+
+-- Outside of spawn each counts so, unless a pipe is made.
+module _ {names : Names} {s : KernelState} {a : AbstractState} (h : StandsFor names s a) (n : ℕ) (b : Born) (at : a.slots n ≡ born b)
+    (unborne : borne_in (place_of (slot_at s n)) ≡ None) (unmade : is_making_pipe (place_of (slot_at s n)) ≡ false) (seen : SeesDescriptors names s n b)
+    (fd : ℕ) (below : fd < DESCRIPTORS) where
+  abbrev row : EntryRow
+  row = rows_of s.spaces (slot_at s n).directory
+
+  apart_so : is_remapped (place_of (slot_at s n)) (descriptor_page fd) ≡ false
+  apart_so = unborne_unremapped (place_of (slot_at s n)) (descriptor_page fd) unborne unmade
+
+  module _ (x : Entry) (is : row (descriptor_page fd) ≡ Some x) where
     pub shows : HasObject (things_in s a) (names.name x.frame) x.frame (a.objects (names.name x.frame)) (s.spaces.pages x.frame)
-    shows =
-        let no_pipe : is_pipe_page (descriptor_page fd) ≡ false = grind (arith, nat_tests) in
-        subst (λ (c : Bool). HasThing (things_in s a) (names.name x.frame) x.frame c (s.spaces.pages x.frame)) (named_so.of_pipe ∙ no_pipe)
-        (subst
-        (λ (c : Bool). ShowsBy (things_in s a) (names.name x.frame) x.frame c (names.is_pipe (names.name x.frame)) (a.shared (names.name x.frame))
-        (s.spaces.pages x.frame))
-        (named_so.kind ∙ is_descriptors fd below) named_so.shows)
+    shows = shows_beside h n b at fd below x is apart_so
 
     -- it names the object of its frame
     object_seen : object_of a b fd ≡ Some (a.objects (names.name x.frame))
@@ -177,7 +220,7 @@ module _ {names : Names} {s : KernelState} {a : AbstractState} (h : StandsFor na
 
     -- whose word stands there
     object_told : device_for (a.objects (names.name x.frame)) ≡ Some (device_of (s.spaces.pages x.frame))
-    object_told = object_device (things_in s a) (names.name x.frame) x.frame (a.objects (names.name x.frame)) (s.spaces.pages x.frame) shows
+    object_told = told_beside h n b at fd below x is apart_so
 
     word_given : load s n (device_va fd) ≡ read_at s n (device_va fd) (device_of (s.spaces.pages x.frame))
     word_given =
@@ -185,30 +228,17 @@ module _ {names : Names} {s : KernelState} {a : AbstractState} (h : StandsFor na
         let none : device_va fd ≡ descriptor_va fd = omega arith in
         let number : page_number (device_va fd) ≡ descriptor_page fd = ap page_number none ∙ begins.1 in
         let offset : page_offset (device_va fd) ≡ 0 = omega arith in
-        load_page_word s n (device_va fd) x (omega arith) (ap row number ∙ is) user.page h.in_order.frames
+        load_page_word s n (device_va fd) x (omega arith) (ap row number ∙ is) (user h n b at fd below x is).page h.in_order.frames
         ∙ ap (λ (o : ℕ). read_at s n (device_va fd) (stands.page_word (s.spaces.pages x.frame) o)) offset
 
   -- a word of the page of a descriptor that is open, at a place
   pub word_there : (x : Entry) → row (descriptor_page fd) ≡ Some x → (o : ℕ) → o % 4 ≡ 0 → o < 4096 →
       load s n (descriptor_va fd + o) ≡ read_at s n (descriptor_va fd + o) (word_at (slice_index (s.spaces.pages x.frame)) o)
-  word_there x is o aligned inside =
-      let number : page_number (descriptor_va fd + o) ≡ descriptor_page fd = omega (arith, below, inside) in
-      let offset : page_offset (descriptor_va fd + o) ≡ o = omega (arith, inside) in
-      load_page_word s n (descriptor_va fd + o) x (omega (arith, aligned)) (ap row number ∙ is) (user x is).page h.in_order.frames
-      ∙ ap (λ (at : ℕ). read_at s n (descriptor_va fd + o) (stands.page_word (s.spaces.pages x.frame) at)) offset
+  word_there x is o aligned inside = word_beside h n b at fd below x is o aligned inside
 
   -- By its word it is a file,
   pub names_file : (open_as : IsFileOpen (view_of s.spaces (slot_at s n).directory) fd) → NamesFile s a b fd open_as.entry
-  names_file open_as =
-      let x = open_as.entry in
-      let found = is_file (a.objects (names.name x.frame)) (object_told x open_as.stands ∙ ap (λ (w : ℕ). Some w) open_as.device) in
-      record {
-        name = names.name x.frame;
-        f = found.0;
-        named = object_is h n b at seen fd x below open_as.stands;
-        is = found.1;
-        told = subst (λ (o : Object). HasObject (things_in s a) (names.name x.frame) x.frame o (s.spaces.pages x.frame)) found.1 (shows x open_as.stands);
-      }
+  names_file open_as = names_file_beside h n b at fd below seen apart_so open_as
 
   -- or the console.
   pub names_console : IsConsoleOpen (view_of s.spaces (slot_at s n).directory) fd → object_of a b fd ≡ Some terminal

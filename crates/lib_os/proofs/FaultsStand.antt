@@ -518,3 +518,10 @@ module _ {names : Names} {s : KernelState} {a : AbstractState} (h : StandsFor na
         let was : hidden_left s n ≡ 2070 + copy_steps * waiting = was_left ∙ ap (λ (p : Place). left_at p waiting) served in
         let is = is_left in
         omega (arith, was, is)
+
+    -- or wherever as many steps are left as the handler takes, and those of each page that waits
+    pub stops_lower : 2066 + copy_steps * waiting ≤ left_at there waiting → hidden_left after n < hidden_left s n
+    stops_lower enough =
+        let was = was_left in
+        let is = is_left in
+        omega (arith, was, is, enough)

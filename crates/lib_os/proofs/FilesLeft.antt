@@ -15,7 +15,7 @@ use Rattle.jos_base.specs.declared.numbers.TheConstants.{NENV, PGSIZE}
 use Rattle.jos_base.specs.Below.{some_below}
 use Rattle.jos_base.specs.Environments.{next_id}
 use Rattle.jos_base.specs.SpacesState.{zero_page}
-use Rattle.jos_base.specs.Words.{page_offset, upd, has_bit}
+use Rattle.jos_base.specs.Words.{negated, page_offset, upd, has_bit}
 use Rattle.jos_cpu.specs.declared.events.Event.{Event}
 use Rattle.jos_cpu.specs.declared.events.Event.TheVariants.{Next, Soft, Raised}
 use Rattle.jos_cpu.specs.declared.events.Gates.TheVariants.{Run}
@@ -59,7 +59,7 @@ use Rattle.lib_os.specs.AbstractSpawn.{file_dropped, file_in, file_opened, file_
 use Rattle.lib_os.specs.AbstractSpawn.{next_string, piece_asked, piece_read, pieces_left, quoting_step, reading_step, spawn_at, spawn_begun}
 use Rattle.jos_elf.specs.Headers.{table_of}
 use Rattle.lib_os.specs.AbstractSpawn.{is_header, is_table, table_size, with_spawning}
-use Rattle.lib_os.specs.AbstractSpawn.{spawn_step, spawned, spawning_step, string_gathered, table_read, words_given}
+use Rattle.lib_os.specs.AbstractSpawn.{spawn_step, spawned, spawning_step, string_gathered, table_read, unread_step, words_given}
 use Rattle.lib_os.specs.LibraryCall.{library_step, at_once, only_at_once, fork_step, receive_step}
 use Rattle.lib_os.specs.AbstractFork.{begun_in, child_of}
 use Rattle.lib_os.specs.AbstractRun.{abs_step, pipe_of, program_step, slot_step}
@@ -689,27 +689,27 @@ module _ (a : AbstractState) (n : ℕ) (small : n < NENV) where
           if_some (nat_lt (length taken) 4) _ _ (address_left name addresses taken) (taken_left name addresses _)
 
       -- the file
-      dropped_left : (fd error : ℕ) → Left (file_dropped a n b it fd error)
-      dropped_left fd error = set_left _ (without fd)
+      dropped_left : (fd answer : ℕ) → Left (file_dropped a n b it fd answer)
+      dropped_left fd answer = set_left _ (without fd)
 
       opened_left : (fd : ℕ) (words : List (List ℕ)) (f : OpenFile) → LeftIf (file_opened a n b it fd words f)
-      opened_left fd words f = if_some (nat_lt f.size EHDR_LEN) _ _ (dropped_left fd E_NOT_EXEC)
+      opened_left fd words f = if_some (nat_lt f.size EHDR_LEN) _ _ (dropped_left fd (negated E_NOT_EXEC))
           (ask_on (with_spawning b (heading fd words)) (act (read_file f.way 0 EHDR_LEN) None) mine)
 
       header_left : (fd : ℕ) (words : List (List ℕ)) (header : List ℕ) (f : OpenFile) → LeftIf (header_read a n b it fd words header f)
       header_left fd words header f =
           if_some (is_header f header) _ _
           (ask_on (with_spawning b (tabling fd words header))
-          (act (read_file f.way (table_of (slice_index header)) (table_size header)) None) mine) (dropped_left fd E_NOT_EXEC)
+          (act (read_file f.way (table_of (slice_index header)) (table_size header)) None) mine) (dropped_left fd (negated E_NOT_EXEC))
 
       child_left : (fd : ℕ) (image : ImageRead) (slots : List ℕ) → Left (child_begun a n b it fd image slots)
-      child_left fd image [] = dropped_left fd _
+      child_left fd image [] = set_left _ mine
       child_left fd image (child ∷ rest) =
           set_left_in (record (with_slot a child (unborn (next_id (slot_id (a.slots child)) child) b.id)) { free_slots = rest }) n _
           (set_left_in a child _ same_left nothing) mine
 
       table_left : (fd : ℕ) (image : ImageRead) (f : OpenFile) → Left (table_read a n b it fd image f)
-      table_left fd image f = if_left (is_table f image) _ _ (child_left fd image a.free_slots) (dropped_left fd E_NOT_EXEC)
+      table_left fd image f = if_left (is_table f image) _ _ (child_left fd image a.free_slots) (dropped_left fd (negated E_NOT_EXEC))
 
       piece_left : (fd : ℕ) (image : ImageRead) (child : ℕ) (pieces : List (List ℕ)) (f : OpenFile) (list : List Piece) →
           LeftIf (piece_asked a n b it fd image child pieces f list)
@@ -717,8 +717,8 @@ module _ (a : AbstractState) (n : ℕ) (small : n < NENV) where
       piece_left fd image child pieces f (piece ∷ rest) =
           ask_on (with_spawning b (loading fd image child pieces)) (act (read_file f.way piece.at piece.len) None) mine
 
-      unborn_left : (fd child error : ℕ) → Left (child_dropped a n b it fd child error)
-      unborn_left fd child error =
+      unborn_left : (fd child answer : ℕ) → Left (child_dropped a n b it fd child answer)
+      unborn_left fd child answer =
           set_left_in (record (with_slot a child (free (slot_id (a.slots child)))) { free_slots = child ∷ a.free_slots }) n _
           (set_left_in a child _ same_left nothing) mine
 
@@ -726,7 +726,7 @@ module _ (a : AbstractState) (n : ℕ) (small : n < NENV) where
           LeftIf (piece_read a n b it fd image child pieces f list bytes)
       read_on fd image child pieces f [] bytes = record {}
       read_on fd image child pieces f (piece ∷ rest) bytes =
-          if_some (length bytes == piece.len) _ _ (piece_left fd image child _ f rest) (unborn_left fd child E_NOT_EXEC)
+          if_some (length bytes == piece.len) _ _ (piece_left fd image child _ f rest) (unborn_left fd child (negated E_NOT_EXEC))
 
       file_left : (stage : Stage) (found : Spawning) (o : Option OpenFile) → LeftIf (file_step a n b regs it stage found o)
       file_left (replied bytes answer) (opening words) (Some f) = opened_left answer words f
@@ -744,16 +744,24 @@ module _ (a : AbstractState) (n : ℕ) (small : n < NENV) where
       birth_left image child pieces =
           set_left_in (with_slot a child (born (spawned b image pieces (slot_id (a.slots child))))) n _ (set_left_in a child _ same_left mine) mine
 
+      -- an error that has come
+      unread_left : (found : Spawning) (answer : ℕ) → LeftIf (unread_step a n b regs it found answer)
+      unread_left (opening words) answer = set_left _ mine
+      unread_left (heading fd words) answer = dropped_left fd answer
+      unread_left (tabling fd words header) answer = dropped_left fd answer
+      unread_left (loading fd image child pieces) answer = unborn_left fd child answer
+      unread_left _ answer = record {}
+
       -- its steps
       going_left : (stage : Stage) (found : Spawning) → LeftIf (spawning_step a n b regs it argv stage found)
       going_left asked found = set_left _ mine
       going_left (taking taken) (listing name addresses) = listing_left name addresses taken
       going_left (taking taken) (quoting name left words) = quoting_left name left words taken
-      going_left (replied bytes answer) (opening words) =
-          if_some (is_count answer) _ _ (reading_left (replied bytes answer) (opening words)) (set_left _ mine)
+      going_left (replied bytes answer) found =
+          if_some (is_count answer) _ _ (reading_left (replied bytes answer) found) (unread_left found answer)
       going_left (taking taken) (closed image child pieces) = birth_left image child pieces
-      going_left (taking taken) (dropping fd error) = dropped_left fd error
-      going_left (taking taken) (refusing error) = set_left _ mine
+      going_left (taking taken) (dropping fd answer) = dropped_left fd answer
+      going_left (taking taken) (refusing answer) = set_left _ mine
       going_left stage found = reading_left stage found
 
       begun_path : (taken : List ℕ) → LeftIf (spawn_begun a n b regs it path argv taken)

@@ -27,7 +27,9 @@ pub mod SpawnStays
 pub mod SpawnPath
 pub mod SpawnWaits
 pub mod SpawnStops
+pub mod GivenStopped
 pub mod SpawnReplies
+pub mod SpawnRequests
 pub mod SpawnedReplied
 pub mod SlotsStand
 pub mod PipesStand
@@ -201,4 +203,13 @@ pub mod SpawnOwnPages
 pub mod SpawnTakesPages
 pub mod SpawnPagesTaken
 pub mod SpawnGathers
+pub mod SpawnAsks
 pub mod SpawnGivesBack
+pub mod SpawnRefuses
+pub mod BearsOn
+pub mod SpawnedGoes
+pub mod SpawnedMoves
+pub mod BorneCalls
+pub mod SpawnDestroys
+pub mod SpawnDrops
+pub mod SpawnedProgress

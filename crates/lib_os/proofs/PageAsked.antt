@@ -205,33 +205,19 @@ asked_page_own {names = names} {s = s} {k = k} {b = b} call with_page id fd stag
 
 -- ---- the page has come
 
-module _ {names : Names} {s : KernelState} {a : AbstractState} (h : StandsFor names s a) (n id fd : ℕ) (call : Service)
-    (with_page : brings_page call ≡ true) (v : IsServed names s a n call (asking_step call id fd)) (sp : SpacesState) (comes : PageComes s sp n)
-    (in_order : IsInOrder (page_asked s sp n (word_asked call))) (last : s.last ≡ Some n) where
-  abbrev told_word : ℕ
-  told_word = word_asked call
-
+module _ {names : Names} {s : KernelState} {a : AbstractState} (h : StandsFor names s a) (n : ℕ) (b : Born) (at : a.slots n ≡ born b)
+    (page : IsOwnWritable (rows_of s.spaces (slot_at s n).directory) (page_number UTEMP))
+    (page_counts : logical s.spaces s.environments.slots n (page_number UTEMP) ≡ Some page.entry) (unpiped : is_piped (place_of (slot_at s n)) ≡ false)
+    (word : ℕ) (sp : SpacesState) (comes : PageComes s sp n) (in_order : IsInOrder (page_asked s sp n word)) (last : s.last ≡ Some n) where
   abbrev server_dir : ℕ
   server_dir = (slot_at s 0).directory
 
   abbrev entry : Entry
   entry = request_entry comes.entry
 
-  other : n ≢ 0
-  other same = born_not_first h n v.b v.is (sym same)
-
-  abbrev page : IsOwnWritable (rows_of s.spaces (slot_at s n).directory) (page_number UTEMP)
-  page = request_page id fd call with_page v
-
   page_is : lasting comes.entry ≡ page.entry
   unfolding rows_of
   page_is = same_Some (lasting comes.entry) page.entry (sym (ap (λ (o : Option Entry). option_map lasting o) comes.stands) ∙ page.stands)
-
-  page_counts : logical s.spaces s.environments.slots n (page_number UTEMP) ≡ Some page.entry
-  page_counts =
-      logical_plain s.spaces s.environments.slots n
-      (clients_so n (slot_at s n) (λ same. other (sym same)) (born_live (born_at h n v.b v.is))) (ap is_plain v.place ∙ brings_plain call with_page (asking_step call id fd)) (page_number UTEMP)
-      ∙ page.stands
 
   -- no client has its frame elsewhere
   page_alone : (m p : ℕ) (x : Entry) → logical s.spaces s.environments.slots m p ≡ Some x → x.frame ≡ entry.frame → MayBeHad true p x
@@ -260,15 +246,15 @@ module _ {names : Names} {s : KernelState} {a : AbstractState} (h : StandsFor na
       by_test false test may = absurd (let contradiction : false ≡ true = may.descriptor in cc)
 
   spaces_in_order : IsInOrder (with_spaces s sp)
-  spaces_in_order = slot_was_in_order (with_spaces s sp) 0 (server_told s n told_word) (sym (first_slot h).lives) refl in_order
+  spaces_in_order = slot_was_in_order (with_spaces s sp) 0 (server_told s n word) (sym (first_slot h).lives) refl in_order
 
   page_given : Given s.spaces sp server_dir (page_number REQUEST) entry
   page_given =
       inserted_given s.spaces sp server_dir (page_number REQUEST) entry (slot_at s n).directory (page_number UTEMP) comes.entry h.in_order.frames
       spaces_in_order.frames refl comes.stands refl comes.is
 
-  others : OthersKept s.spaces sp server_dir
-  others =
+  pub others_asked : OthersKept s.spaces sp server_dir
+  others_asked =
       placed_others page_given.placed
       (λ q r y there same. ap sp.pages same ∙ page_given.same ∙ ap s.spaces.pages (sym same))
 
@@ -280,7 +266,7 @@ module _ {names : Names} {s : KernelState} {a : AbstractState} (h : StandsFor na
       no_place : IsPlacePage (page_number REQUEST) → ⊥
       no_place place = let below = place.1 in let is = place.2 in omega (arith, below, is)
 
-  told_stands : StandsForServer (server_told s n told_word) FIRST_ENV_ID
+  told_stands : StandsForServer (server_told s n word) FIRST_ENV_ID
   told_stands =
       let k = first_slot h in record {
         first = k.first;
@@ -293,17 +279,39 @@ module _ {names : Names} {s : KernelState} {a : AbstractState} (h : StandsFor na
       }
 
   -- the request has come to the server
-  pub page_request_stands : (request : Request) → StandsFor names (page_asked s sp n (word_asked call)) (with_request_of a n request)
-  page_request_stands request =
-      server_moves h sp others own (λ m ne. counts_beside h n last (ap is_piped v.place ∙ asking_unpiped call id fd) sp m)
-      (server_told s n told_word) (with_request_of a n request).server refl
-      (stopped_settles (slot_at s 0) (server_told s n told_word) refl refl refl refl) told_stands (begun_status request) in_order
+  pub request_comes : (request : Request) → StandsFor names (page_asked s sp n word) (with_request_of a n request)
+  request_comes request =
+      server_moves h sp others_asked own (λ m ne. counts_beside h n last unpiped sp m)
+      (server_told s n word) (with_request_of a n request).server refl
+      (stopped_settles (slot_at s 0) (server_told s n word) refl refl refl refl) told_stands (begun_status request) in_order
     where
       -- it may run, whatever is asked
-      begun_status : (x : Request) → IsServerStatus (request_begun n x) (server_told s n told_word)
+      begun_status : (x : Request) → IsServerStatus (request_begun n x) (server_told s n word)
       begun_status (act (open_path path mode) object) = (tt, refl)
       begun_status (act _ object) = (tt, refl)
       begun_status (seek name offset) = (tt, refl)
+
+module _ {names : Names} {s : KernelState} {a : AbstractState} (h : StandsFor names s a) (n id fd : ℕ) (call : Service)
+    (with_page : brings_page call ≡ true) (v : IsServed names s a n call (asking_step call id fd)) (sp : SpacesState) (comes : PageComes s sp n)
+    (in_order : IsInOrder (page_asked s sp n (word_asked call))) (last : s.last ≡ Some n) where
+  abbrev told_word : ℕ
+  told_word = word_asked call
+
+  other : n ≢ 0
+  other same = born_not_first h n v.b v.is (sym same)
+
+  abbrev page : IsOwnWritable (rows_of s.spaces (slot_at s n).directory) (page_number UTEMP)
+  page = request_page id fd call with_page v
+
+  page_counts : logical s.spaces s.environments.slots n (page_number UTEMP) ≡ Some page.entry
+  page_counts =
+      logical_plain s.spaces s.environments.slots n
+      (clients_so n (slot_at s n) (λ same. other (sym same)) (born_live (born_at h n v.b v.is))) (ap is_plain v.place ∙ brings_plain call with_page (asking_step call id fd)) (page_number UTEMP)
+      ∙ page.stands
+
+  page_request_stands : (request : Request) → StandsFor names (page_asked s sp n (word_asked call)) (with_request_of a n request)
+  page_request_stands request =
+      request_comes h n v.b v.is page page_counts (ap is_piped v.place ∙ asking_unpiped call id fd) told_word sp comes in_order last request
 
   told : (id ≡ (slot_at s n).id) × IsBeside (rows_of s.spaces (slot_at s n).directory) call fd
       × TellsRequest (view_of s.spaces (slot_at s n).directory) (slot_at s n) v.b call

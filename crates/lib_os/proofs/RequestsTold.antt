@@ -64,7 +64,7 @@ module _ (a : AbstractState) (n : ℕ) (b : Born) (call : Service) (it : IsAskin
       by_server (acted client answer bytes object) is = refl
 
   -- It would have its step if the server were idle,
-  waits_for_server : is_idle a.server ≡ false → waits_to_ask a n ≡ true
+  pub waits_for_server : is_idle a.server ≡ false → waits_to_ask a n ≡ true
   waits_for_server not_idle =
       let none = request_waits not_idle in
       let some = it.asks idle in

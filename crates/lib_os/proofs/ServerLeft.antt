@@ -43,7 +43,7 @@ use Rattle.lib_os.specs.AbstractState.{AbstractState, AbstractSlot}
 use Rattle.lib_os.specs.InOrder.{HasOneUse, IsInOrder, AreFree}
 use Rattle.lib_os.specs.declared.service.Service.{Service}
 use Rattle.lib_os.specs.declared.service.Service.TheVariants as service
-use Rattle.lib_os.specs.LibrarySteps.{BringsRequest, Stands, KeepsServer, LeavesOrAsks, asked_it, left_alone}
+use Rattle.lib_os.specs.LibrarySteps.{BringsRequest, Stands, KeepsServer, LeavesOrAsks, asked_it, left_alone, spawn_asked}
 use Rattle.lib_os.specs.Rows.{Names, is_of_descriptor}
 use Rattle.lib_os.specs.StandsFor.{StandsFor, StandsForSlot, StandsForServer}
 use Rattle.lib_os.specs.UserCalls.{CallStep, giving, accessing, by_access, faulting, user_byte, user_word, with_user_byte, with_user_word}
@@ -664,6 +664,17 @@ own_server s n mid slot status directory_is h then_so other live a stands =
     by_way (left_alone it) = left_alone (record { slot = kept ∙ it.slot; entries = it.entries; regions = it.regions; pages = it.pages })
     by_way (asked_it it) =
         asked_it (record { by_service = it.by_service; id = it.id; fd = it.fd; at = it.at; waited = it.waited; brings = brought it.by_service it.brings })
+    by_way (spawn_asked it) =
+        spawn_asked (record {
+          path = it.path;
+          argv = it.argv;
+          from = it.from;
+          word = it.word;
+          at = it.at;
+          asks = it.asks;
+          waited = it.waited;
+          brings = (kept ∙ it.brings.0, record { entry = it.brings.1.entry; stands = it.brings.1.stands; spaces = it.brings.1.spaces });
+        })
 
 module _ (s : KernelState) (n number : ℕ) (args : List ℕ) where
   server_by : (d : ℕ) → IsAside d s n → ((number == SYS_EXOFORK) ≡ true → NextIsFree s) → sends_aside number args ≡ true →

@@ -32,7 +32,7 @@ use Rattle.lib_os.specs.declared.spawn_steps.SpawnStep.TheVariants as spawn
 use Rattle.lib_os.specs.AbstractRun.{abs_step, pipe_of}
 use Rattle.lib_os.specs.AbstractState.{AbstractSlot, AbstractState, Born, Object, OpenFile, Phase, acted, awaiting, born, file, in_service, leaving}
 use Rattle.lib_os.specs.AbstractState.{replied, with_born}
-use Rattle.lib_os.specs.DescriptorPages.{HasObject, IsOpenFile, place_page}
+use Rattle.lib_os.specs.DescriptorPages.{HasObject, IsOpenFile, device_of, place_page}
 use Rattle.lib_os.specs.Descriptors.{with_descriptor}
 use Rattle.lib_os.specs.FileServer.{given, reply, reply_at, reply_to}
 use Rattle.lib_os.specs.GuestStep.{born_in}
@@ -45,6 +45,7 @@ use Rattle.lib_os.specs.Rows.{is_of_descriptor, is_programs, lasting, logical, n
 use Rattle.lib_os.specs.Rows.{shown_at}
 use Rattle.lib_os.specs.StandsFor.{IsServerStatus, StandsAt, StandsAtStep, StandsFor, StandsForBorn, has_opened, things_in, upcall_at, view_of, seen_unless}
 use Rattle.lib_os.specs.StandsAtSpawn.{PageHas, has_file as spawn_has_file, opened_word}
+use Rattle.lib_os.specs.StandsInHandler.{IsFileOpen}
 use Rattle.lib_os.specs.UserCalls.{CallStep, giving, system}
 use Rattle.lib_os.specs.PipeEnds.{EndsStand, LocksStand, is_on_its_way, locked_at, pipe_named}
 use Rattle.lib_os.proofs.PipesStand.{calm_made, calm_on_way, ends_at_one, is_calm, locks_beside, no_pipe_beside, same_places}
@@ -142,6 +143,10 @@ module _ {names : Names} {s : KernelState} {a : AbstractState} (h : StandsFor na
   page_given =
       inserted_given s.spaces sp dir p e (slot_at s 0).directory (place_page number) opens.source h.in_order.frames in_order.frames refl opens.stands
       refl put_is
+
+  -- it is a file's
+  pub given_open : IsFileOpen (view_of sp dir) fd
+  given_open = record { entry = e; stands = row_placed page_given.placed; device = ap device_of page_given.same ∙ opens.told.device }
 
   pub given_row : (q r : ℕ) → Elsewhere q r dir p → rows_of sp q r ≡ rows_of s.spaces q r
   given_row q r ne = row_elsewhere page_given.placed q r ne
@@ -599,16 +604,17 @@ module _ {names : Names} {s : KernelState} {a : AbstractState} (h : StandsFor na
           stack = record { fits = so.stack.fits; esp_is = so.stack.esp_is; kept = stack_too order };
           so = spawn_has_file (record {
             is_in = record {
-              regs = (slot_at s client).registers;
+              regs = so.awaiting_it.regs;
               program = so.awaiting_it.program;
               eax = 0;
-              registers = refl;
+              registers = λ i. record (so.awaiting_it.registers i) { eax = 0 };
               phase = ap (λ (n : ℕ). in_service call_of_spawn (replied [] n)) fd_is;
               silent = refl;
               awake = refl;
             };
             is = so.is;
-          }) (let low : 0 < 2 ^ 32 = omega arith in low) (let low = lowest.below in omega (arith, low));
+          }) (let low : 0 < 2 ^ 32 = omega arith in low) (let low = lowest.below in omega (arith, low)) (λ some. absurd (some refl))
+              (λ zero below. given_open h client number name fd b call_of_spawn step_of_spawn at opens there refl refl lowest sp put_is order);
         },
       ))
     where
@@ -678,16 +684,17 @@ module _ {names : Names} {s : KernelState} {a : AbstractState} (h : StandsFor na
           stack = so.stack;
           so = spawn_has_file (record {
             is_in = record {
-              regs = (slot_at s client).registers;
+              regs = so.awaiting_it.regs;
               program = so.awaiting_it.program;
               eax = 0;
-              registers = refl;
+              registers = λ i. record (so.awaiting_it.registers i) { eax = 0 };
               phase = ap (λ (n : ℕ). in_service from_spawn (replied [] n)) told_word;
               silent = refl;
               awake = refl;
             };
             is = so.is;
-          }) (let low : 0 < 2 ^ 32 = omega arith in low) (omega (arith, none));
+          }) (let low : 0 < 2 ^ 32 = omega arith in low) (omega (arith, none)) (λ some. absurd (some refl))
+              (λ zero below. absurd (omega (arith, none, below)));
         },
       )
     where

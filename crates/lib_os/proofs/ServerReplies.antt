@@ -26,7 +26,7 @@ use Rattle.lib_os.specs.AbstractRun.{abs_step, may_wait, reply_may_wait, slot_ma
 use Rattle.lib_os.specs.AskedFor.{IsThere, OpensBy, handed_in, is_opening}
 use Rattle.lib_os.specs.AbstractState.{AbstractSlot, AbstractState, Born, Phase, Server, act, acted, asked, awaiting, born, busy, idle, in_service}
 use Rattle.lib_os.specs.AbstractState.{Spawning, guest, leaving, replied, with_born}
-use Rattle.lib_os.specs.FileServer.{act_done, reply, reply_at, reply_to, served, server_step}
+use Rattle.lib_os.specs.FileServer.{act_done, is_count, reply, reply_at, reply_to, served, server_step}
 use Rattle.lib_os.specs.GuestStep.{born_in}
 use Rattle.lib_os.specs.LibraryPages.{IsOwnWritable, View, has_copy, has_working}
 use Rattle.lib_os.specs.MadeCalls.{SetsWords}
@@ -182,9 +182,9 @@ none_long (byte ∷ rest) none = absurd (omega (arith, none))
 abbrev pub TellsNoFile : Service → Option Spawning → ℕ → Type 0
 TellsNoFile call found answer = OpensBy (is_opening call found) answer None
 
-untold : (value fd : ℕ) → value ≢ 0 → opened_answer value fd ≡ value
-untold value fd some =
-    let test : (value == 0) ≡ false = grind (arith, nat_tests, some) in ap (λ (t : Bool). if t then fd else value) test
+untold : (value fd : ℕ) → is_count value ≡ false → opened_answer value fd ≡ value
+untold value fd error =
+    let test : (value == 0) ≡ false = grind (arith, nat_tests, error) in ap (λ (t : Bool). if t then fd else value) test
 
 -- the client to which the reply has come
 abbrev pub replied_born : Service → Born → List ℕ → ℕ → Born

@@ -39,7 +39,7 @@ module _ {k : Slot} {b : Born} {path argv : ℕ} (words : List ℕ) where
   pub refuses_with : {answer : ℕ} → Refuses k b path argv answer → Refuses (record k { extra = words }) b path argv answer
   refuses_with (by_given stage is_in wrongly is) = by_given stage (in_with is_in) wrongly is
   refuses_with (by_file all found none) = by_file all (found_with found) none
-  refuses_with (by_drop number found is) = by_drop number (found_with found) is
+  refuses_with (by_drop found) = by_drop (found_with found)
 
 -- ---- the pages
 

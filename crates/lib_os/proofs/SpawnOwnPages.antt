@@ -84,6 +84,7 @@ pub record IsStoredInto (names : Names) (s : KernelState) (a : AbstractState) (n
   pub step_is : call ≡ giving (with_spaces s spaces) tt
   pub put : IsInOrder (with_spaces s spaces) →
       IsPutIn (view_of s.spaces (slot_at s n).directory) (view_of spaces (slot_at s n).directory) p at bytes
+  pub stands_beside : IsInOrder (with_spaces s spaces) → StandsBeside names s a spaces n
   pub goes_on : IsInOrder (with_spaces s spaces) → s.last ≡ Some n → spawning_child from ≡ None → (to : SpawnStep) → spawning_child to ≡ None →
       holds_page (spawns_at path argv from) ≡ holds_page (spawns_at path argv to) →
       StandsAtSpawn (view_of spaces (slot_at s n).directory) (record (slot_at s n) { extra = spawn_words to }) b path argv to →
@@ -290,6 +291,9 @@ module _ {names : Names} {s : KernelState} {a : AbstractState} (h : StandsFor na
             whole = mine.whole;
             fits = fits;
           };
+          stands_beside = λ order.
+              stands_beside h n spawn_there.b spawn_there.is p mine.counts mine.outside mine.no_descriptor mine.page.entry mine.page.stands
+              mine.page.own_page mine.page.writes (bytes_put (s.spaces.pages frame) at bytes) whole_now puts.rewritten order;
           goes_on = λ order last unborne to unborne_after held so.
               stored_goes_on puts.spaces
               (stands_beside h n spawn_there.b spawn_there.is p mine.counts mine.outside mine.no_descriptor mine.page.entry mine.page.stands

@@ -11,6 +11,7 @@ use Rattle.jos_base.specs.Words.{page_number}
 use Rattle.jos_base.specs.declared.numbers.TheConstants.{UTEMP}
 use Rattle.jos_elf.specs.declared.numbers.TheConstants.{PHDR_LEN}
 use Rattle.jos_elf.specs.declared.image.Segment.{Segment}
+use Rattle.jos_elf.specs.Headers.{entry_count_of}
 use Rattle.jos_elf.specs.Parsed.{segment_of}
 use Rattle.lib_os.specs.declared.numbers.TheConstants.{DESCRIPTORS, TRANSFER_MAX}
 use Rattle.lib_os.specs.declared.service.Service.TheVariants as service
@@ -19,22 +20,28 @@ use Rattle.lib_os.specs.declared.spawn_steps.SpawnStep.{SpawnStep}
 use Rattle.lib_os.specs.AbstractSpawn.{Piece, headers_in, image_segments, piece_of, pieces_left, pieces_of, table_size}
 use Rattle.lib_os.specs.AbstractState.{Born, ImageRead, Spawning, heading, in_service, loading, replied, tabling}
 use Rattle.lib_os.specs.AskedFor.{OpensBy, first_len, handed_in, is_opening, wanted_by}
+use Rattle.lib_os.specs.FileServer.{is_count}
 use Rattle.lib_os.specs.LibraryPages.{IsOwnWritable, View}
 use Rattle.lib_os.specs.Rows.{AreBytes}
 use Rattle.lib_os.specs.StandsAtSpawn.{IsFor, IsFreeOrNone, IsNextPiece, StandsAtSpawn, for_header, for_piece, for_table, has_bytes, has_file}
-use Rattle.lib_os.specs.StandsAtSpawn.{is_free, none_is, opened_word, pieces_behind}
+use Rattle.lib_os.specs.StandsAtSpawn.{is_free, none_is, opened_word, pieces_behind, rest_of}
 use Rattle.lib_os.proofs.Sends.{received_in}
 use Rattle.lib_os.proofs.SpawnWaits.{SpawnAwaits, expects_file, expects_part}
 
 -- ---- how many bytes are wanted
 
-first_behind : (f : ℕ → Piece) (first n k : ℕ) (more : List Piece) → k < n → first_len (drop k (map f (rising first n)) ++ more) ≡ (f (first + k)).len
+-- a piece from pieces made one after another
+front_behind : (f : ℕ → Piece) (first n k : ℕ) (more : List Piece) → k < n →
+    (rest : List Piece) × (drop k (map f (rising first n)) ++ more ≡ f (first + k) ∷ rest)
 unfolding rising
-first_behind f first zero k more lt = absurd (omega (arith, lt))
-first_behind f first (suc n) zero more lt = let same : first ≡ first + 0 = omega arith in ap (λ (i : ℕ). (f i).len) same
-first_behind f first (suc n) (suc k) more lt =
+front_behind f first zero k more lt = absurd (omega (arith, lt))
+front_behind f first (suc n) zero more lt =
+    let same : first ≡ first + 0 = omega arith in
+    (map f (rising (first + 1) n) ++ more, ap (λ (i : ℕ). f i ∷ (map f (rising (first + 1) n) ++ more)) same)
+front_behind f first (suc n) (suc k) more lt =
     let same : first + 1 + k ≡ first + suc k = omega arith in
-    first_behind f (first + 1) n k more (omega (arith, lt)) ∙ ap (λ (i : ℕ). (f i).len) same
+    let it = front_behind f (first + 1) n k more (omega (arith, lt)) in
+    (it.0, it.1 ∙ ap (λ (i : ℕ). f i ∷ it.0) same)
 
 -- the next piece of a segment
 piece_long : (done end file_len : ℕ) → done < end → end ≡ min (done + TRANSFER_MAX) file_len → done % TRANSFER_MAX ≡ 0 →
@@ -55,14 +62,19 @@ piece_long done end file_len some end_is begins = by_room (nat_le (done + TRANSF
         let all : end ≡ file_len = end_is ∙ min-eq_right (omega (arith, past)) in
         min-eq_right (omega (arith, past, whole)) ∙ omega (arith, all, whole)
 
-next_long : (image : ImageRead) (header done end : ℕ) → IsNextPiece image header done end → first_len (pieces_behind image header done) ≡ end - done
-next_long image header done end next =
-    rw next.loaded
-    (first_behind (piece_of (segment_of (headers_in image.table header))) 0
-    (((headers_in image.table header).file_len + (TRANSFER_MAX - 1)) / TRANSFER_MAX) (done / TRANSFER_MAX) _ within
-    ∙ ap (λ (k : ℕ). (piece_of (segment_of (headers_in image.table header)) k).len) first
-    ∙ piece_long done end (headers_in image.table header).file_len next.some next.end_is next.begins)
+-- It is the first of those that are left.
+pub next_piece : (image : ImageRead) (header done end : ℕ) → IsNextPiece image header done end →
+    (rest : List Piece) × (pieces_behind image header done ≡ record { at = (headers_in image.table header).file_at + done; len = end - done } ∷ rest)
+next_piece image header done end next = (it.0, rw next.loaded (it.1 ∙ (λ i. record { at = at_is i; len = long_is i } ∷ it.0)))
   where
+    segment : Segment
+    segment = segment_of (headers_in image.table header)
+
+    more : List Piece
+    more =
+        flat_map (λ n. rest_of (headers_in image.table) n 0)
+        (rising (header + 1) (entry_count_of (slice_index image.header) - (header + 1)))
+
     first : 0 + done / TRANSFER_MAX ≡ done / TRANSFER_MAX
     first = omega arith
 
@@ -79,6 +91,22 @@ next_long image header done end next =
 
     within : done / TRANSFER_MAX < ((headers_in image.table header).file_len + (TRANSFER_MAX - 1)) / TRANSFER_MAX
     within = let some = next.some in let room = most in let begins = next.begins in omega (arith, some, room, begins)
+
+    it : (rest : List Piece)
+        × (drop (done / TRANSFER_MAX) (pieces_of segment) ++ more ≡ piece_of segment (0 + done / TRANSFER_MAX) ∷ rest)
+    it =
+        front_behind (piece_of segment) 0 ((segment.file_len + (TRANSFER_MAX - 1)) / TRANSFER_MAX) (done / TRANSFER_MAX) more within
+
+    at_is : segment.file_at + TRANSFER_MAX * (0 + done / TRANSFER_MAX) ≡ segment.file_at + done
+    at_is = let begins = next.begins in omega (arith, begins)
+
+    long_is : min TRANSFER_MAX (segment.file_len - TRANSFER_MAX * (0 + done / TRANSFER_MAX)) ≡ end - done
+    long_is =
+        ap (λ (k : ℕ). min TRANSFER_MAX (segment.file_len - TRANSFER_MAX * k)) first
+        ∙ piece_long done end segment.file_len next.some next.end_is next.begins
+
+next_long : (image : ImageRead) (header done end : ℕ) → IsNextPiece image header done end → first_len (pieces_behind image header done) ≡ end - done
+next_long image header done end next = ap (λ (pieces : List Piece). first_len pieces) (next_piece image header done end next).1
 
 -- no piece has more bytes than a request moves
 abbrev AreFew : List Piece → Type 0
@@ -133,7 +161,7 @@ wanted_same path argv _ _ word (for_header esp fd size words found sized stack l
 wanted_same path argv _ _ word (for_table esp fd size entry_point headers place words header found sized stack begins many few) =
     ap (λ (o : Option Spawning). handed_in (service.Spawn path argv) o word) found
     ∙ ap (λ (n : ℕ). if nat_le word n then word else 0) (min-eq_left (omega (arith, many, few)) ∙ ap (λ (n : ℕ). PHDR_LEN * n) (sym many))
-wanted_same path argv _ _ word (for_piece fd headers child header done end place image pieces found of_file whole below left come next) =
+wanted_same path argv _ _ word (for_piece fd headers child header done end place image pieces found of_file whole below left come next sized) =
     ap (λ (o : Option Spawning). handed_in (service.Spawn path argv) o word) found
     ∙ ap (λ (n : ℕ). if nat_le word n then word else 0) (ap first_len left ∙ next_long image header done end next)
 
@@ -152,8 +180,8 @@ for_again : {v : View} {b : Born} (after : Born) → after.spawning ≡ b.spawni
 for_again after same _ _ (for_header esp fd size words found sized stack long) = for_header esp fd size words (same ∙ found) sized stack long
 for_again after same _ _ (for_table esp fd size entry_point headers place words header found sized stack begins many few) =
     for_table esp fd size entry_point headers place words header (same ∙ found) sized stack begins many few
-for_again after same _ _ (for_piece fd headers child header done end place image pieces found of_file whole below left come next) =
-    for_piece fd headers child header done end place image pieces (same ∙ found) of_file whole below left come next
+for_again after same _ _ (for_piece fd headers child header done end place image pieces found of_file whole below left come next sized) =
+    for_piece fd headers child header done end place image pieces (same ∙ found) of_file whole below left come next sized
 
 module _ (v : View) (k : Slot) (b : Born) (path argv sender answer : ℕ) (bytes : List ℕ) (small : answer < 2 ^ 32) (small_bytes : AreBytes bytes)
     (many : length bytes ≡ handed_in (service.Spawn path argv) b.spawning answer)
@@ -174,16 +202,16 @@ module _ (v : View) (k : Slot) (b : Born) (path argv sender answer : ℕ) (bytes
       stack = so.stack;
       so = has_file (record {
         is_in = record {
-          regs = k.registers;
+          regs = so.awaiting_it.regs;
           program = so.awaiting_it.program;
           eax = 0;
-          registers = refl;
+          registers = λ i. record (so.awaiting_it.registers i) { eax = 0 };
           phase = λ i. in_service (service.Spawn path argv) (replied (none i) (answer_is i));
           silent = refl;
           awake = refl;
         };
         is = so.is;
-      }) small (by_free so.free);
+      }) small (by_free so.free) (λ not_zero. error) (λ zero below. absurd (some zero));
     },
   )
     where
@@ -194,8 +222,14 @@ module _ (v : View) (k : Slot) (b : Born) (path argv sender answer : ℕ) (bytes
           by_test true test = grind (arith, nat_tests, test)
           by_test false test = refl
 
+      error : is_count answer ≡ false
+      error = subst (λ (o : Option Spawning). OpensBy (is_opening (service.Spawn path argv) o) answer None) so.is told
+
+      great : 2 ^ 31 ≤ answer
+      great = grind (arith, nat_tests, error)
+
       some : answer ≢ 0
-      some = subst (λ (o : Option Spawning). OpensBy (is_opening (service.Spawn path argv) o) answer None) so.is told
+      some = λ zero. omega (arith, great, zero)
 
       answer_is : answer ≡ opened_word answer fd
       answer_is =
@@ -211,10 +245,10 @@ module _ (v : View) (k : Slot) (b : Born) (path argv sender answer : ℕ) (bytes
       count = so.count;
       so = for_again born_after refl wanted so.count so.so;
       awaits = has_bytes bytes (record {
-        regs = k.registers;
+        regs = so.awaiting_it.regs;
         program = so.awaiting_it.program;
         eax = 0;
-        registers = refl;
+        registers = λ i. record (so.awaiting_it.registers i) { eax = 0 };
         phase = refl;
         silent = refl;
         awake = refl;

@@ -44,9 +44,9 @@ use Rattle.lib_os.specs.StandsAtSpawn.{IsRecording, IsSettling, IsSharing, IsSta
 use Rattle.lib_os.specs.StandsAtSpawn.{OpeningStands, PageHas, ReadingStands, Refuses, StandsAtSpawn, Tells, TellsAll, TellsCount, TellsFile}
 use Rattle.lib_os.specs.StandsAtSpawn.{TellsNumber, TestingStands, UndoingStands}
 use Rattle.lib_os.specs.StandsAtSpawn.{address_outside, awaits_bytes, awaits_file, before_header, before_piece, before_table, by_drop, by_file, by_given}
-use Rattle.lib_os.specs.StandsAtSpawn.{child_gone, for_header, for_piece, for_table, has_bytes, has_file, is_free, no_fit, no_header, no_table}
-use Rattle.lib_os.specs.StandsAtSpawn.{none_is, string_endless, string_outside, too_many, too_short}
-use Rattle.lib_os.specs.StandsInHandler.{is_refused_by}
+use Rattle.lib_os.specs.StandsAtSpawn.{for_header, for_piece, for_table, has_bytes, has_file, header_unread, is_free, no_child, no_fit, no_header}
+use Rattle.lib_os.specs.StandsAtSpawn.{no_table, none_is, string_endless, string_outside, table_unread, too_many, too_short}
+use Rattle.lib_os.specs.StandsInHandler.{IsFileOpen, is_refused_by}
 use Rattle.lib_os.proofs.DescriptorWords.{told_device, told_number, told_size}
 
 -- ---- what it has found out
@@ -120,7 +120,7 @@ module _ (v w : View) (row : w.row ≡ v.row) where
 
   -- the image
 
-  image_kept : SameAt v w (page_number SPAWN_GIVEN) → SameAt v w (page_number SPAWN_STACK) → (image : ImageRead) (headers : ℕ) →
+  abbrev image_kept : SameAt v w (page_number SPAWN_GIVEN) → SameAt v w (page_number SPAWN_STACK) → (image : ImageRead) (headers : ℕ) →
       HasImage v image headers → HasImage w image headers
   image_kept given_own own image headers h = record {
     table = given_page_kept given_own image.table h.table;
@@ -136,15 +136,15 @@ module _ (v w : View) (row : w.row ≡ v.row) where
 
   -- a descriptor
 
-  abbrev of_file_kept : SameTold v w → (fd : ℕ) → IsOfFile v fd → IsOfFile w fd
-  of_file_kept told fd h = record {
-    below = h.below;
-    file = record {
-      entry = h.file.entry;
-      stands = ap (λ (r : EntryRow). r (descriptor_page fd)) row ∙ h.file.stands;
-      device = ap told_device (told fd h.below h.file.entry h.file.stands) ∙ h.file.device;
-    };
+  abbrev file_open_kept : SameTold v w → (fd : ℕ) → fd < DESCRIPTORS → IsFileOpen v fd → IsFileOpen w fd
+  file_open_kept told fd below h = record {
+    entry = h.entry;
+    stands = ap (λ (r : EntryRow). r (descriptor_page fd)) row ∙ h.stands;
+    device = ap told_device (told fd below h.entry h.stands) ∙ h.device;
   }
+
+  abbrev of_file_kept : SameTold v w → (fd : ℕ) → IsOfFile v fd → IsOfFile w fd
+  of_file_kept told fd h = record { below = h.below; file = file_open_kept told fd h.below h.file }
 
   number_kept : SameTold v w → (fd : ℕ) (h : IsOfFile v fd) → number_of (v.bytes h.file.entry.frame) ≡ number_of (w.bytes h.file.entry.frame)
   number_kept told fd h = sym (ap told_number (told fd h.below h.file.entry h.file.stands))
@@ -206,7 +206,10 @@ module _ (v w : View) (row : w.row ≡ v.row) (told : SameTold v w) (given_own :
 
   pub awaiting_kept : (destination : ℕ) → IsAwaitingReply k b path argv destination → IsAwaitingReply slot_after born_after path argv destination
   awaiting_kept destination h = record {
+    regs = h.regs;
     program = h.program;
+    eax = h.eax;
+    registers = h.registers;
     phase = h.phase;
     blocked = h.blocked;
     receives = h.receives;
@@ -220,9 +223,9 @@ module _ (v w : View) (row : w.row ≡ v.row) (told : SameTold v w) (given_own :
   for_kept _ _ (for_table esp fd size entry_point headers place words header found sized stack begins many few) =
       for_table esp fd size entry_point headers place words header found (sized_kept v w row told fd size sized)
       (stack_kept v w row stack_own words esp stack) begins many few
-  for_kept _ _ (for_piece fd headers child header done end place image pieces found of_file whole below left come next) =
+  for_kept _ _ (for_piece fd headers child header done end place image pieces found of_file whole below left come next sized) =
       for_piece fd headers child header done end place image pieces found (of_file_kept v w row told fd of_file)
-      (image_kept v w row given_own stack_own image headers whole) below left come next
+      (image_kept v w row given_own stack_own image headers whole) below left come next (sized_kept v w row told fd whole.size sized)
 
   pub asked_part_kept : (wanted : FilePart) → HasAskedPart v k b path argv wanted → HasAskedPart w slot_after born_after path argv wanted
   asked_part_kept wanted h = record { count = h.count; so = for_kept wanted h.count h.so; is_in = is_in_kept _ h.is_in }
@@ -423,7 +426,8 @@ module _ (v w : View) (row : w.row ≡ v.row) (told : SameTold v w) (given_own :
 
     awaits_file_kept : (fd : ℕ) (words : List (List ℕ)) → AwaitsFile v k b path argv fd words → AwaitsFile w slot_after born_after path argv fd words
     awaits_file_kept fd words (awaits_file awaiting found free) = awaits_file (awaiting_kept _ awaiting) found (free_or_none_kept v w row fd free)
-    awaits_file_kept fd words (has_file found small most) = has_file (found_kept _ _ found) small most
+    awaits_file_kept fd words (has_file found small most refused opened) =
+        has_file (found_kept _ _ found) small most refused (λ zero below. file_open_kept v w row told fd below (opened zero below))
 
     opening_file_kept : (esp fd : ℕ) → IsOpeningFile v k b path argv esp fd → IsOpeningFile w slot_after born_after path argv esp fd
     opening_file_kept esp fd h =
@@ -465,15 +469,16 @@ module _ (v w : View) (row : w.row ≡ v.row) (told : SameTold v w) (given_own :
       below = h.below;
       left = h.left;
       come = h.come;
+      sized = sized_kept v w row told fd h.whole.size h.sized;
     }
 
     before_kept : (wanted : FilePart) (fd count place : ℕ) → IsBefore v k b path argv wanted fd count place →
         IsBefore w slot_after born_after path argv wanted fd count place
     before_kept _ _ _ _ (before_header esp fd size so sized long) =
         before_header esp fd size (has_file_kept esp fd so) (sized_kept v w row told fd size sized) long
-    before_kept _ _ _ _ (before_table esp fd size entry_point headers place words header answer found sized stack begins many at few inside long passed) =
+    before_kept _ _ _ _ (before_table esp fd size entry_point headers place words header answer found sized stack begins many at few inside long passed come) =
         before_table esp fd size entry_point headers place words header answer (found_kept _ _ found) (sized_kept v w row told fd size sized)
-        (stack_kept v w row stack_own words esp stack) begins many at few inside long passed
+        (stack_kept v w row stack_own words esp stack) begins many at few inside long passed come
     before_kept _ _ _ _ (before_piece fd headers child header done end place so next at) =
         before_piece fd headers child header done end place (filled_kept fd headers child header done so) next at
 
@@ -529,6 +534,7 @@ module _ (v w : View) (row : w.row ≡ v.row) (told : SameTold v w) (given_own :
       header = h.header;
       answer = h.answer;
       found = found_kept _ _ h.found;
+      come = h.come;
       stack = stack_kept v w row stack_own h.words esp h.stack;
       of_file = sized_kept v w row told fd size h.of_file;
       sized = h.sized;
@@ -549,6 +555,7 @@ module _ (v w : View) (row : w.row ≡ v.row) (told : SameTold v w) (given_own :
       table = h.table;
       answer = h.answer;
       found = found_kept _ _ h.found;
+      come = h.come;
       stack = stack_kept v w row stack_own h.words esp h.stack;
       of_file = sized_kept v w row told fd size h.of_file;
       entry_point_is = h.entry_point_is;
@@ -642,6 +649,7 @@ module _ (v w : View) (row : w.row ≡ v.row) (told : SameTold v w) (given_own :
       found = found_kept _ _ h.found;
       of_file = of_file_kept v w row told fd h.of_file;
       whole = image_kept v w row given_own stack_own image headers h.whole;
+      sized = sized_kept v w row told fd h.whole.size h.sized;
     }
 
     recording_kept : (esp fd entry_point headers child index : ℕ) → IsRecording v k b path argv esp fd entry_point headers child index →
@@ -676,6 +684,7 @@ module _ (v w : View) (row : w.row ≡ v.row) (told : SameTold v w) (given_own :
       bytes = h.bytes;
       answer = h.answer;
       found = found_kept _ _ h.found;
+      counts = h.counts;
       of_file = of_file_kept v w row told fd h.of_file;
       whole = image_kept v w row given_own stack_own h.image headers h.whole;
       below = h.below;
@@ -687,6 +696,7 @@ module _ (v w : View) (row : w.row ≡ v.row) (told : SameTold v w) (given_own :
       long = h.long;
       small = h.small;
       kept = path_page_kept v w row path_own 0 h.bytes h.kept;
+      sized = sized_kept v w row told fd h.whole.size h.sized;
     }
 
     abbrev putting_at_kept : (fd headers child header va done end : ℕ) → IsPuttingAt v k b path argv fd headers child header va done end →
@@ -789,29 +799,28 @@ module _ (v w : View) (row : w.row ≡ v.row) (told : SameTold v w) (given_own :
       pieces = h.pieces;
       bytes = h.bytes;
       answer = h.answer;
-      piece = h.piece;
-      rest = h.rest;
       found = found_kept _ _ h.found;
-      next = h.next;
-      short = h.short;
+      so = h.so;
       of_file = of_file_kept v w row told fd h.of_file;
-      error_is = h.error_is;
     }
 
     to_drop_kept : (fd error : ℕ) → IsToDrop v k b path argv fd error → IsToDrop w slot_after born_after path argv fd error
     to_drop_kept fd error (too_short size words found sized less is) =
         too_short size words (found_kept _ _ found) (sized_kept v w row told fd size sized) less is
-    to_drop_kept fd error (no_header size words header answer found sized bad is) =
-        no_header size words header answer (found_kept _ _ found) (sized_kept v w row told fd size sized) bad is
-    to_drop_kept fd error (no_table size words header table answer found sized bad is) =
-        no_table size words header table answer (found_kept _ _ found) (sized_kept v w row told fd size sized) bad is
-    to_drop_kept fd error (child_gone number found of_file is) =
-        child_gone number (found_kept _ _ found) (of_file_kept v w row told fd of_file) is
+    to_drop_kept fd error (no_header size words header answer found sized come bad is) =
+        no_header size words header answer (found_kept _ _ found) (sized_kept v w row told fd size sized) come bad is
+    to_drop_kept fd error (no_table size words header table answer found sized come bad is) =
+        no_table size words header table answer (found_kept _ _ found) (sized_kept v w row told fd size sized) come bad is
+    to_drop_kept fd error (header_unread words header found of_file is) =
+        header_unread words header (found_kept _ _ found) (of_file_kept v w row told fd of_file) is
+    to_drop_kept fd error (table_unread words header table found of_file is) =
+        table_unread words header table (found_kept _ _ found) (of_file_kept v w row told fd of_file) is
+    to_drop_kept fd error (no_child found of_file) = no_child (found_kept _ _ found) (of_file_kept v w row told fd of_file)
 
     refuses_kept : (answer : ℕ) → Refuses k b path argv answer → Refuses slot_after born_after path argv answer
     refuses_kept answer (by_given stage is_in wrongly is) = by_given stage (is_in_kept stage is_in) (wrongly_kept stage wrongly) is
     refuses_kept answer (by_file words found none) = by_file words (found_kept _ _ found) none
-    refuses_kept answer (by_drop number found is) = by_drop number (found_kept _ _ found) is
+    refuses_kept answer (by_drop found) = by_drop (found_kept _ _ found)
 
     undoing_kept : (at : UndoingStep) → UndoingStands v k b path argv at → UndoingStands w slot_after born_after path argv at
     undoing_kept (undoing.DestroyingChild fd child error) h = cut_short_kept fd child error h

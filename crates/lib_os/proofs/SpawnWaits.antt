@@ -29,8 +29,8 @@ use Rattle.lib_os.specs.StandsAtSpawn.{Asks, AwaitsBytes, AwaitsFile, BearingSta
 use Rattle.lib_os.specs.StandsAtSpawn.{HasPieces, HasStack, IsAwaitingReply, IsBefore, IsFor, IsFreeOrNone, IsGivenWrongly, IsIn, IsToDrop}
 use Rattle.lib_os.specs.StandsAtSpawn.{OpeningStands, ReadingStands, Refuses, StandsAtSpawn, TestingStands, UndoingStands, destination_at}
 use Rattle.lib_os.specs.StandsAtSpawn.{address_outside, and_last, awaits_bytes, awaits_file, before_header, before_piece, before_table}
-use Rattle.lib_os.specs.StandsAtSpawn.{by_drop, by_file, by_given, child_gone, has_bytes, has_file, no_fit, no_header, no_table, none_yet}
-use Rattle.lib_os.specs.StandsAtSpawn.{string_endless, string_outside, too_many, too_short}
+use Rattle.lib_os.specs.StandsAtSpawn.{by_drop, by_file, by_given, has_bytes, has_file, header_unread, no_child, no_fit, no_header, no_table}
+use Rattle.lib_os.specs.StandsAtSpawn.{none_yet, string_endless, string_outside, table_unread, too_many, too_short}
 
 -- ---- stages
 
@@ -60,7 +60,7 @@ wrongly_unasked (no_fit name words stage quotes more) = quotes_unasked quotes
 
 pieces_unasked : {image : ImageRead} {pieces had : List (List ℕ)} {stage : Stage} → HasPieces image pieces had stage → is_unasked stage ≡ true
 pieces_unasked none_yet = refl
-pieces_unasked (and_last bytes answer piece rest next long) = refl
+pieces_unasked (and_last bytes answer piece rest next long come) = refl
 
 -- ---- where it asks, and where it waits
 
@@ -153,16 +153,16 @@ module _ (v : View) (k : Slot) (b : Born) (path argv : ℕ) where
       by_reply : AwaitsFile v k b path argv fd h.1.words → SpawnCalls v k b path argv (spawn.Opening (opening_step.ReadingOpened esp fd id))
       by_reply (awaits_file waits found free) =
           expects_reply (expects_file esp fd id h.0 (record { words = h.1.words; stack = h.1.stack; awaiting_it = waits; is = found; free = free }))
-      by_reply (has_file found small most) = unasked (so_far refl found.is_in)
+      by_reply (has_file found small most refused opened) = unasked (so_far refl found.is_in)
   opening_calls (opening_step.LoadingSize esp fd) h = unasked (so_far refl h.found.is_in)
 
   before_unasked : (wanted : FilePart) (fd count place : ℕ) → IsBefore v k b path argv wanted fd count place → IsUnasked k b path argv
   before_unasked _ _ _ _ (before_header esp fd size so sized long) = so_far refl so.found.is_in
-  before_unasked _ _ _ _ (before_table esp fd size entry_point headers place words header answer found sized stack begins many at few inside long passed) =
+  before_unasked _ _ _ _ (before_table esp fd size entry_point headers place words header answer found sized stack begins many at few inside long passed come) =
       so_far refl found.is_in
   before_unasked _ _ _ _ (before_piece fd headers child header done end place so next at) = so_far (pieces_unasked so.has) so.found.is_in
 
-  asks_unasked : (wanted : FilePart) → Asks v k b path argv wanted → IsUnasked k b path argv
+  pub asks_unasked : (wanted : FilePart) → Asks v k b path argv wanted → IsUnasked k b path argv
   asks_unasked wanted h = before_unasked wanted h.fd h.count h.place h.before
 
   reading_calls : (wanted : FilePart) (at : ReadStep) → ReadingStands v k b path argv wanted at → SpawnCalls v k b path argv (spawn.Reading wanted at)
@@ -247,14 +247,16 @@ module _ (v : View) (k : Slot) (b : Born) (path argv : ℕ) where
 
   drop_unasked : (fd error : ℕ) → IsToDrop v k b path argv fd error → IsUnasked k b path argv
   drop_unasked fd error (too_short size words found sized less is) = so_far refl found.is_in
-  drop_unasked fd error (no_header size words header answer found sized bad is) = so_far refl found.is_in
-  drop_unasked fd error (no_table size words header table answer found sized bad is) = so_far refl found.is_in
-  drop_unasked fd error (child_gone number found of_file is) = so_far refl found.is_in
+  drop_unasked fd error (no_header size words header answer found sized come bad is) = so_far refl found.is_in
+  drop_unasked fd error (no_table size words header table answer found sized come bad is) = so_far refl found.is_in
+  drop_unasked fd error (header_unread words header found of_file is) = so_far refl found.is_in
+  drop_unasked fd error (table_unread words header table found of_file is) = so_far refl found.is_in
+  drop_unasked fd error (no_child found of_file) = so_far refl found.is_in
 
   refuses_unasked : (answer : ℕ) → Refuses k b path argv answer → IsUnasked k b path argv
   refuses_unasked answer (by_given stage is_in wrongly is) = so_far (wrongly_unasked wrongly) is_in
   refuses_unasked answer (by_file words found none) = so_far refl found.is_in
-  refuses_unasked answer (by_drop number found is) = so_far refl found.is_in
+  refuses_unasked answer (by_drop found) = so_far refl found.is_in
 
   undoing_unasked : (at : UndoingStep) → UndoingStands v k b path argv at → IsUnasked k b path argv
   undoing_unasked (undoing.DestroyingChild fd child error) h = so_far refl h.found.is_in

@@ -308,6 +308,7 @@ module _ {names : Names} {s : SpacesState} {parent : Slot} {b : Born} {k : Slot}
     registers = h.registers;
     upcall = h.upcall;
     memory = λ p inside. h.memory p inside ∙ same_page p;
+    uncopied = h.uncopied;
     handed = h.handed;
     rest = h.rest;
     handler_stack = h.handler_stack;
@@ -346,7 +347,7 @@ module _ {names : Names} {s : KernelState} {a : AbstractState} (h : StandsFor na
   by_wanted id_asked (for_header esp fd size words found sized stack long) there waits x = absurd (unborne_there _ there refl x)
   by_wanted id_asked (for_table esp fd size entry_point headers place_in words header found sized stack begins many few) there waits x =
       absurd (unborne_there _ there refl x)
-  by_wanted id_asked (for_piece fd headers child header done end place_in image pieces found of_file whole below left come next) there waits x =
+  by_wanted id_asked (for_piece fd headers child header done end place_in image pieces found of_file whole below left come next sized) there waits x =
       spawned_replied path argv sender answer bytes fd headers child header done end place_in id_asked there waits image pieces found come told x
 
   by_awaits : {k : Slot} {id parent_id : ℕ} {to : SpawnStep} → SpawnAwaits v (slot_at s client) b path argv to → InSpawn to →

@@ -9,7 +9,7 @@ use Rattle.jos_base.specs.declared.memory.PageFault.{PageFault}
 use Rattle.jos_base.specs.declared.memory.Access.TheVariants.{Read, Write}
 use Rattle.jos_base.specs.declared.numbers.TheConstants.{NENV, PGSIZE, T_SERVICE}
 use Rattle.jos_base.specs.Environments.{next_id}
-use Rattle.jos_base.specs.Words.{upd}
+use Rattle.jos_base.specs.Words.{negated, upd}
 use Rattle.jos_cpu.specs.declared.events.Event.{Event}
 use Rattle.jos_cpu.specs.declared.events.Event.TheVariants.{Next, Soft, Raised}
 use Rattle.jos_cpu.specs.declared.events.Gates.TheVariants.{Run}
@@ -56,7 +56,7 @@ use Rattle.lib_os.specs.AbstractSpawn.{file_in, file_opened, file_step, has_nul,
 use Rattle.lib_os.specs.AbstractSpawn.{piece_asked, piece_read, pieces_left, quoting_step, reading_step, spawn_at, spawn_begun, spawn_step}
 use Rattle.jos_elf.specs.Headers.{table_of}
 use Rattle.lib_os.specs.AbstractSpawn.{is_header, is_table, table_size, with_spawning}
-use Rattle.lib_os.specs.AbstractSpawn.{spawned, spawning_step, string_gathered, table_read, words_given}
+use Rattle.lib_os.specs.AbstractSpawn.{spawned, spawning_step, string_gathered, table_read, unread_step, words_given}
 use Rattle.lib_os.specs.LibraryCall.{library_step, at_once, only_at_once, fork_step, receive_step}
 use Rattle.lib_os.specs.AbstractFork.{begun_in, child_of}
 use Rattle.lib_os.specs.AbstractRun.{abs_step, program_step, slot_step}
@@ -612,25 +612,25 @@ module _ (a : AbstractState) (n : ℕ) where
 
       -- ---- the file
 
-      dropped_left : (fd error : ℕ) → Ends (file_dropped a n b it fd error)
-      dropped_left fd error = put _ (none _)
+      dropped_left : (fd answer : ℕ) → Ends (file_dropped a n b it fd answer)
+      dropped_left fd answer = put _ (none _)
 
       opened_left : (fd : ℕ) (words : List (List ℕ)) (f : OpenFile) → LeftIf (file_opened a n b it fd words f)
-      opened_left fd words f = if_some (nat_lt f.size EHDR_LEN) _ _ (dropped_left fd E_NOT_EXEC)
+      opened_left fd words f = if_some (nat_lt f.size EHDR_LEN) _ _ (dropped_left fd (negated E_NOT_EXEC))
           (ask_on (with_spawning b (heading fd words)) (act (read_file f.way 0 EHDR_LEN) None) (none _))
 
       header_left : (fd : ℕ) (words : List (List ℕ)) (header : List ℕ) (f : OpenFile) → LeftIf (header_read a n b it fd words header f)
       header_left fd words header f =
           if_some (is_header f header) _ _
           (ask_on (with_spawning b (tabling fd words header))
-          (act (read_file f.way (table_of (slice_index header)) (table_size header)) None) (none _)) (dropped_left fd E_NOT_EXEC)
+          (act (read_file f.way (table_of (slice_index header)) (table_size header)) None) (none _)) (dropped_left fd (negated E_NOT_EXEC))
 
       child_left : (fd : ℕ) (image : ImageRead) (slots : List ℕ) → a.free_slots ≡ slots → Ends (child_begun a n b it fd image slots)
-      child_left fd image [] are = dropped_left fd _
+      child_left fd image [] are = put _ (none _)
       child_left fd image (child ∷ rest) are = begins child (next_id (slot_id (a.slots child)) child) b.id _ are refl refl refl
 
       table_left : (fd : ℕ) (image : ImageRead) (f : OpenFile) → Ends (table_read a n b it fd image f)
-      table_left fd image f = if_left (is_table f image) _ _ (child_left fd image a.free_slots refl) (dropped_left fd E_NOT_EXEC)
+      table_left fd image f = if_left (is_table f image) _ _ (child_left fd image a.free_slots refl) (dropped_left fd (negated E_NOT_EXEC))
 
       module _ (fd : ℕ) (image : ImageRead) (child : ℕ) (pieces : List (List ℕ)) (has : b.spawning ≡ Some (loading fd image child pieces)) where
         asked_left : (now : List (List ℕ)) (f : OpenFile) (list : List Piece) → LeftIf (piece_asked a n b it fd image child now f list)
@@ -658,18 +658,27 @@ module _ (a : AbstractState) (n : ℕ) where
       reading_left : (at_stage : Stage) (found : Spawning) → b.spawning ≡ Some found → LeftIf (reading_step a n b regs it at_stage found)
       reading_left at_stage found has = file_left at_stage found has (file_in (object_of a b (descriptor_of found (answer_in at_stage))))
 
+      -- an error that has come
+      unread_left : (found : Spawning) (answer : ℕ) → b.spawning ≡ Some found → LeftIf (unread_step a n b regs it found answer)
+      unread_left (opening words) answer has = put _ (none _)
+      unread_left (heading fd words) answer has = dropped_left fd answer
+      unread_left (tabling fd words header) answer has = dropped_left fd answer
+      unread_left (loading fd image child pieces) answer has =
+          drops child (slot_id (a.slots child)) _ (sym (bore _ has)) refl refl refl refl
+      unread_left _ answer has = record {}
+
       -- ---- its steps
 
       going_left : (at_stage : Stage) (found : Spawning) → b.spawning ≡ Some found → LeftIf (spawning_step a n b regs it argv at_stage found)
       going_left asked found has = put _ (bears_still (bore b.spawning refl) refl refl)
       going_left (taking taken) (listing name addresses) has = listing_left name addresses taken
       going_left (taking taken) (quoting name left words) has = quoting_left name left words taken
-      going_left (replied bytes answer) (opening words) has =
-          if_some (is_count answer) _ _ (reading_left (replied bytes answer) (opening words) has) (put _ (none _))
+      going_left (replied bytes answer) found has =
+          if_some (is_count answer) _ _ (reading_left (replied bytes answer) found has) (unread_left found answer has)
       going_left (taking taken) (closed image child pieces) has =
           bears child (spawned b image pieces (slot_id (a.slots child))) _ (sym (bore _ has)) refl refl refl refl refl
-      going_left (taking taken) (dropping fd error) has = dropped_left fd error
-      going_left (taking taken) (refusing error) has = put _ (none _)
+      going_left (taking taken) (dropping fd answer) has = dropped_left fd answer
+      going_left (taking taken) (refusing answer) has = put _ (none _)
       going_left at_stage found has = reading_left at_stage found has
 
       begun_path : (taken : List ℕ) → LeftIf (spawn_begun a n b regs it path argv taken)

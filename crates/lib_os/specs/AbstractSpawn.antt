@@ -9,7 +9,7 @@ use Rattle.jos_base.specs.declared.registers.Regs.{Regs}
 use Rattle.jos_base.specs.declared.numbers.TheConstants.{E_INVAL, E_NO_FREE_ENV, PGSIZE}
 use Rattle.jos_base.specs.Environments.{next_id}
 use Rattle.jos_base.specs.SpacesState.{rising}
-use Rattle.jos_base.specs.Words.{word_at}
+use Rattle.jos_base.specs.Words.{negated, word_at}
 use Rattle.jos_elf.specs.declared.header.ProgramHeader.{ProgramHeader}
 use Rattle.jos_elf.specs.declared.image.Segment.{Segment}
 use Rattle.jos_elf.specs.declared.numbers.TheConstants.{ARGS_MAX, EHDR_LEN, PHDR_LEN, E_NOT_EXEC}
@@ -48,9 +48,9 @@ spawn_answered a n b regs word = answered a n (not_spawning b) regs word
 abbrev pub spawn_refused : AbstractState → ℕ → Born → Regs → ℕ → AbstractState
 spawn_refused a n b regs error = refused a n (not_spawning b) regs error
 
--- the descriptor of the file is dropped, and then it is refused
+-- the descriptor of the file is dropped, and then it answers this word
 abbrev pub file_dropped : AbstractState → ℕ → Born → Service → ℕ → ℕ → AbstractState
-file_dropped a n b service fd error = at_stage a n (with_spawning (with_descriptor b fd None) (refusing error)) service (taking [])
+file_dropped a n b service fd answer = at_stage a n (with_spawning (with_descriptor b fd None) (refusing answer)) service (taking [])
 
 -- a request is made, for what this tells
 abbrev pub file_asked : AbstractState → ℕ → Born → Service → Spawning → List ℕ → ℕ → ℕ → Option AbstractState
@@ -152,20 +152,20 @@ piece_asked a n b service fd image child pieces f (piece ∷ rest) =
 
 -- The child is not born, and its slot is the next to be given.
 abbrev pub child_dropped : AbstractState → ℕ → Born → Service → ℕ → ℕ → ℕ → AbstractState
-child_dropped a n b service fd child error =
+child_dropped a n b service fd child answer =
     at_stage (record (with_slot a child (free (slot_id (a.slots child)))) { free_slots = child ∷ a.free_slots }) n
-    (with_spawning b (dropping fd error)) service (taking [])
+    (with_spawning b (dropping fd answer)) service (taking [])
 
 -- a piece has come: a short one is of a file that was cut
 abbrev pub piece_read : AbstractState → ℕ → Born → Service → ℕ → ImageRead → ℕ → List (List ℕ) → OpenFile → List Piece → List ℕ → Option AbstractState
 piece_read a n b service fd image child pieces f [] bytes = None
 piece_read a n b service fd image child pieces f (piece ∷ rest) bytes =
     if length bytes == piece.len then piece_asked a n b service fd image child (pieces ++ bytes ∷ []) f rest
-    else Some (child_dropped a n b service fd child E_NOT_EXEC)
+    else Some (child_dropped a n b service fd child (negated E_NOT_EXEC))
 
--- the first free slot is the child's, with its next id
+-- The first free slot is the child's, with its next id. Where there is none, the descriptor is to be dropped.
 abbrev pub child_begun : AbstractState → ℕ → Born → Service → ℕ → ImageRead → List ℕ → AbstractState
-child_begun a n b service fd image [] = file_dropped a n b service fd E_NO_FREE_ENV
+child_begun a n b service fd image [] = at_stage a n (with_spawning b (dropping fd (negated E_NO_FREE_ENV))) service (taking [])
 child_begun a n b service fd image (child ∷ rest) =
     at_stage (record (with_slot a child (unborn (next_id (slot_id (a.slots child)) child) b.id)) { free_slots = rest }) n
     (with_spawning b (loading fd image child [])) service (taking [])
@@ -183,7 +183,7 @@ is_table f image =
 abbrev pub table_read : AbstractState → ℕ → Born → Service → ℕ → ImageRead → OpenFile → AbstractState
 table_read a n b service fd image f =
     if is_table f image then child_begun a n b service fd image a.free_slots
-    else file_dropped a n b service fd E_NOT_EXEC
+    else file_dropped a n b service fd (negated E_NOT_EXEC)
 
 -- the header has come whole, and passes its tests
 abbrev pub is_header : OpenFile → List ℕ → Bool
@@ -192,12 +192,12 @@ is_header f header = (length header == EHDR_LEN) && is_none (first_failed (heade
 abbrev pub header_read : AbstractState → ℕ → Born → Service → ℕ → List (List ℕ) → List ℕ → OpenFile → Option AbstractState
 header_read a n b service fd words header f =
     if is_header f header then file_asked a n b service (tabling fd words header) f.way (table_of (slice_index header)) (table_size header)
-    else Some (file_dropped a n b service fd E_NOT_EXEC)
+    else Some (file_dropped a n b service fd (negated E_NOT_EXEC))
 
 -- It is open; one that has no room for a header is not read.
 abbrev pub file_opened : AbstractState → ℕ → Born → Service → ℕ → List (List ℕ) → OpenFile → Option AbstractState
 file_opened a n b service fd words f =
-    if nat_lt f.size EHDR_LEN then Some (file_dropped a n b service fd E_NOT_EXEC)
+    if nat_lt f.size EHDR_LEN then Some (file_dropped a n b service fd (negated E_NOT_EXEC))
     else file_asked a n b service (heading fd words) f.way 0 EHDR_LEN
 
 -- ---- the child
@@ -274,17 +274,24 @@ abbrev pub reading_step : AbstractState → ℕ → Born → Regs → Service �
 reading_step a n b regs service stage found =
     file_step a n b regs service stage found (file_in (object_of a b (descriptor_of found (answer_in stage))))
 
+-- an error is what it answers, when all that it has made is given back
+abbrev pub unread_step : AbstractState → ℕ → Born → Regs → Service → Spawning → ℕ → Option AbstractState
+unread_step a n b regs service (opening words) answer = Some (spawn_answered a n b regs answer)
+unread_step a n b regs service (heading fd words) answer = Some (file_dropped a n b service fd answer)
+unread_step a n b regs service (tabling fd words header) answer = Some (file_dropped a n b service fd answer)
+unread_step a n b regs service (loading fd image child pieces) answer = Some (child_dropped a n b service fd child answer)
+unread_step a n b regs service _ answer = None
+
 -- by what it has found out
 abbrev pub spawning_step : AbstractState → ℕ → Born → Regs → Service → ℕ → Stage → Spawning → Option AbstractState
 spawning_step a n b regs service argv asked found = Some (await_reply a n b service)
 spawning_step a n b regs service argv (taking taken) (listing path addresses) = listing_step a n b regs service argv path addresses taken
 spawning_step a n b regs service argv (taking taken) (quoting path left words) = quoting_step a n b regs service path left words taken
-spawning_step a n b regs service argv (replied bytes answer) (opening words) =
-    if is_count answer then reading_step a n b regs service (replied bytes answer) (opening words)
-    else Some (spawn_answered a n b regs answer)
+spawning_step a n b regs service argv (replied bytes answer) found =
+    if is_count answer then reading_step a n b regs service (replied bytes answer) found else unread_step a n b regs service found answer
 spawning_step a n b regs service argv (taking taken) (closed image child pieces) = Some (child_born a n b regs image child pieces)
-spawning_step a n b regs service argv (taking taken) (dropping fd error) = Some (file_dropped a n b service fd error)
-spawning_step a n b regs service argv (taking taken) (refusing error) = Some (spawn_refused a n b regs error)
+spawning_step a n b regs service argv (taking taken) (dropping fd answer) = Some (file_dropped a n b service fd answer)
+spawning_step a n b regs service argv (taking taken) (refusing answer) = Some (spawn_answered a n b regs answer)
 spawning_step a n b regs service argv stage found = reading_step a n b regs service stage found
 
 -- first the path is taken, as open_file takes its

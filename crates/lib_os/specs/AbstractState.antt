@@ -115,7 +115,7 @@ pub data Spawning : Type 0 where
   loading : ℕ → ImageRead → ℕ → List (List ℕ) → Spawning
   -- the descriptor is dropped, and the child may be born
   closed : ImageRead → ℕ → List (List ℕ) → Spawning
-  -- it is refused for this error: the descriptor is still to be dropped, or it is
+  -- it will answer this error: the descriptor is still to be dropped, or it is
   dropping : ℕ → ℕ → Spawning
   refusing : ℕ → Spawning
 

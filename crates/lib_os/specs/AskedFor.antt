@@ -10,7 +10,7 @@ use Rattle.lib_os.specs.AbstractLaws.{client_served}
 use Rattle.lib_os.specs.AbstractState.{AbstractState, Born, Request, Server, act, acted, asked, awaiting, born, busy, in_service, looking, seek}
 use Rattle.lib_os.specs.AbstractState.{Spawning, opening, heading, tabling, loading}
 use Rattle.lib_os.specs.AbstractSpawn.{Piece, pieces_left, table_size}
-use Rattle.lib_os.specs.FileServer.{is_file_open}
+use Rattle.lib_os.specs.FileServer.{is_count, is_file_open}
 use Rattle.lib_os.specs.StandsInHandler.{handed_with, wanted_of}
 
 -- it has asked by this service, and has no reply yet
@@ -56,9 +56,9 @@ is_opening (service.OpenFile path mode) found = true
 is_opening (service.Spawn path argv) (Some (opening words)) = true
 is_opening _ _ = false
 
--- a file was opened where that was asked for and the answer is 0, and only there
+-- a file was opened where that was asked for and the answer is 0; where it was not opened, the answer is an error
 abbrev pub OpensBy : Bool → ℕ → Option ℕ → Type 0
-OpensBy true answer None = answer ≢ 0
+OpensBy true answer None = is_count answer ≡ false
 OpensBy true answer (Some name) = answer ≡ 0
 OpensBy false answer None = Unit {0}
 OpensBy false answer (Some name) = ⊥

@@ -22,7 +22,7 @@ use Rattle.lib_os.specs.declared.user_os.Stop.TheVariants as stop
 use Rattle.lib_os.specs.declared.progress.Progress.{Progress}
 use Rattle.lib_os.specs.declared.progress.Progress.TheVariants as progress
 use Rattle.lib_os.specs.declared.numbers.TheConstants.{DESCRIPTORS, FSREQ_REMOVE, FSREQ_SEEK, FSREQ_SET_SIZE, FSREQ_SYNC, FSREQ_WRITE, PAGE_WORDS}
-use Rattle.lib_os.specs.declared.numbers.TheConstants.{REQUEST, SHORT_QUANTUM, FSREQ_READ, FSREQ_STAT, FSREQ_OPEN}
+use Rattle.lib_os.specs.declared.numbers.TheConstants.{REQUEST, SHORT_QUANTUM, FSREQ_READ, FSREQ_READ_AT, FSREQ_STAT, FSREQ_OPEN}
 use Rattle.lib_os.specs.declared.place.HandlerStep.{HandlerStep}
 use Rattle.lib_os.specs.declared.place.HandlerStep.TheVariants as handler
 use Rattle.lib_os.specs.declared.place.Place.{Place}
@@ -293,8 +293,8 @@ pipe_steps_left (pipe.UnlockingTest done id runs) = if id == 0 then 27 else 14
 pipe_steps_left (pipe.TestIdentifying done) = 26
 pipe_steps_left (pipe.TestRuns done id) = TEST_STEPS_MAX
 pipe_steps_left (pipe.TestAgain done id runs) = 13
-pipe_steps_left (pipe.TestFrom done id runs) = 24
-pipe_steps_left (pipe.TestTo done id runs from) = 23
+pipe_steps_left (pipe.TestOwn done id runs) = 24
+pipe_steps_left (pipe.TestOther done id runs own) = 23
 pipe_steps_left (pipe.TestDescriptor done id runs) = 22
 pipe_steps_left (pipe.TestDescriptorCount done id runs entry) = 21
 pipe_steps_left (pipe.TestPipe done id runs count) = 20
@@ -699,10 +699,28 @@ pub record AsksServer (n : ℕ) (before after : KernelState) : Type 0 where
   pub waited : AwaitsRequest (slot_at before 0)
   pub brings : BringsRequest by_service n before after
 
+-- the word by which spawn asks it at a step, where it does
+abbrev pub spawn_asks_by : SpawnStep → Option ℕ
+spawn_asks_by (spawn.Opening (opening.OpenAsking esp fd id)) = Some FSREQ_OPEN
+spawn_asks_by (spawn.Reading wanted (read.Asking id)) = Some FSREQ_READ_AT
+spawn_asks_by _ = None
+
+-- The same where spawn has asked it, for its file or for a part of that.
+pub record SpawnAsksServer (n : ℕ) (before after : KernelState) : Type 0 where
+  pub path : ℕ
+  pub argv : ℕ
+  pub from : SpawnStep
+  pub word : ℕ
+  pub at : place_of (slot_at before n) ≡ place.InService (service.Spawn path argv) (step.Spawning from)
+  pub asks : spawn_asks_by from ≡ Some word
+  pub waited : AwaitsRequest (slot_at before 0)
+  pub brings : BringsWithPage word n before after
+
 -- It is left alone, or asked.
 pub data LeavesOrAsks (n : ℕ) (before after : KernelState) : Type 0 where
   left_alone : LeavesServer n before after → LeavesOrAsks n before after
   asked_it : AsksServer n before after → LeavesOrAsks n before after
+  spawn_asked : SpawnAsksServer n before after → LeavesOrAsks n before after
 
 -- Where the state stands for an abstract one, the step of another environment does no more to it.
 abbrev pub KeepsServer : ℕ → KernelState → KernelState → Type 0

@@ -35,7 +35,7 @@ use Rattle.lib_os.specs.AbstractSpawn.{all_of, headers_in, packed, under_shared}
 use Rattle.lib_os.specs.LibraryPages.{IsOwnWritable, is_library_region}
 use Rattle.lib_os.specs.Places.{place_of}
 use Rattle.lib_os.specs.ProgramMemory.{stack_of}
-use Rattle.lib_os.specs.Rows.{EntryRow, Names, is_of_descriptor, is_programs, is_shared, page_seen, rows_of}
+use Rattle.lib_os.specs.Rows.{EntryRow, Names, is_cow, is_of_descriptor, is_programs, is_shared, page_seen, rows_of}
 use Rattle.lib_os.specs.SpawnPages.{is_childs}
 
 -- ---- how far the child is
@@ -267,9 +267,22 @@ handler_of has = if has then PGFAULT_UPCALL else 0
 abbrev pub registers_of : Bool → Regs → ImageRead → Regs
 registers_of set parent image = if set then program_registers (entry_point_of (slice_index image.header)) image.words else record parent { eax = 0 }
 
--- A page of the child's own that stands in its parent's space, too, has one frame in both.
-pub record IsHere (parent child : EntryRow) (p : ℕ) : Type 0 where
+-- which page of the child's stands in its parent's space, too: the one that is filled, or that of its stack
+abbrev pub page_filled : BearingStep → Option ℕ
+page_filled (bearing.PieceLoading fd headers child header va done end) = Some (page_number (va + done))
+page_filled (bearing.PieceRest fd headers child header va done end first) = Some (page_number (va + done))
+page_filled (bearing.PiecePutting fd headers child header va done end word) = Some (page_number (va + done))
+page_filled _ = None
+
+abbrev pub page_here : SpawnStep → Option ℕ
+page_here (spawn.Bearing at) = page_filled at
+page_here (spawn.Finishing (finishing.ReleasingStack fd child)) = Some stack_page
+page_here _ = None
+
+-- A page of the child's own that stands in its parent's space, too, has one frame in both. It is this one, where that is told.
+pub record IsHere (parent child : EntryRow) (p : ℕ) (told : Option ℕ) : Type 0 where
   pub place : ℕ
+  pub is_told : (q : ℕ) → told ≡ Some q → place ≡ q
   pub programs : is_programs place ≡ true
   pub here : Entry
   pub there : Entry
@@ -298,6 +311,8 @@ pub record IsSpawned (names : Names) (s : SpacesState) (parent : Slot) (parent_i
   pub registers : k.registers ≡ registers_of progress.registers parent.registers image
   pub upcall : k.upcall ≡ handler_of progress.handler
   pub memory : (p : ℕ) → is_programs p ≡ true → page_seen names s k.directory p ≡ child_page b image progress file p
+  -- none of its own pages is copied when it is written
+  pub uncopied : (p : ℕ) (x : Entry) → is_programs p ≡ true → rows_of s k.directory p ≡ Some x → is_shared x.perm ≡ false → is_cow x.perm ≡ false
   pub handed : (p : ℕ) → is_of_descriptor p ≡ true → nat_le progress.passed p ≡ true → rows_of s k.directory p ≡ rows_of s parent.directory p
   pub rest : (p : ℕ) → is_of_descriptor p ≡ true → nat_le progress.passed p ≡ false → rows_of s k.directory p ≡ None
   pub handler_stack : progress.handler_stack ≡ true → IsOwnWritable (rows_of s k.directory) (page_number UXSTACK)
@@ -306,4 +321,4 @@ pub record IsSpawned (names : Names) (s : SpacesState) (parent : Slot) (parent_i
   pub tables : (r : ℕ) → is_some (s.regions k.directory r) ≡ true →
       has_page_in (child_page b image (passing (entry_count_of (slice_index image.header)) 0) file) r || is_library_region r ≡ true
   -- what stands in both spaces
-  pub here : (p : ℕ) → is_childs at_step p ≡ true → IsHere (rows_of s parent.directory) (rows_of s k.directory) p
+  pub here : (p : ℕ) → is_childs at_step p ≡ true → IsHere (rows_of s parent.directory) (rows_of s k.directory) p (page_here at_step)

@@ -347,7 +347,10 @@ pub record HasAskedFile (v : View) (k : Slot) (b : Born) (path argv esp fd : ℕ
 
 -- It waits for the reply; a page that comes with it is put there.
 pub record IsAwaitingReply (k : Slot) (b : Born) (path argv destination : ℕ) : Type 0 where
-  pub program : b.program ≡ guest k.registers
+  pub regs : Regs
+  pub program : b.program ≡ guest regs
+  pub eax : ℕ
+  pub registers : k.registers ≡ record regs { eax = eax }
   pub phase : b.phase ≡ in_service (service.Spawn path argv) awaiting
   pub blocked : b.blocked ≡ true
   pub receives : k.rendezvous.receiving ≡ true
@@ -363,6 +366,7 @@ pub data AwaitsFile (v : View) (k : Slot) (b : Born) (path argv fd : ℕ) (words
   awaits_file : IsAwaitingReply k b path argv (destination_at fd) → b.spawning ≡ Some (opening words) → IsFreeOrNone v fd →
       AwaitsFile v k b path argv fd words
   has_file : Found k b path argv (replied [] (opened_word k.rendezvous.value fd)) (opening words) → k.rendezvous.value < 2 ^ 32 → fd ≤ DESCRIPTORS →
+      (k.rendezvous.value ≢ 0 → is_count k.rendezvous.value ≡ false) → (k.rendezvous.value ≡ 0 → fd < DESCRIPTORS → IsFileOpen v fd) →
       AwaitsFile v k b path argv fd words
 
 pub record IsOpeningFile (v : View) (k : Slot) (b : Born) (path argv esp fd : ℕ) : Type 0 where
@@ -400,9 +404,10 @@ OpeningStands v k b path argv (opening_step.LoadingSize esp fd) = HasFile v k b 
 
 -- ---- its parts are read
 
--- what is left of the bytes of a program header's segment behind so many, in pieces
+-- what is left of the bytes of a program header's segment behind so many, which are whole pieces, in pieces
 abbrev pub rest_of : (ℕ → ProgramHeader) → ℕ → ℕ → List Piece
-rest_of headers header done = if is_loaded (headers header) then drop (done / TRANSFER_MAX) (pieces_of (segment_of (headers header))) else []
+rest_of headers header done =
+    if is_loaded (headers header) then drop ((done + (TRANSFER_MAX - 1)) / TRANSFER_MAX) (pieces_of (segment_of (headers header))) else []
 
 -- and of those behind it, of so many in all
 abbrev pub pieces_behind : ImageRead → ℕ → ℕ → List Piece
@@ -415,7 +420,7 @@ pieces_behind image header done =
 abbrev pub HaveComeTo : ImageRead → ℕ → ℕ → List (List ℕ) → Type 0
 HaveComeTo image header done pieces = length (all_of pieces) ≡ packed_at (headers_in image.table) header + done
 
--- its page has the program headers of its image, which pass their tests, and the stack is ready
+-- its page has the program headers of its image, which pass their tests with a file of this size, and the stack is ready
 pub record HasImage (v : View) (image : ImageRead) (headers : ℕ) : Type 0 where
   pub table : GivenHas v image.table
   pub many : headers ≡ entry_count_of (slice_index image.header)
@@ -431,7 +436,7 @@ pub record HasImage (v : View) (image : ImageRead) (headers : ℕ) : Type 0 wher
 pub data HasPieces (image : ImageRead) (pieces : List (List ℕ)) : List (List ℕ) → Stage → Type 0 where
   none_yet : HasPieces image pieces pieces (taking [])
   and_last : (bytes : List ℕ) (answer : ℕ) (piece : Piece) (rest : List Piece) → pieces_left image pieces ≡ piece ∷ rest → length bytes ≡ piece.len →
-      HasPieces image pieces (pieces ++ bytes ∷ []) (replied bytes answer)
+      is_count answer ≡ true → HasPieces image pieces (pieces ++ bytes ∷ []) (replied bytes answer)
 
 -- the child has all bytes in front of these of the segment of a program header
 pub record IsFilled (v : View) (k : Slot) (b : Born) (path argv fd headers child header done : ℕ) : Type 0 where
@@ -446,6 +451,7 @@ pub record IsFilled (v : View) (k : Slot) (b : Born) (path argv fd headers child
   pub below : header < headers
   pub left : pieces_left image had ≡ pieces_behind image header done
   pub come : HaveComeTo image header done had
+  pub sized : IsOfFileWith v fd whole.size
 
 -- The bytes of a segment from so many on up to these are the next piece.
 pub record IsNextPiece (image : ImageRead) (header done end : ℕ) : Type 0 where
@@ -462,7 +468,7 @@ pub data IsBefore (v : View) (k : Slot) (b : Born) (path argv : ℕ) : FilePart 
       Found k b path argv (replied header answer) (heading fd words) → IsOfFileWith v fd size → HasStack v words esp →
       entry_point ≡ entry_point_of (slice_index header) → headers ≡ entry_count_of (slice_index header) → place ≡ table_of (slice_index header) →
       headers ≤ ARGS_MAX → place + PHDR_LEN * headers ≤ size → length header ≡ EHDR_LEN →
-      first_failed (header_tests size (slice_index header)) ≡ None →
+      first_failed (header_tests size (slice_index header)) ≡ None → is_count answer ≡ true →
       IsBefore v k b path argv (part.Table esp fd size entry_point headers place) fd (PHDR_LEN * headers) place
   before_piece : (fd headers child header done end place : ℕ) → (so : IsFilled v k b path argv fd headers child header done) →
       IsNextPiece so.image header done end → place ≡ (headers_in so.image.table header).file_at + done →
@@ -502,9 +508,9 @@ pub data IsFor (v : View) (b : Born) : FilePart → ℕ → Type 0 where
       headers ≡ entry_count_of (slice_index header) → headers ≤ ARGS_MAX →
       IsFor v b (part.Table esp fd size entry_point headers place) (PHDR_LEN * headers)
   for_piece : (fd headers child header done end place : ℕ) (image : ImageRead) (pieces : List (List ℕ)) →
-      b.spawning ≡ Some (loading fd image (child % NENV) pieces) → IsOfFile v fd → HasImage v image headers → header < headers →
+      b.spawning ≡ Some (loading fd image (child % NENV) pieces) → IsOfFile v fd → (whole : HasImage v image headers) → header < headers →
       pieces_left image pieces ≡ pieces_behind image header done → HaveComeTo image header done pieces → IsNextPiece image header done end →
-      IsFor v b (part.Piece fd headers child header done end place) (end - done)
+      IsOfFileWith v fd whole.size → IsFor v b (part.Piece fd headers child header done end place) (end - done)
 
 -- where it waits, or where the reply has come and is not read: its page has the bytes, as many as the word tells
 pub data AwaitsBytes (v : View) (k : Slot) (b : Born) (path argv count : ℕ) : Type 0 where
@@ -542,6 +548,7 @@ pub record HasHeader (v : View) (k : Slot) (b : Born) (path argv esp fd size : �
   pub header : List ℕ
   pub answer : ℕ
   pub found : Found k b path argv (replied header answer) (heading fd words)
+  pub come : is_count answer ≡ true
   pub stack : HasStack v words esp
   pub of_file : IsOfFileWith v fd size
   pub sized : EHDR_LEN ≤ size
@@ -569,6 +576,7 @@ pub record HasHeaders (v : View) (k : Slot) (b : Born) (path argv esp fd size en
   pub table : List ℕ
   pub answer : ℕ
   pub found : Found k b path argv (replied table answer) (tabling fd words header)
+  pub come : is_count answer ≡ true
   pub stack : HasStack v words esp
   pub of_file : IsOfFileWith v fd size
   pub entry_point_is : entry_point ≡ entry_point_of (slice_index header)
@@ -678,6 +686,7 @@ pub record HasChild (v : View) (k : Slot) (b : Born) (path argv fd headers child
   pub found : Found k b path argv (taking []) (loading fd image (child % NENV) [])
   pub of_file : IsOfFile v fd
   pub whole : HasImage v image headers
+  pub sized : IsOfFileWith v fd whole.size
 
 -- so many words of the record are in its page
 pub record IsRecording (v : View) (k : Slot) (b : Born) (path argv esp fd entry_point headers child index : ℕ) : Type 0 where
@@ -728,6 +737,7 @@ pub record IsPutting (v : View) (k : Slot) (b : Born) (path argv fd headers chil
   pub bytes : List ℕ
   pub answer : ℕ
   pub found : Found k b path argv (replied bytes answer) (loading fd image (child % NENV) pieces)
+  pub counts : is_count answer ≡ true
   pub of_file : IsOfFile v fd
   pub whole : HasImage v image headers
   pub below : header < headers
@@ -739,6 +749,7 @@ pub record IsPutting (v : View) (k : Slot) (b : Born) (path argv fd headers chil
   pub long : length bytes ≡ end - piece_start done
   pub small : AreBytes bytes
   pub kept : PageHas v (page_number UTEMP) 0 bytes
+  pub sized : IsOfFileWith v fd whole.size
 
 -- the segment begins there
 pub record IsPuttingAt (v : View) (k : Slot) (b : Born) (path argv fd headers child header va done end : ℕ) : Type 0 where
@@ -883,39 +894,44 @@ FinishingStands v k b path argv (finishing.ChildRuns child) = IsClosed k b path 
 
 -- ---- it is undone
 
--- The child is to be given back: a piece was short.
+-- what the reply to a request for a piece tells, where the child is not finished: an error, or fewer bytes than were asked for
+pub data IsNoPiece (image : ImageRead) (pieces : List (List ℕ)) (bytes : List ℕ) (answer error : ℕ) : Type 0 where
+  is_error : is_count answer ≡ false → error ≡ answer → IsNoPiece image pieces bytes answer error
+  is_short : (piece : Piece) (rest : List Piece) → pieces_left image pieces ≡ piece ∷ rest → is_count answer ≡ true → length bytes ≢ piece.len →
+      error ≡ negated E_NOT_EXEC → IsNoPiece image pieces bytes answer error
+
+-- The child is to be given back: a piece did not come.
 pub record IsCutShort (v : View) (k : Slot) (b : Born) (path argv fd child error : ℕ) : Type 0 where
   pub image : ImageRead
   pub pieces : List (List ℕ)
   pub bytes : List ℕ
   pub answer : ℕ
-  pub piece : Piece
-  pub rest : List Piece
   pub found : Found k b path argv (replied bytes answer) (loading fd image (child % NENV) pieces)
-  pub next : pieces_left image pieces ≡ piece ∷ rest
-  pub short : length bytes ≢ piece.len
+  pub so : IsNoPiece image pieces bytes answer error
   pub of_file : IsOfFile v fd
-  pub error_is : error ≡ negated E_NOT_EXEC
 
--- The descriptor is to be dropped, for this error: the file is no image, or the child was given back.
+-- The descriptor is to be dropped, for this error: the file is no image or can't be read, there is no slot for the child, or it was given back.
 pub data IsToDrop (v : View) (k : Slot) (b : Born) (path argv fd error : ℕ) : Type 0 where
   too_short : (size : ℕ) (words : List (List ℕ)) → Found k b path argv (replied [] fd) (opening words) → IsOfFileWith v fd size → size < EHDR_LEN →
       error ≡ negated E_NOT_EXEC → IsToDrop v k b path argv fd error
   no_header : (size : ℕ) (words : List (List ℕ)) (header : List ℕ) (answer : ℕ) → Found k b path argv (replied header answer) (heading fd words) →
-      IsOfFileWith v fd size → (length header ≢ EHDR_LEN) ⊎ (first_failed (header_tests size (slice_index header)) ≢ None) →
-      error ≡ negated E_NOT_EXEC → IsToDrop v k b path argv fd error
+      IsOfFileWith v fd size → is_count answer ≡ true →
+      (length header ≢ EHDR_LEN) ⊎ (first_failed (header_tests size (slice_index header)) ≢ None) → error ≡ negated E_NOT_EXEC → IsToDrop v k b path argv fd error
   no_table : (size : ℕ) (words : List (List ℕ)) (header table : List ℕ) (answer : ℕ) → Found k b path argv (replied table answer) (tabling fd words header) →
-      IsOfFileWith v fd size → (length table ≢ table_size header)
+      IsOfFileWith v fd size → is_count answer ≡ true → (length table ≢ table_size header)
       ⊎ (first_failed (table_tests size (headers_in table) (entry_count_of (slice_index header))) ≢ None) →
       error ≡ negated E_NOT_EXEC → IsToDrop v k b path argv fd error
-  child_gone : (number : ℕ) → Found k b path argv (taking []) (dropping fd number) → IsOfFile v fd → error ≡ negated number →
-      IsToDrop v k b path argv fd error
+  header_unread : (words : List (List ℕ)) (header : List ℕ) → Found k b path argv (replied header error) (heading fd words) → IsOfFile v fd →
+      is_count error ≡ false → IsToDrop v k b path argv fd error
+  table_unread : (words : List (List ℕ)) (header table : List ℕ) → Found k b path argv (replied table error) (tabling fd words header) → IsOfFile v fd →
+      is_count error ≡ false → IsToDrop v k b path argv fd error
+  no_child : Found k b path argv (taking []) (dropping fd error) → IsOfFile v fd → IsToDrop v k b path argv fd error
 
 -- its next step answers an error
 pub data Refuses (k : Slot) (b : Born) (path argv answer : ℕ) : Type 0 where
   by_given : (stage : Stage) → IsIn k b path argv stage → IsGivenWrongly b path argv stage → answer ≡ negated E_INVAL → Refuses k b path argv answer
   by_file : (words : List (List ℕ)) → Found k b path argv (replied [] answer) (opening words) → is_count answer ≡ false → Refuses k b path argv answer
-  by_drop : (number : ℕ) → Found k b path argv (taking []) (refusing number) → answer ≡ negated number → Refuses k b path argv answer
+  by_drop : Found k b path argv (taking []) (refusing answer) → Refuses k b path argv answer
 
 abbrev pub UndoingStands : View → Slot → Born → ℕ → ℕ → UndoingStep → Type 0
 UndoingStands v k b path argv (undoing.DestroyingChild fd child error) = IsCutShort v k b path argv fd child error

@@ -13,3 +13,4 @@ pub mod Replying
 pub mod SyncLaw
 pub mod OwnPageLaws
 pub mod SpawnGoes
+pub mod BorneGoes

@@ -79,5 +79,5 @@ module _ (s : KernelState) (n : ℕ) (call : Service) (takes : has_path call ≡
 
   pub path_faulting_holds : ServiceHolds s n (staged call (ask.LoadByte ((buffer_of call + done) % 2 ^ 32)) (λ w. next.Gone))
   path_faulting_holds =
-      handed_holds s n call done word stands (path_steady call takes (step.Faulting done word) refl)
+      handed_holds s n call (step.Faulting done word) stands (path_steady call takes (step.Faulting done word) refl)
       (ask.LoadByte ((buffer_of call + done) % 2 ^ 32)) (plainly refl) (omega arith) (λ may. may) path_handed

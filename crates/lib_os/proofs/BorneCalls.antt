@@ -1,0 +1,94 @@
+-- What the calls come to that an environment makes for the child that it bears: it finds the child by its id, and only the child's slot is another after it, or
+-- the child is gone.
+use Rattle.std.proofs.Common.{◌≡◌, ◌≢◌, ◌∙◌, ◌==◌, ◌%◌, ℕ, true, false, List, [], ◌∷◌, Some, refl, sym, ap, arith}
+use Rattle.std.proofs.lemmas.Bool.Decides.{nat_tests}
+use Rattle.jos_base.specs.declared.called.Called.TheVariants.{Answered}
+use Rattle.jos_base.specs.declared.environment.Status.TheVariants.{Runnable}
+use Rattle.jos_base.specs.declared.numbers.TheConstants.{ENV_RUNNABLE, FIRST_ENV_ID, NENV, SYS_ENV_DESTROY, SYS_ENV_SET_PGFAULT_UPCALL, SYS_ENV_SET_STATUS}
+use Rattle.jos_base.specs.declared.registers.Regs.{Regs}
+use Rattle.jos_base.specs.Environments.{Slot, found, free_slot, is_live}
+use Rattle.jos_base.specs.KernelState.{KernelState, slot_at, with_registers, with_slot_at, with_status, with_upcall}
+use Rattle.jos_base.specs.SpacesState.{destroyed}
+use Rattle.jos_base.specs.SystemCalls.{answered, call_of, without_environment}
+use Rattle.lib_os.specs.AbstractState.{AbstractState, Born, born, serving, unborn}
+use Rattle.lib_os.specs.Places.{place_of}
+use Rattle.lib_os.specs.Rows.{Names}
+use Rattle.lib_os.specs.StandsFor.{StandsFor, borne_in}
+use Rattle.lib_os.specs.UserCalls.{asking, called_by, giving, system}
+use Rattle.lib_os.proofs.BearsOn.{bearer_named, borne_apart, borne_is, borne_lives, borne_own}
+use Rattle.lib_os.proofs.Calls.{system_is}
+use Rattle.lib_os.proofs.ChildCalls.{found_child}
+use Rattle.lib_os.proofs.ChildRuns.{child_runs_is}
+use Rattle.lib_os.proofs.Sends.{other_is}
+use Rattle.lib_os.proofs.Slots.{slot_kept, slots_alike}
+use Rattle.lib_os.proofs.SlotsStand.{born_at, born_live}
+
+module _ {names : Names} {s : KernelState} {a : AbstractState} (h : StandsFor names s a) (n id : ℕ) (b : Born) (is : a.slots n ≡ born b)
+    (bears : borne_in (place_of (slot_at s n)) ≡ Some id) where
+  abbrev m : ℕ
+  m = id % NENV
+
+  live : is_live (slot_at s n) ≡ true
+  live = born_live (born_at h n b is)
+
+  -- its slot is not the first, where the server stands
+  pub borne_some : id ≢ 0
+  borne_some none =
+      let contradiction : serving FIRST_ENV_ID ≡ unborn id b.id = sym h.first ∙ ap (λ (i : ℕ). a.slots (i % NENV)) (sym none) ∙ borne_is h n id b is bears in cc
+
+  pub borne_owned : (slot_at s (id % NENV)).parent ≡ (slot_at s n).id
+  borne_owned = (borne_own h n id b is bears).parent_is ∙ sym (born_at h n b is).id
+
+  -- whatever the caller's registers are
+  pub borne_found : (q : Regs) → found (with_registers s n q).environments id n true ≡ Some (id % NENV)
+  borne_found q =
+      let asked : Slot = record (slot_at s n) { registers = q } in
+      found_child (with_registers s n q).environments id n borne_some
+      (slots_alike s n (λ (x : Slot). is_live x) asked refl m ∙ borne_lives h n id b is bears)
+      (slots_alike s n (λ (x : Slot). x.id) asked refl m ∙ (borne_own h n id b is bears).id_is)
+      (slots_alike s n (λ (x : Slot). x.parent) asked refl m ∙ borne_owned
+      ∙ sym (slots_alike s n (λ (x : Slot). x.id) asked refl n))
+
+  kept : (q : Regs) → slot_at (with_registers s n q) m ≡ slot_at s m
+  kept q = slot_kept s n (record (slot_at s n) { registers = q }) m (borne_apart h n id b is bears)
+
+  -- env_set_pgfault_upcall(id, address)
+  pub borne_upcall_is : (address : ℕ) (rest : List ℕ) →
+      system s n SYS_ENV_SET_PGFAULT_UPCALL (id ∷ address ∷ rest) ≡ giving (with_upcall s (id % NENV) address) (Answered 0)
+  unfolding call_of
+  borne_upcall_is address rest =
+      let q : Regs = asking (slot_at s n).registers SYS_ENV_SET_PGFAULT_UPCALL (id ∷ address ∷ rest) in
+      let k : KernelState = with_registers s n q in
+      system_is s n SYS_ENV_SET_PGFAULT_UPCALL (id ∷ address ∷ rest) (answered (with_upcall k m address) n 0) refl (rw (borne_found q) refl)
+      ∙ other_is s n live q m (record (slot_at k m) { upcall = address }) 0 (λ e. borne_apart h n id b is bears (sym e))
+      ∙ ap (λ (x : Slot). giving (with_slot_at s m (record x { upcall = address })) (Answered 0)) (kept q)
+
+  -- env_set_status(id, RUNNABLE)
+  pub borne_runs_is : (rest : List ℕ) →
+      system s n SYS_ENV_SET_STATUS (id ∷ ENV_RUNNABLE ∷ rest) ≡ giving (with_status s (id % NENV) Runnable) (Answered 0)
+  borne_runs_is rest =
+      child_runs_is s n id live borne_some (borne_apart h n id b is bears) (borne_lives h n id b is bears) (borne_own h n id b is bears).id_is
+      borne_owned rest
+
+  -- env_destroy(id)
+  module _ (rest : List ℕ) where
+    -- all but the slots is as behind it
+    abbrev emptied : KernelState
+    emptied = record s {
+      spaces = destroyed s.spaces (slot_at s m).directory;
+      environments = record s.environments { free_slots = m ∷ s.environments.free_slots };
+    }
+
+    gone_is : (q : Regs) → without_environment (with_registers s n q) m ≡ with_slot_at (with_registers emptied n q) m (free_slot (slot_at s m).id)
+    gone_is q = λ i. record (with_slot_at (with_registers emptied n q) m (free_slot (kept q i).id)) { spaces = destroyed s.spaces (kept q i).directory }
+
+    pub borne_destroyed_is : system s n SYS_ENV_DESTROY (id ∷ rest) ≡ giving (without_environment s (id % NENV)) (Answered 0)
+    unfolding call_of
+    borne_destroyed_is =
+        let q : Regs = asking (slot_at s n).registers SYS_ENV_DESTROY (id ∷ rest) in
+        let k : KernelState = with_registers s n q in
+        let ne = borne_apart h n id b is bears in
+        let other : (m == n) ≡ false = grind (arith, nat_tests, ne) in
+        system_is s n SYS_ENV_DESTROY (id ∷ rest) (answered (without_environment k m) n 0) refl (rw (borne_found q, other) refl)
+        ∙ ap (λ (t : KernelState). called_by n false (slot_at s n).registers (answered t n 0)) (gone_is q)
+        ∙ other_is emptied n live q m (free_slot (slot_at s m).id) 0 (λ e. borne_apart h n id b is bears (sym e))
