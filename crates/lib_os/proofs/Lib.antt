@@ -4,7 +4,6 @@ pub mod SlotsSet
 pub mod SpawnTells
 pub mod WordsTell
 pub mod DescriptorWords
-pub mod BuiltServices
 pub mod Serving
 pub mod Answering
 pub mod Listed
