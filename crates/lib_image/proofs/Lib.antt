@@ -14,5 +14,3 @@ pub mod SegmentGoes
 pub mod TestingLoads
 pub mod TestingCopies
 pub mod TestingLaw
-pub mod OpeningStays
-pub mod OpeningRequest
