@@ -1,11 +1,10 @@
 -- spawn comes to an end with its child: each of its hidden steps as it makes it lowers the number of those that may still come.
-use Rattle.std.proofs.Common.{◌≡◌, ◌∙◌, ◌<◌, ◌≤◌, ◌+◌, ◌-◌, ◌*◌, ◌/◌, ◌%◌, ◌^◌, ◌==◌, ◌&&◌, ℕ, Bool, true, false, not, nat_le, nat_lt, min, inl, refl, sym, ap, arith, if◌then◌else◌}
+use Rattle.std.proofs.Common.{◌≡◌, ◌∙◌, ◌<◌, ◌≤◌, ◌+◌, ◌-◌, ◌*◌, ◌/◌, ◌%◌, ◌^◌, ◌==◌, ◌&&◌, ℕ, Bool, true, false, not, nat_le, nat_lt, min, inl, refl, ap, arith, if◌then◌else◌}
 use Rattle.std.proofs.lemmas.Bool.Decides.{nat_tests}
 use Rattle.jos_base.specs.declared.numbers.TheConstants.{PGSIZE, TRAPFRAME_WORDS}
 use Rattle.jos_base.specs.Counting.{page_limit}
 use Rattle.jos_base.specs.Environments.{Slot}
 use Rattle.jos_base.specs.KernelState.{KernelState, slot_at}
-use Rattle.jos_base.specs.Words.{page_number}
 use Rattle.jos_elf.specs.declared.numbers.TheConstants.{PT_LOAD}
 use Rattle.lib_os.specs.declared.numbers.TheConstants.{TRANSFER_MAX}
 use Rattle.lib_os.specs.declared.place.Step.TheVariants as step
@@ -29,7 +28,7 @@ use Rattle.lib_stage.proofs.Laws.{Falls, FallsOrAsks, most_left}
 use Rattle.lib_bytes.specs.FileStages.{moved}
 use Rattle.lib_file.specs.Keeping.{next_va}
 use Rattle.lib_fork.specs.ForkStages.{is_error}
-use Rattle.lib_child.specs.BearingStages.{next_of, page_behind, piece_from, piece_loaded, put_behind, registers_from}
+use Rattle.lib_child.specs.BearingStages.{next_of, page_behind, piece_from, put_behind, registers_from}
 use Rattle.lib_child.specs.ChildSegments.{last_page, pages_from, pieces_from, rights_from}
 use Rattle.lib_child.proofs.HeaderSays.{file_len_below}
 

@@ -1,5 +1,5 @@
 -- Where spawn goes on behind a program header: at the next of which the pages are to be placed, or the bytes put, or, behind the last, with what comes then.
-use Rattle.std.proofs.Common.{◌≡◌, ◌≢◌, ◌∙◌, ◌+◌, ◌*◌, ◌<◌, ◌≤◌, ◌==◌, ◌&&◌, ◌||◌, ◌%◌, ◌++◌, ℕ, Bool, true, false, List, [], Option, Some, None, refl, sym, ap, subst, arith}
+use Rattle.std.proofs.Common.{◌≡◌, ◌≢◌, ◌∙◌, ◌+◌, ◌*◌, ◌<◌, ◌≤◌, ◌==◌, ◌&&◌, ◌||◌, ◌%◌, ◌++◌, ℕ, Bool, true, false, List, [], Some, None, refl, sym, ap, subst, arith}
 use Rattle.std.proofs.Common.{if◌then◌else◌}
 use Rattle.std.specs.Prelude.{nat_lt}
 use Rattle.std.proofs.lemmas.Bool.Decides.{nat_tests}
@@ -7,28 +7,24 @@ use Rattle.std.proofs.lemmas.Option.{none-some}
 use Rattle.jos_base.specs.declared.numbers.TheConstants.{NENV}
 use Rattle.jos_base.specs.Environments.{Slot}
 use Rattle.jos_base.specs.Words.{page_number}
-use Rattle.jos_elf.specs.declared.header.ProgramHeader.{ProgramHeader}
 use Rattle.lib_os.specs.declared.numbers.TheConstants.{SPAWN_GIVEN, SPAWN_HERE, SPAWN_STACK}
-use Rattle.lib_os.specs.declared.place.Step.{Step}
 use Rattle.lib_os.specs.declared.place.Step.TheVariants as step
-use Rattle.lib_os.specs.declared.spawn_steps.BearingStep.{BearingStep}
 use Rattle.lib_os.specs.declared.spawn_steps.BearingStep.TheVariants as bearing
-use Rattle.lib_os.specs.declared.spawn_steps.FinishingStep.{FinishingStep}
 use Rattle.lib_os.specs.declared.spawn_steps.FinishingStep.TheVariants as finishing
 use Rattle.lib_os.specs.declared.spawn_steps.SpawnStep.{SpawnStep}
 use Rattle.lib_os.specs.declared.spawn_steps.SpawnStep.TheVariants as spawn
-use Rattle.lib_os.specs.AbstractSpawn.{all_of, headers_in, packed_at, pieces_left}
+use Rattle.lib_os.specs.AbstractSpawn.{all_of, headers_in, pieces_left}
 use Rattle.lib_os.specs.AbstractState.{Born, ImageRead, Stage, loading, taking}
 use Rattle.lib_os.specs.LibraryPages.{View}
 use Rattle.lib_os.specs.SpawnedChild.{IsProgress, Progress, bytes_replied, filling, page_here, placing, spawning_child, whole}
 use Rattle.lib_os.specs.SpawnPages.{has_given_stack, is_childs, keeps_here}
-use Rattle.lib_os.specs.StandsAtSpawn.{Found, HasAllBytes, HasChild, HasImage, HasPieces, HaveComeTo, IsFilled, IsOfFile, IsOfFileWith, StandsAtSpawn, none_yet}
+use Rattle.lib_os.specs.StandsAtSpawn.{Found, HasAllBytes, HasChild, HasImage, HasPieces, HaveComeTo, IsOfFile, IsOfFileWith, StandsAtSpawn, none_yet}
 use Rattle.lib_os.proofs.Serving.{Kept, holds_page}
 use Rattle.lib_os.proofs.SpawnOwnPages.{spawn_words, spawns_at}
 use Rattle.lib_os.proofs.SpawnedProgress.{Alike, goes_by}
 use Rattle.lib_request.proofs.BorneGoes.{BorneGoesTo}
-use Rattle.lib_child.specs.ChildSegments.{pages_from, pieces_from, rights_from}
-use Rattle.lib_child.proofs.BearingStays.{child_told, filled_told, found_told}
+use Rattle.lib_child.specs.ChildSegments.{pages_from, pieces_from}
+use Rattle.lib_child.proofs.BearingStays.{child_told, found_told}
 use Rattle.lib_child.proofs.PiecesLeft.{after_here, after_last, count_of, packed_none, pieces_after, wanted_all}
 
 -- ---- pages

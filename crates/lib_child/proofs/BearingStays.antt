@@ -1,5 +1,5 @@
 -- What spawn knows as it makes its child stays so as its words tell another step, and as a page is another that has neither the program headers nor the stack.
-use Rattle.std.proofs.Common.{◌≡◌, ◌≢◌, ◌∙◌, ℕ, Bool, true, false, List, sym, ap}
+use Rattle.std.proofs.Common.{◌≡◌, ◌≢◌, ◌∙◌, ℕ, true, false, List, sym, ap}
 use Rattle.jos_base.specs.Environments.{Slot}
 use Rattle.jos_base.specs.Words.{page_number}
 use Rattle.lib_os.specs.declared.numbers.TheConstants.{SPAWN_GIVEN, SPAWN_STACK}

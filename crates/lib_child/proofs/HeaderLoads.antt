@@ -1,5 +1,5 @@
 -- The law of spawn as it loads a word of a program header while it bears its child: by that word it goes on to another of its steps.
-use Rattle.std.proofs.Common.{◌≡◌, ◌∙◌, ◌+◌, ◌*◌, ◌%◌, ◌<◌, ◌≤◌, ℕ, List, length, Some, true, refl, sym, ap, subst, arith}
+use Rattle.std.proofs.Common.{◌≡◌, ◌∙◌, ◌+◌, ◌*◌, ◌%◌, ◌<◌, ◌≤◌, ℕ, Some, true, refl, subst, arith}
 use Rattle.std.specs.Prelude.{slice_index}
 use Rattle.jos_base.specs.declared.numbers.TheConstants.{PGSIZE, SEGMENT_MAX}
 use Rattle.jos_base.specs.Environments.{Slot, is_live}
@@ -17,11 +17,10 @@ use Rattle.lib_os.specs.LibraryPages.{View}
 use Rattle.lib_os.specs.Places.{place_of}
 use Rattle.lib_os.specs.Rows.{Names}
 use Rattle.lib_os.specs.SpawnedChild.{bearing_child}
-use Rattle.lib_os.specs.StandsAtSpawn.{BearingStands, HasImage}
+use Rattle.lib_os.specs.StandsAtSpawn.{HasImage}
 use Rattle.lib_os.specs.StandsFor.{StandsFor, view_of}
 use Rattle.lib_os.specs.UserCalls.{load}
 use Rattle.lib_os.proofs.SpawnOwnPages.{own_word_loaded, spawn_there, spawns_at}
-use Rattle.lib_stage.specs.declared.ask.Next.{Next}
 use Rattle.lib_stage.specs.declared.ask.Next.TheVariants as next
 use Rattle.lib_stage.specs.ServiceSteps.{ServiceHolds}
 use Rattle.lib_file.proofs.Finds.{staged}
@@ -44,14 +43,14 @@ pub record LoadsHeader (v : View) (k : Slot) (b : Born) (path argv id : ℕ) (at
 module _ (s : KernelState) (n path argv id : ℕ) (live : is_live (slot_at s n) ≡ true) (at : BearingStep)
     (stands : place_of (slot_at s n) ≡ spawns_at path argv (spawn.Bearing at)) (bears : bearing_child at ≡ Some id) (header place : ℕ)
     (inside : place + 4 ≤ PHDR_LEN) (aligned : place % 4 ≡ 0)
-    (loads : (v : View) (k : Slot) (b : Born) → BearingStands v k b path argv at → LoadsHeader v k b path argv id at header place) where
+    (loads : (names : Names) (a : AbstractState) (h : StandsFor names s a) → LoadsHeader (view_of s.spaces (slot_at s n).directory) (slot_at s n)
+    (spawn_there h n path argv (spawn.Bearing at) stands).b path argv id at header place) where
   abbrev va : ℕ
   va = SPAWN_GIVEN + PHDR_LEN * (header % SEGMENT_MAX) + place
 
   word_loaded : (names : Names) (a : AbstractState) → StandsFor names s a → IsLoadedSo s n (service.Spawn path argv) a (next_of at) va (load s n va)
   word_loaded names a h =
-      let there = spawn_there h n path argv (spawn.Bearing at) stands in
-      let it = loads (view_of s.spaces (slot_at s n).directory) (slot_at s n) there.b there.at in
+      let it = loads names a h in
       let below = it.below in
       let few = it.whole.few in
       let many = it.whole.many in

@@ -5,3 +5,5 @@ pub mod HeaderSays
 pub mod BearingFalls
 pub mod HeaderLoads
 pub mod BearingOn
+pub mod PlacingGoes
+pub mod PieceGoes

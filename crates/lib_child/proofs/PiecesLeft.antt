@@ -1,9 +1,9 @@
 -- Which pieces of an image are still to be asked for: those of the program headers from one on, and what of them comes first.
-use Rattle.std.proofs.Common.{◌≡◌, ◌≢◌, ◌∙◌, ◌+◌, ◌-◌, ◌*◌, ◌/◌, ◌%◌, ◌<◌, ◌≤◌, ◌++◌, ℕ, zero, suc, Bool, true, false, List, [], ◌∷◌, length, refl, sym, ap, subst, arith}
-use Rattle.std.proofs.Common.{if◌then◌else◌, map, append_assoc}
+use Rattle.std.proofs.Common.{◌≡◌, ◌≢◌, ◌∙◌, ◌+◌, ◌-◌, ◌*◌, ◌/◌, ◌%◌, ◌<◌, ◌≤◌, ◌++◌, ℕ, zero, suc, Bool, true, false, List, [], ◌∷◌, length, refl, sym, ap, arith}
+use Rattle.std.proofs.Common.{if◌then◌else◌}
 use Rattle.std.specs.Prelude.{drop, flat_map, slice_index}
 use Rattle.std.proofs.lemmas.Grind.{flat_map-append}
-use Rattle.std.proofs.lemmas.List.{append-nil, drop_all, length-map}
+use Rattle.std.proofs.lemmas.List.{drop_all, length-map}
 use Rattle.jos_base.specs.SpacesState.{rising}
 use Rattle.jos_elf.specs.declared.header.ProgramHeader.{ProgramHeader}
 use Rattle.jos_elf.specs.declared.image.Segment.{Segment}
@@ -11,7 +11,7 @@ use Rattle.jos_elf.specs.Headers.{entry_count_of}
 use Rattle.jos_elf.specs.Parsed.{segment_of, segments_of}
 use Rattle.jos_elf.specs.Tests.{is_loaded}
 use Rattle.lib_os.specs.declared.numbers.TheConstants.{TRANSFER_MAX}
-use Rattle.lib_os.specs.AbstractSpawn.{Piece, headers_in, image_segments, packed_at, piece_of, pieces_of, pieces_wanted}
+use Rattle.lib_os.specs.AbstractSpawn.{Piece, headers_in, packed_at, piece_of, pieces_of, pieces_wanted}
 use Rattle.lib_os.specs.AbstractState.{ImageRead}
 use Rattle.lib_os.specs.StandsAtSpawn.{pieces_behind, rest_of}
 
