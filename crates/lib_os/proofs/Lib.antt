@@ -218,3 +218,4 @@ pub mod SpawnCopies
 pub mod SpawnReleases
 pub mod SpawnCloses
 pub mod SpawnedProgress
+pub mod ChildPlaced
