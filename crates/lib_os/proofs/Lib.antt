@@ -217,3 +217,4 @@ pub mod SpawnCopies
 pub mod SpawnReleases
 pub mod SpawnCloses
 pub mod SpawnedProgress
+pub mod ChildPlaced
