@@ -3,6 +3,9 @@ pub mod HeaderWords
 pub mod HeaderTests
 pub mod SegmentWords
 pub mod ImageFalls
+pub mod OpeningStays
+pub mod OpeningAsks
+pub mod OpeningLaw
 pub mod TestingLists
 pub mod TestingStays
 pub mod TestingGoes
@@ -11,5 +14,3 @@ pub mod SegmentGoes
 pub mod TestingLoads
 pub mod TestingCopies
 pub mod TestingLaw
-pub mod OpeningStays
-pub mod OpeningRequest

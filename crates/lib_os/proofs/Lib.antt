@@ -4,7 +4,6 @@ pub mod SlotsSet
 pub mod SpawnTells
 pub mod WordsTell
 pub mod DescriptorWords
-pub mod BuiltServices
 pub mod Serving
 pub mod Answering
 pub mod Listed
@@ -204,6 +203,7 @@ pub mod SpawnTakesPages
 pub mod SpawnPagesTaken
 pub mod SpawnGathers
 pub mod SpawnAsks
+pub mod SpawnAwaits
 pub mod SpawnGivesBack
 pub mod SpawnRefuses
 pub mod BearsOn

@@ -102,7 +102,7 @@ module _ {names : Names} {s : KernelState} {a : AbstractState} (h : StandsFor na
 -- ---- the entry of a descriptor's page
 
 -- each is open up to the next one, where this one is
-each_up_to : (row : EntryRow) (fd : ℕ) → EachIsOpenBelow row fd → IsOpen row fd → EachIsOpenBelow row (fd + 1)
+pub each_up_to : (row : EntryRow) (fd : ℕ) → EachIsOpenBelow row fd → IsOpen row fd → EachIsOpenBelow row (fd + 1)
 each_up_to row fd each here q low = elim (cases_eq q fd) [
   | inl same ↦ ap (λ (r : ℕ). is_some (row (descriptor_page r))) same ∙ here
   | inr ne ↦ each q (omega (arith, low, ne))

@@ -32,7 +32,7 @@ use Rattle.lib_os.specs.Rows.{AreBytes, Names, rows_of}
 use Rattle.lib_os.specs.SpawnedChild.{spawning_child}
 use Rattle.lib_os.specs.SpawnGiven.{Lists, Quotes, amid, amid_word, behind, behind_addresses, behind_path, behind_word}
 use Rattle.lib_os.specs.StandsAtSpawn.{MayLoad, StandsAtSpawn}
-use Rattle.lib_os.specs.StandsFor.{StandsAt, StandsFor, borne_in, view_of}
+use Rattle.lib_os.specs.StandsFor.{StandsForBorn, StandsAt, StandsFor, borne_in, view_of}
 use Rattle.lib_os.specs.StandsInHandler.{is_refused_by}
 use Rattle.lib_os.specs.UserCalls.{accessing, giving, load, load_byte, user_byte, user_word}
 use Rattle.lib_os.proofs.BufferAccesses.{IsMoved, byte_small, entry_lets, moved_is, reached_order}
@@ -217,6 +217,49 @@ abbrev pub spawn_found : Born → ℕ → ℕ → Spawning → Stage → Born
 spawn_found b path argv found stage = record b { phase = in_service (service.Spawn path argv) stage; spawning = Some found }
 
 module _ {names : Names} {t : KernelState} {a : AbstractState} (h : StandsFor names t a) (n path argv : ℕ) (from to : SpawnStep)
+    (stands : place_of (slot_at t n) ≡ spawns_at path argv from) (held : holds_page (spawns_at path argv from) ≡ holds_page (spawns_at path argv to))
+    (found : Spawning) (stage : Stage) where
+  abbrev own_there : IsServed names t a n (service.Spawn path argv) (step.Spawning from)
+  own_there = spawn_there h n path argv from stands
+
+  abbrev went : Slot
+  went = record (slot_at t n) { extra = spawn_words to }
+
+  went_to : place_of went ≡ spawns_at path argv to
+  went_to =
+      place_at (slot_at t n).registers SERVICE_SPAWN (step.Spawning to) own_there.outside
+      ∙ ap (λ (x : Service). place.InService x (step.Spawning to)) (named_at (slot_at t n) (service.Spawn path argv) (step.Spawning from) stands)
+
+  -- its own part, where it goes on to a step with the same pages
+  pub shown_own : StandsAtSpawn (view_of t.spaces (slot_at t n).directory) (record (slot_at t n) { extra = spawn_words to })
+      (spawn_found (spawn_there h n path argv from stands).b path argv found stage) path argv to →
+      StandsForBorn names t.spaces (record (slot_at t n) { extra = spawn_words to }) (spawn_found (spawn_there h n path argv from stands).b path argv found stage)
+  shown_own so =
+      let own = own_there.own in
+      let plain : is_in_handler (place_of (slot_at t n)) ≡ false = ap is_in_handler stands in
+      let plain_after : is_in_handler (place_of went) ≡ false = ap is_in_handler went_to in
+      record {
+        id = own.id;
+        id_small = own.id_small;
+        parent = own.parent;
+        env_type = own.env_type;
+        runs = own.runs;
+        upcall = own.upcall ∙ plain_upcall (place_of (slot_at t n)) plain ∙ sym (plain_upcall (place_of went) plain_after);
+        descriptors = descriptors_turned names t.spaces (slot_at t n).directory (place_of (slot_at t n)) (place_of went) own_there.b.descriptors (ap is_calm stands)
+            (ap is_calm went_to) own.descriptors;
+        memory = own.memory;
+        library = library_moved (place_of (slot_at t n)) (place_of went) (slot_at t n).extra (spawn_words to) (rows_of t.spaces (slot_at t n).directory)
+            (plain_copy (place_of (slot_at t n)) plain ∙ sym (plain_copy (place_of went) plain_after))
+            (plain_working (place_of (slot_at t n)) (slot_at t n).extra plain ∙ ap holds_page stands ∙ held ∙ sym (ap holds_page went_to)
+            ∙ sym (plain_working (place_of went) (spawn_words to) plain_after)) own.library;
+        regions_have = own.regions_have;
+        regions_only = own.regions_only;
+        stack = own.stack;
+        flags = own.flags;
+        at = subst (λ (p : Place). StandsAt p (view_of t.spaces (slot_at t n).directory) went (spawn_found own_there.b path argv found stage)) (sym went_to) so;
+      }
+
+module _ {names : Names} {t : KernelState} {a : AbstractState} (h : StandsFor names t a) (n path argv : ℕ) (from to : SpawnStep)
     (stands : place_of (slot_at t n) ≡ spawns_at path argv from) (unborne : spawning_child from ≡ None) (unborne_after : spawning_child to ≡ None)
     (held : holds_page (spawns_at path argv from) ≡ holds_page (spawns_at path argv to)) (found : Spawning) (stage : Stage) where
   abbrev v : IsServed names t a n (service.Spawn path argv) (step.Spawning from)
@@ -232,36 +275,12 @@ module _ {names : Names} {t : KernelState} {a : AbstractState} (h : StandsFor na
   pub shown_stands : StandsAtSpawn (view_of t.spaces (slot_at t n).directory) gone (spawn_found v.b path argv found stage) path argv to →
       StandsFor names (with_extra t n (spawn_words to)) (with_born a n (spawn_found v.b path argv found stage))
   shown_stands so =
-      let own = born_at h n v.b v.is in
-      let there : place_of gone ≡ spawns_at path argv to =
-      place_at (slot_at t n).registers SERVICE_SPAWN (step.Spawning to) v.outside
-      ∙ ap (λ (x : Service). place.InService x (step.Spawning to)) (named_at (slot_at t n) (service.Spawn path argv) (step.Spawning from) stands) in
-      let plain : is_in_handler was_at ≡ false = ap is_in_handler stands in
-      let plain_after : is_in_handler (place_of gone) ≡ false = ap is_in_handler there in
-      let calm : is_calm was_at ≡ true = ap is_calm stands in
-      let calm_after : is_calm (place_of gone) ≡ true = ap is_calm there in
+      let there : place_of gone ≡ spawns_at path argv to = went_to h n path argv from to stands held found stage in
       slot_changed h n v.b v.is gone (spawn_found v.b path argv found stage) refl
       (record { id = refl; env_type = refl; turns = refl; calm = λ runs. runs })
-      (unborne_plain was_at plain (ap borne_in stands ∙ unborne) (ap is_making_pipe stands))
-      (unborne_plain (place_of gone) plain_after (ap borne_in there ∙ unborne_after) (ap is_making_pipe there)) (record {
-        id = own.id;
-        id_small = own.id_small;
-        parent = own.parent;
-        env_type = own.env_type;
-        runs = own.runs;
-        upcall = own.upcall ∙ plain_upcall was_at plain ∙ sym (plain_upcall (place_of gone) plain_after);
-        descriptors = descriptors_turned names t.spaces (slot_at t n).directory was_at (place_of gone) v.b.descriptors calm calm_after own.descriptors;
-        memory = own.memory;
-        library = library_moved was_at (place_of gone) (slot_at t n).extra (spawn_words to) (rows_of t.spaces (slot_at t n).directory)
-            (plain_copy was_at plain ∙ sym (plain_copy (place_of gone) plain_after))
-            (plain_working was_at (slot_at t n).extra plain ∙ ap holds_page stands ∙ held ∙ sym (ap holds_page there)
-            ∙ sym (plain_working (place_of gone) (spawn_words to) plain_after)) own.library;
-        regions_have = own.regions_have;
-        regions_only = own.regions_only;
-        stack = own.stack;
-        flags = own.flags;
-        at = subst (λ (p : Place). StandsAt p (view_of t.spaces (slot_at t n).directory) gone (spawn_found v.b path argv found stage)) (sym there) so;
-      }) (calm_places calm calm_after) (λ fd. refl)
+      (unborne_plain was_at (ap is_in_handler stands) (ap borne_in stands ∙ unborne) (ap is_making_pipe stands))
+      (unborne_plain (place_of gone) (ap is_in_handler there) (ap borne_in there ∙ unborne_after) (ap is_making_pipe there))
+      (shown_own h n path argv from to stands held found stage so) (calm_places (ap is_calm stands) (ap is_calm there)) (λ fd. refl)
 
   same_born : (d e : Born) → born d ≡ born e → d ≡ e
   same_born d e same = cc

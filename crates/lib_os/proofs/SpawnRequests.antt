@@ -53,7 +53,7 @@ use Rattle.lib_os.proofs.SpawnReplies.{next_piece}
 -- ---- the file
 
 -- All words are taken, and may be given to a program: the file is to be opened.
-words_asked : (c : AbstractState) (n : ℕ) (b : Born) (regs : Regs) (path argv : ℕ) {name : List ℕ} {words : List (List ℕ)} {stage : Stage} →
+pub words_asked : (c : AbstractState) (n : ℕ) (b : Born) (regs : Regs) (path argv : ℕ) {name : List ℕ} {words : List (List ℕ)} {stage : Stage} →
     Quotes b name [] words [] stage → fits_stack words ≡ true →
     library_step c n b regs (service.Spawn path argv) stage
     ≡ ask c n (with_spawning b (opening words)) (service.Spawn path argv) (act (open_path name 0) None)
@@ -84,7 +84,7 @@ found_before (before_table esp fd size entry_point headers place words header an
 found_before (before_piece fd headers child header done end place so next at) = loading fd so.image (child % NENV) so.had
 
 -- the pieces behind those of a list, and behind one more
-behind_one : (n : ℕ) (pieces : List Piece) (piece : Piece) (rest : List Piece) → drop n pieces ≡ piece ∷ rest → drop (n + 1) pieces ≡ rest
+behind_one : (n : ℕ) (pieces : List Piece) (piece : Piece) (rest : List Piece) → drop n pieces ≡ piece ∷ rest → drop (suc n) pieces ≡ rest
 behind_one n [] piece rest is = absurd (none_left n is)
   where
     first_of : List Piece → Option Piece
@@ -99,10 +99,12 @@ behind_one zero (x ∷ pieces) piece rest is = ap behind_first is
     behind_first : List Piece → List Piece
     behind_first [] = []
     behind_first (y ∷ more) = more
-behind_one (suc n) (x ∷ pieces) piece rest is = behind_one n pieces piece rest is
+behind_one (suc n) (x ∷ pieces) piece rest is =
+    let next : suc n + 1 ≡ suc (n + 1) = omega arith in ap (λ (m : ℕ). drop m (x ∷ pieces)) next ∙ behind_one n pieces piece rest is
 
 left_behind : (n m : ℕ) (pieces : List Piece) (piece : Piece) (rest : List Piece) → m ≡ n + 1 → drop n pieces ≡ piece ∷ rest → drop m pieces ≡ rest
-left_behind n m pieces piece rest more is = ap (λ (j : ℕ). drop j pieces) more ∙ behind_one n pieces piece rest is
+left_behind n m pieces piece rest more is =
+    let one : m ≡ suc n = omega (arith, more) in ap (λ (j : ℕ). drop j pieces) one ∙ behind_one n pieces piece rest is
 
 -- how many bytes a file had, by the page of its descriptor
 pub size_same : {v : View} {fd size : ℕ} → (x : IsOfFileWith v fd size) (y : IsOfFile v fd) → size ≡ size_of (v.bytes y.file.entry.frame)
@@ -144,7 +146,7 @@ module _ (c : AbstractState) (n : ℕ) (b : Born) (k : Slot) (v : View) (path ar
       rw (found, come, object, next, whole, behind) refl
 
   -- by what is known before
-  bytes_asked : {wanted : FilePart} {fd count place : ℕ} → (before : IsBefore v k b path argv wanted fd count place) → (of_file : IsOfFile v fd) →
+  pub bytes_asked : {wanted : FilePart} {fd count place : ℕ} → (before : IsBefore v k b path argv wanted fd count place) → (of_file : IsOfFile v fd) →
       object_of c b fd ≡ Some (file f) → size_of (v.bytes of_file.file.entry.frame) ≡ f.size →
       (regs : Regs) × (stage : Stage) × (b.program ≡ guest regs) × (b.phase ≡ in_service (service.Spawn path argv) stage) × (b.blocked ≡ false)
       × AsksBytes regs stage (found_before before) place count
@@ -226,7 +228,7 @@ module _ {names : Names} {s : KernelState} {a : AbstractState} (h : StandsFor na
         names_file_beside h n b at it.fd it.of_file.below (seen_calm h n b at (ap is_calm stands))
         (ap (λ (q : Place). is_remapped q (descriptor_page it.fd)) stands ∙ reading_apart wanted at_step (descriptor_page it.fd)) it.of_file.file
 
-    object_is : object_of a b it.fd ≡ Some (file part_file.f)
+    pub object_is : object_of a b it.fd ≡ Some (file part_file.f)
     object_is = ap (option_map a.objects) part_file.named ∙ ap (λ (o : Object). Some o) part_file.is
 
     -- its page tells the part
