@@ -2,3 +2,4 @@ pub mod BirthFalls
 pub mod UndoingSteps
 pub mod DroppingSteps
 pub mod ReleasingSteps
+pub mod ReadyingSteps

@@ -216,5 +216,7 @@ pub mod SpawnUndoes
 pub mod SpawnCopies
 pub mod SpawnReleases
 pub mod SpawnCloses
+pub mod SpawnGivesChild
+pub mod SpawnReadies
 pub mod SpawnedProgress
 pub mod ChildPlaced

@@ -36,7 +36,7 @@ use Rattle.lib_os.proofs.DescriptorsStand.{drop_removes, dropped, removed_puts}
 use Rattle.lib_os.proofs.PagesStand.{others_seen}
 use Rattle.lib_os.proofs.Serving.{IsServed, printed_nothing, service_step}
 use Rattle.lib_os.proofs.SlotsStand.{SeenAlike, born_live, but_pipes, seen_but_pipes}
-use Rattle.lib_os.proofs.SpawnDrops.{drops_file_bearing, no_pipe_there, spawns_file, spawns_object, without_file}
+use Rattle.lib_os.proofs.SpawnDrops.{drops_file_bearing, file_gone, no_pipe_there, spawns_object}
 use Rattle.lib_os.proofs.SpawnedGoes.{HasOfImage, IsSpawner, spawner}
 use Rattle.lib_os.proofs.SpawnedMoves.{spawned_lives}
 use Rattle.lib_os.proofs.SpawnedProgress.{loads_same, page_same}
@@ -109,7 +109,7 @@ module _ (s : KernelState) (n path argv fd child : ℕ)
     found = closed has.image m has.had
 
     abbrev later : Born
-    later = without_file h n path argv from to stands fd found (taking [])
+    later = file_gone b path argv fd found (taking [])
 
     -- ---- the abstract system's
 
@@ -121,7 +121,7 @@ module _ (s : KernelState) (n path argv fd child : ℕ)
         by_pieces : {pieces had : List (List ℕ)} {stage : Stage} → HasPieces has.image pieces had stage → pieces_left has.image had ≡ [] →
             b.spawning ≡ Some (loading fd has.image m pieces) →
             library_step a n b has.found.is_in.regs (service.Spawn path argv) stage
-            ≡ Some (with_born a n (without_file h n path argv from to stands fd (closed has.image m had) (taking [])))
+            ≡ Some (with_born a n (file_gone b path argv fd (closed has.image m had) (taking [])))
         unfolding library_step spawn_step
         by_pieces none_yet none_left is =
             let object = spawns_object h n path argv from stands fd has.of_file in rw (is, object, none_left) refl
