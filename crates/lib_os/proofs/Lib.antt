@@ -209,6 +209,7 @@ pub mod SpawnRefuses
 pub mod BearsOn
 pub mod SpawnedGoes
 pub mod SpawnedMoves
+pub mod SpawnedTurns
 pub mod BorneCalls
 pub mod SpawnDestroys
 pub mod SpawnDrops
