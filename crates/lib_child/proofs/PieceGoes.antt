@@ -37,9 +37,8 @@ use Rattle.lib_child.specs.ChildSegments.{pieces_from}
 use Rattle.lib_child.proofs.BearingOn.{HasUpTo, comes_goes, none_mine, pieces_come}
 use Rattle.lib_child.proofs.BearingStays.{filled_told, putting_told}
 use Rattle.lib_child.proofs.HeaderLoads.{LoadsHeader, header_load_holds}
-use Rattle.lib_child.proofs.HeaderSays.{has_memory, no_memory, other_kind, says_file_at, says_file_len, says_kind, says_mem_len, says_va}
+use Rattle.lib_child.proofs.HeaderSays.{has_memory, image_lies, no_memory, other_kind, says_file_at, says_file_len, says_kind, says_mem_len, says_va}
 use Rattle.lib_child.proofs.PiecesLeft.{behind_done, behind_over, packed_more, packed_over}
-use Rattle.lib_child.proofs.PlacingGoes.{image_lies}
 
 -- ---- behind a program header
 

@@ -1,10 +1,10 @@
 -- The laws of spawn as it looks at the program headers for the pages of its child's segments.
-use Rattle.std.proofs.Common.{◌≡◌, ◌≢◌, ◌∙◌, ◌+◌, ◌-◌, ◌*◌, ◌/◌, ◌%◌, ◌^◌, ◌<◌, ◌≤◌, ◌==◌, ◌&&◌, ◌||◌, ◌⊎◌, inl, inr, ℕ, Bool, true, false, refl, sym, ap, arith}
+use Rattle.std.proofs.Common.{◌≡◌, ◌≢◌, ◌∙◌, ◌+◌, ◌-◌, ◌*◌, ◌/◌, ◌%◌, ◌^◌, ◌<◌, ◌≤◌, ◌==◌, ◌&&◌, ◌||◌, ◌⊎◌, ℕ, Bool, true, false, refl, sym, ap, arith}
 use Rattle.std.proofs.Common.{if◌then◌else◌, List, ◌++◌}
 use Rattle.std.specs.Prelude.{nat_lt, slice_index}
 use Rattle.std.proofs.lemmas.Bool.{and_parts}
 use Rattle.std.proofs.lemmas.Bool.Decides.{nat_tests}
-use Rattle.jos_base.specs.declared.numbers.TheConstants.{FDTABLE, PGSIZE, USTABDATA, UTEMP, UTEXT}
+use Rattle.jos_base.specs.declared.numbers.TheConstants.{PGSIZE}
 use Rattle.jos_base.specs.Below.{some_below}
 use Rattle.jos_base.specs.Environments.{Slot, is_live}
 use Rattle.jos_base.specs.KernelState.{KernelState, slot_at}
@@ -24,7 +24,7 @@ use Rattle.lib_os.specs.AbstractState.{Born, ImageRead}
 use Rattle.lib_os.specs.LibraryPages.{View}
 use Rattle.lib_os.specs.Places.{place_of}
 use Rattle.lib_os.specs.SpawnedChild.{bytes_replied, header_touches, placing}
-use Rattle.lib_os.specs.StandsAtSpawn.{HasImage, HasMemory, IsOfKind, IsPlacing, nothing_known}
+use Rattle.lib_os.specs.StandsAtSpawn.{HasMemory, IsOfKind, IsPlacing, nothing_known}
 use Rattle.lib_os.specs.StandsFor.{view_of}
 use Rattle.lib_os.proofs.SpawnedGoes.{goes_still}
 use Rattle.lib_os.proofs.SpawnedProgress.{Alike, page_same, placed_over}
@@ -36,24 +36,9 @@ use Rattle.lib_child.specs.ChildSegments.{last_page, pages_from}
 use Rattle.lib_child.proofs.BearingOn.{comes_goes, none_mine, pages_come}
 use Rattle.lib_child.proofs.BearingStays.{child_told}
 use Rattle.lib_child.proofs.HeaderLoads.{LoadsHeader, header_load_holds}
-use Rattle.lib_child.proofs.HeaderSays.{has_memory, loaded_lies, no_memory, other_kind, says_kind, says_mem_len, says_va}
+use Rattle.lib_child.proofs.HeaderSays.{has_memory, image_lies, lies_low, no_memory, other_kind, says_kind, says_mem_len, says_va}
 
 -- ---- the pages of a segment
-
--- what its tests say of a segment that is loaded
-pub image_lies : {v : View} {image : ImageRead} {headers : ℕ} (whole : HasImage v image headers) (header : ℕ) → header < headers →
-    is_loaded (headers_in image.table header) ≡ true → Lies whole.size (segment_of (headers_in image.table header))
-image_lies {image = image} {headers = headers} whole header below loaded =
-    loaded_lies whole.size (headers_in image.table) headers whole.passed header below loaded
-
--- it ends where addresses do not wrap
-pub lies_low : {total : ℕ} (header : ProgramHeader) → Lies total (segment_of header) → header.va + header.mem_len ≤ FDTABLE
-lies_low header lies = by_range lies.range
-  where
-    by_range : ((USTABDATA ≤ header.va) × (header.va + header.mem_len ≤ UTEMP)) ⊎ ((UTEXT ≤ header.va) × (header.va + header.mem_len ≤ FDTABLE)) →
-        header.va + header.mem_len ≤ FDTABLE
-    by_range (inl low) = let end = low.1 in omega (arith, end)
-    by_range (inr high) = high.1
 
 -- no page in front of its first is one of its
 pub none_before : (image : ImageRead) (header p : ℕ) →

@@ -209,6 +209,7 @@ pub mod SpawnRefuses
 pub mod BearsOn
 pub mod SpawnedGoes
 pub mod SpawnedMoves
+pub mod SpawnedTurns
 pub mod BorneCalls
 pub mod SpawnDestroys
 pub mod SpawnDrops
@@ -219,3 +220,4 @@ pub mod SpawnCloses
 pub mod SpawnGivesChild
 pub mod SpawnReadies
 pub mod SpawnedProgress
+pub mod ChildPlaced
