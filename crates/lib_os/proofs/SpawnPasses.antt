@@ -46,8 +46,8 @@ module _ {names : Names} {s : SpacesState} {parent : Slot} {b : Born} {k : Slot}
     image = x.image;
     file = x.file;
     loads = x.loads;
-    progress = passing n low;
-    is_so = is n;
+    progress = passing (entry_count_of (slice_index x.image.header)) low;
+    is_so = is (entry_count_of (slice_index x.image.header));
     registers = x.registers ∙ ap (λ (before : Progress). registers_of before.registers parent.registers x.image) was_so;
     upcall = x.upcall ∙ ap (λ (before : Progress). handler_of before.handler) was_so;
     memory = λ p inside.
@@ -65,21 +65,18 @@ module _ {names : Names} {s : SpacesState} {parent : Slot} {b : Born} {k : Slot}
     here = λ p childs. absurd (false≢true (sym (none_childs p) ∙ childs));
   }
     where
-      abbrev n : ℕ
-      n = entry_count_of (slice_index x.image.header)
-
-      was_so : x.progress ≡ passing n high
-      was_so = was n x.progress x.is_so
+      was_so : x.progress ≡ passing (entry_count_of (slice_index x.image.header)) high
+      was_so = was (entry_count_of (slice_index x.image.header)) x.progress x.is_so
 
       by_place : (p : ℕ) → is_programs p ≡ true → (c : Bool) → nat_le high p ≡ c → (d : Bool) → nat_le low p ≡ d →
-          (if c then under_shared (b.memory p) (own_page x.image (passing n high) x.file p) else own_page x.image (passing n high) x.file p)
-          ≡ (if d then under_shared (b.memory p) (own_page x.image (passing n low) x.file p) else own_page x.image (passing n low) x.file p)
+          (if c then under_shared (b.memory p) (own_page x.image (passing (entry_count_of (slice_index x.image.header)) high) x.file p) else own_page x.image (passing (entry_count_of (slice_index x.image.header)) high) x.file p)
+          ≡ (if d then under_shared (b.memory p) (own_page x.image (passing (entry_count_of (slice_index x.image.header)) low) x.file p) else own_page x.image (passing (entry_count_of (slice_index x.image.header)) low) x.file p)
       by_place p inside true above true over = refl
       by_place p inside false above false over = refl
       by_place p inside false above true over =
           let at_least : low ≤ p = grind (arith, nat_tests, over) in
           let below : p < high = grind (arith, nat_tests, above) in
-          sym (none.memory p inside at_least below (own_page x.image (passing n low) x.file p))
+          sym (none.memory p inside at_least below (own_page x.image (passing (entry_count_of (slice_index x.image.header)) low) x.file p))
       by_place p inside true above false over =
           absurd (let contradiction : false ≡ true = grind (arith, nat_tests, above, over, lower) in cc)
 
@@ -143,4 +140,4 @@ module _ {names : Names} {s : KernelState} {a : AbstractState} (h : StandsFor na
       spawning_moves h n path argv id from to b v bears_after s.spaces (λ d mine theirs. same_space names s.spaces d)
       (went_own (slot_at s n) path argv from to stands held it.own so) (has_moved (spawn_words to) has)
       (rows_same (logical s.spaces s.environments.slots) (logical s.spaces (upd s.environments.slots n moved)) (set_counts s n moved refl refl alike)
-      (rows_stand h)) h.in_order (λ j ne piped runs p x is. refl) (λ p pipes. refl) (λ d p x is shared_page. refl)
+      (rows_stand h)) h.in_order (λ j ne piped runs fd x y below is lies device. (refl, refl)) (λ p pipes. refl) (λ d p x is shared_page. refl)
