@@ -156,7 +156,7 @@ loaded_whatever header len = refl
 filled_loaded : (image : ImageRead) (progress : Progress) (m : ℕ) → is_loaded (headers_filled image progress m) ≡ is_loaded (packed (headers_in image.table) m)
 filled_loaded image progress m = by_front (nat_lt m progress.filled)
   where
-    abbrev one : ProgramHeader
+    one : ProgramHeader
     one = packed (headers_in image.table) m
 
     by_front : (c : Bool) → is_loaded (if c then one else record one { file_len = if m == progress.filled then progress.bytes else 0 }) ≡ is_loaded one
