@@ -220,5 +220,6 @@ pub mod SpawnReleases
 pub mod SpawnCloses
 pub mod SpawnGivesChild
 pub mod SpawnReadies
+pub mod SpawnPasses
 pub mod SpawnedProgress
 pub mod ChildPlaced

@@ -114,6 +114,7 @@ module _ (s : KernelState) (n path argv fd child : ℕ)
     -- ---- the abstract system's
 
     closing_step : abs_step a n ≡ Some (with_born a n later)
+    unfolding library_step spawn_step
     closing_step =
         service_step a n b has.found.is_in.regs (service.Spawn path argv) has.stage it.is has.found.is_in.program has.found.is_in.phase has.found.is_in.awake
         ∙ by_pieces has.has has.none_left has.found.is
@@ -122,7 +123,6 @@ module _ (s : KernelState) (n path argv fd child : ℕ)
             b.spawning ≡ Some (loading fd has.image m pieces) →
             library_step a n b has.found.is_in.regs (service.Spawn path argv) stage
             ≡ Some (with_born a n (file_gone b path argv fd (closed has.image m had) (taking [])))
-        unfolding library_step spawn_step
         by_pieces none_yet none_left is =
             let object = spawns_object h n path argv from stands fd has.of_file in rw (is, object, none_left) refl
         by_pieces (and_last bytes answer piece rest left long counts) none_left is =
