@@ -223,3 +223,4 @@ pub mod SpawnReadies
 pub mod SpawnPasses
 pub mod SpawnedProgress
 pub mod ChildPlaced
+pub mod SpawnBegun
