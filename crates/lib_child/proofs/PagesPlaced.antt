@@ -32,10 +32,10 @@ none_laid : (segment : Segment) (file : List ℕ) (number : ℕ) (bytes : List �
 none_laid segment file number bytes none =
     ap (λ (c : Bool). if c then overlaid bytes (from - number * PGSIZE) (file_part segment file from to) else bytes) test
   where
-    abbrev from : ℕ
+    from : ℕ
     from = max segment.va (number * PGSIZE)
 
-    abbrev to : ℕ
+    to : ℕ
     to = min (segment.va + segment.file_len) ((number + 1) * PGSIZE)
 
     test : nat_lt from to ≡ false
@@ -209,13 +209,13 @@ module _ {image : ImageRead} {header page : ℕ} (it : IsPageOf image header pag
       ∙ ap (λ (c : Bool). is_some (under_shared (b.memory page) (if c then Some filled_page else None))) placed_there
       ∙ by_shared (b.memory page)
     where
-      abbrev all : Progress
+      all : Progress
       all = passing (entry_count_of (slice_index image.header)) 0
 
-      abbrev placed : Bool
+      placed : Bool
       placed = is_placed_page image all page
 
-      abbrev filled_page : Page
+      filled_page : Page
       filled_page = own (page_bytes (segments_filled image all) file page) (any_writes page (segments_filled image all) || not (is_settled_page image all page))
 
       or_first : (c d : Bool) → c ≡ true → (c || d) ≡ true

@@ -52,7 +52,7 @@ register_words_more entry_point esp count =
     ∙ bytes_of_words-append (map word (rising 0 count)) (word count ∷ [])
     ∙ ap (λ (l : List ℕ). bytes_of_words (map word (rising 0 count)) ++ l) (bytes_of_words-one (word count))
   where
-    abbrev word : ℕ → ℕ
+    word : ℕ → ℕ
     word = word_of_record entry_point esp
 
 pub register_words_long : (entry_point esp count : ℕ) → length (bytes_of_words (register_words entry_point esp count)) ≡ 4 * count
