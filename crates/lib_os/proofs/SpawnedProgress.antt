@@ -173,7 +173,7 @@ filled_behind image headers header done all =
     (λ m. filled_loaded image (filling headers header done) m ∙ sym (filled_loaded image (filling headers (header + 1) 0) m))
     (λ m loaded. ap segment_of (by_front m (sym (filled_loaded image (filling headers header done) m) ∙ loaded) (nat_lt m header) refl (nat_lt m (header + 1)) refl))
   where
-    abbrev one : ℕ → ProgramHeader
+    one : ℕ → ProgramHeader
     one m = packed (headers_in image.table) m
 
     packed_loaded : (m : ℕ) → is_loaded (one m) ≡ true → is_loaded (headers_in image.table m) ≡ true
