@@ -3,3 +3,4 @@ pub mod UndoingSteps
 pub mod DroppingSteps
 pub mod ReleasingSteps
 pub mod ReadyingSteps
+pub mod PassingSteps

@@ -20,7 +20,7 @@ use Rattle.lib_os.specs.Places.{place_of}
 use Rattle.lib_os.specs.Rows.{EntryRow, Names, is_of_descriptor, is_programs, logical, rows_of}
 use Rattle.lib_os.specs.SpawnedChild.{IsProgress, Progress, child_page, handler_of, own_page, passing, registers_of, spawning_child}
 use Rattle.lib_os.specs.SpawnPages.{is_childs}
-use Rattle.lib_os.specs.StandsAtSpawn.{StandsAtSpawn}
+use Rattle.lib_os.specs.StandsAtSpawn.{IsClosed, StandsAtSpawn}
 use Rattle.lib_os.specs.StandsFor.{StandsFor, view_of}
 use Rattle.lib_os.proofs.EntriesStand.{rows_same, rows_stand}
 use Rattle.lib_os.proofs.Serving.{IsServed, holds_page}
@@ -35,6 +35,39 @@ use Rattle.lib_os.proofs.StatesStand.{CountsAlike, same_space, set_counts}
 pub record NoneShared (b : Born) (row : EntryRow) (low high : ℕ) : Type 0 where
   pub memory : (p : ℕ) → is_programs p ≡ true → low ≤ p → p < high → (q : Option Page) → under_shared (b.memory p) q ≡ q
   pub descriptors : (p : ℕ) → is_of_descriptor p ≡ true → low ≤ p → p < high → row p ≡ None
+
+-- of one page it is so, where that is not shared
+pub none_shared_one : (b : Born) (row : EntryRow) (page : ℕ) → (is_programs page ≡ true → (q : Option Page) → under_shared (b.memory page) q ≡ q) →
+    (is_of_descriptor page ≡ true → row page ≡ None) → NoneShared b row page (page + 1)
+none_shared_one b row page memory descriptor = record {
+  memory = λ p inside at_least lower.
+      let here : page ≡ p = omega (arith, at_least, lower) in
+      subst (λ (r : ℕ). is_programs r ≡ true → (q : Option Page) → under_shared (b.memory r) q ≡ q) here memory inside;
+  descriptors = λ p is at_least lower.
+      let here : page ≡ p = omega (arith, at_least, lower) in
+      subst (λ (r : ℕ). is_of_descriptor r ≡ true → row r ≡ None) here descriptor is;
+}
+
+-- what is closed is so whatever its words are
+pub closed_with : {k : Slot} {b : Born} {path argv child : ℕ} (words : List ℕ) → IsClosed k b path argv child →
+    IsClosed (record k { extra = words }) b path argv child
+closed_with words h = record {
+  image = h.image;
+  pieces = h.pieces;
+  found = record {
+    is_in = record {
+      regs = h.found.is_in.regs;
+      program = h.found.is_in.program;
+      eax = h.found.is_in.eax;
+      registers = h.found.is_in.registers;
+      phase = h.found.is_in.phase;
+      silent = h.found.is_in.silent;
+      awake = h.found.is_in.awake;
+    };
+    is = h.found.is;
+  };
+  none_left = h.none_left;
+}
 
 -- ---- the child at a lower page
 

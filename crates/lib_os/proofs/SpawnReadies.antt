@@ -74,6 +74,7 @@ all_bytes_with words h = record {
 
 pub stack_for_with : {v : View} {k : Slot} {b : Born} {path argv fd child : ℕ} (words : List ℕ) → HasStackFor v k b path argv fd child →
     HasStackFor v (record k { extra = words }) b path argv fd child
+unfolding all_bytes_with
 stack_for_with words h = record { has = all_bytes_with words h.has; esp = h.esp; stack = h.stack }
 
 -- ---- the handler
