@@ -1,5 +1,5 @@
 -- The law of spawn, where it is refused, as it destroys its child, and as it drops the descriptor of its file.
-use Rattle.std.proofs.Common.{◌≡◌, ◌∙◌, ◌⊎◌, inl, inr, ◌<◌, ℕ, Bool, true, false, [], ◌∷◌, refl, sym, ap, subst, arith, if◌then◌else◌}
+use Rattle.std.proofs.Common.{◌≡◌, ◌∙◌, ◌⊎◌, inl, inr, ◌<◌, ◌%◌, ℕ, Bool, true, false, [], ◌∷◌, refl, sym, ap, subst, arith, if◌then◌else◌}
 use Rattle.std.specs.Prelude.{nat_lt}
 use Rattle.std.proofs.lemmas.Bool.Decides.{nat_tests}
 use Rattle.jos_base.specs.declared.called.Called.{Called}
@@ -93,7 +93,7 @@ module _ (s : KernelState) (n path argv : ℕ) (live : is_live (slot_at s n) ≡
           few = omega arith;
         })
         goes (system_never s n SYS_ENV_DESTROY (child ∷ 0 ∷ 0 ∷ 0 ∷ 0 ∷ [])) keeps
-        (λ may a h turn. absurd (let contradiction : false ≡ true = may in cc))
+        (λ may a h turn. absurd (let contradiction : false ≡ true = may.0 in cc))
 
   -- ---- the descriptor is dropped
 

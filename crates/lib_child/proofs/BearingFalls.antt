@@ -1,11 +1,12 @@
 -- spawn comes to an end with its child: each of its hidden steps as it makes it lowers the number of those that may still come.
 use Rattle.std.proofs.Common.{◌≡◌, ◌∙◌, ◌<◌, ◌≤◌, ◌+◌, ◌-◌, ◌*◌, ◌/◌, ◌%◌, ◌^◌, ◌==◌, ◌&&◌, ℕ, Bool, true, false, not, nat_le, nat_lt, min, inl, refl, ap, arith, if◌then◌else◌}
 use Rattle.std.proofs.lemmas.Bool.Decides.{nat_tests}
-use Rattle.jos_base.specs.declared.numbers.TheConstants.{PGSIZE, TRAPFRAME_WORDS}
+use Rattle.jos_base.specs.declared.numbers.TheConstants.{FDTABLE, PGSIZE, TRAPFRAME_WORDS}
 use Rattle.jos_base.specs.Counting.{page_limit}
 use Rattle.jos_base.specs.Environments.{Slot}
 use Rattle.jos_base.specs.KernelState.{KernelState, slot_at}
 use Rattle.jos_elf.specs.declared.numbers.TheConstants.{PT_LOAD}
+use Rattle.jos_base.specs.Words.{page_number}
 use Rattle.lib_os.specs.declared.numbers.TheConstants.{TRANSFER_MAX}
 use Rattle.lib_os.specs.declared.place.Step.TheVariants as step
 use Rattle.lib_os.specs.declared.service.Service.TheVariants as service
@@ -18,6 +19,7 @@ use Rattle.lib_os.specs.declared.spawn_steps.UndoingStep.TheVariants as undoing
 use Rattle.lib_os.specs.LibraryPages.{View}
 use Rattle.lib_os.specs.LibrarySteps.{Stands, pages_left, pieces_left, rights_left, steps_left}
 use Rattle.lib_os.specs.Places.{place_of}
+use Rattle.lib_os.specs.AbstractSpawn.{headers_in}
 use Rattle.lib_os.specs.AbstractState.{AbstractState, Born}
 use Rattle.lib_os.specs.StandsAtSpawn.{BearingStands}
 use Rattle.lib_os.specs.StandsFor.{view_of}
@@ -30,7 +32,7 @@ use Rattle.lib_file.specs.Keeping.{next_va}
 use Rattle.lib_fork.specs.ForkStages.{is_error}
 use Rattle.lib_child.specs.BearingStages.{next_of, page_behind, piece_from, put_behind, registers_from}
 use Rattle.lib_child.specs.ChildSegments.{last_page, pages_from, pieces_from, rights_from}
-use Rattle.lib_child.proofs.HeaderSays.{file_len_below}
+use Rattle.lib_child.proofs.HeaderSays.{file_len_below, image_lies, lies_low}
 
 -- how many hidden steps there may be from a step of spawn on
 abbrev most_at : SpawnStep → ℕ
@@ -93,7 +95,7 @@ abbrev pub IsWithin : BearingStep → Type 0
 IsWithin (bearing.StoringRegister esp fd entry_point headers child index) = index < TRAPFRAME_WORDS
 IsWithin (bearing.PlacingKind fd headers child header) = header < headers
 IsWithin (bearing.PlacingMemory fd headers child header) = header < headers
-IsWithin (bearing.PlacingAddress fd headers child header memory) = header < headers
+IsWithin (bearing.PlacingAddress fd headers child header memory) = memory ≤ FDTABLE
 IsWithin (bearing.PlacingPage fd headers child header page last) = header < headers
 IsWithin (bearing.PieceKind fd headers child header) = header < headers
 IsWithin (bearing.PieceMemory fd headers child header) = header < headers
@@ -110,9 +112,9 @@ registers_low esp fd entry_point headers child index below = by_test (nat_lt (in
     by_test true = omega (arith, below)
     by_test false = omega (arith, below)
 
-last_low : (va memory : ℕ) → last_page va memory ≤ page_limit
+last_low : (va memory : ℕ) → memory ≤ FDTABLE → last_page va memory - page_number va ≤ page_limit
 unfolding page_limit
-last_low va memory = omega arith
+last_low va memory low = omega (arith, low)
 
 behind_page : (fd headers child header page last : ℕ) → header < headers →
     most_at (page_behind fd headers child header page last) < pages_left headers (header + 1) + 1 + (last - page)
@@ -205,7 +207,7 @@ module _ (path argv : ℕ) where
       let low = pages_low fd headers child (header + 1) in
       choice_falls (bearing.PlacingMemory fd headers child header) (word == 0) (pages_from fd headers child (header + 1))
       (spawn.Bearing (bearing.PlacingAddress fd headers child header word)) (omega (arith, low)) (omega arith)
-  bearing_falls (bearing.PlacingAddress fd headers child header memory) word within = let low = last_low word memory in omega (arith, low)
+  bearing_falls (bearing.PlacingAddress fd headers child header memory) word within = let low = last_low word memory within in omega (arith, low)
   bearing_falls (bearing.PlacingPage fd headers child header page last) word within =
       unless_low (bearing.PlacingPage fd headers child header page last) fd child word (page_behind fd headers child header page last)
       (omega arith) (behind_page fd headers child header page last within)
@@ -243,7 +245,10 @@ pub bearing_within : (v : View) (k : Slot) (b : Born) (path argv : ℕ) (at : Be
 bearing_within v k b path argv (bearing.StoringRegister esp fd entry_point headers child index) h = h.below
 bearing_within v k b path argv (bearing.PlacingKind fd headers child header) h = h.below
 bearing_within v k b path argv (bearing.PlacingMemory fd headers child header) h = h.below
-bearing_within v k b path argv (bearing.PlacingAddress fd headers child header memory) h = h.below
+bearing_within v k b path argv (bearing.PlacingAddress fd headers child header memory) h =
+    let low = lies_low (headers_in h.image.table header) (image_lies h.has.whole header h.below h.so.0) in
+    let is = h.so.1 in
+    omega (arith, low, is)
 bearing_within v k b path argv (bearing.PlacingPage fd headers child header page last) h = h.below
 bearing_within v k b path argv (bearing.PieceKind fd headers child header) h = h.filled.below
 bearing_within v k b path argv (bearing.PieceMemory fd headers child header) h = h.filled.below

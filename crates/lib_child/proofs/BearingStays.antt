@@ -88,7 +88,7 @@ module _ {v w : View} {p : ℕ} (it : IsBesidePage v w p) (given : page_number S
   pub stack_aside : {words : List (List ℕ)} {esp : ℕ} → HasStack v words esp → HasStack w words esp
   stack_aside h = record { fits = h.fits; esp_is = h.esp_is; kept = page_aside it stack h.kept }
 
-  apart : (fd : ℕ) → is_of_descriptor (descriptor_page fd) ≡ true → descriptor_page fd ≢ p
+  pub apart : (fd : ℕ) → is_of_descriptor (descriptor_page fd) ≡ true → descriptor_page fd ≢ p
   apart fd is same = let contradiction : true ≡ false = sym is ∙ ap is_of_descriptor same ∙ no_descriptor in cc
 
   abbrev pub file_aside : {fd : ℕ} → IsOfFile v fd → IsOfFile w fd

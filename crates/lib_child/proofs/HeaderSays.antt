@@ -1,8 +1,9 @@
 -- What the words of a program header say of its segment, as spawn finds them in the table; and what its tests say of one that is loaded.
-use Rattle.std.proofs.Common.{◌≡◌, ◌≢◌, ◌∙◌, ◌+◌, ◌*◌, ◌^◌, ◌<◌, ◌==◌, ◌&&◌, ℕ, zero, suc, Bool, true, false, List, [], ◌∷◌, None, refl, sym, ap, subst, arith, if◌then◌else◌}
+use Rattle.std.proofs.Common.{◌≡◌, ◌≢◌, ◌∙◌, ◌+◌, ◌*◌, ◌^◌, ◌<◌, ◌≤◌, ◌==◌, ◌&&◌, ◌⊎◌, inl, inr, ℕ, zero, suc, Bool, true, false, List, [], ◌∷◌, None, refl, sym, ap, subst, arith, if◌then◌else◌}
 use Rattle.std.specs.Int.{w32, from_le_bytes}
 use Rattle.std.specs.Prelude.{nat_lt, slice_index}
 use Rattle.std.proofs.lemmas.Bool.Decides.{nat_tests}
+use Rattle.jos_base.specs.declared.numbers.TheConstants.{FDTABLE, USTABDATA, UTEMP, UTEXT}
 use Rattle.jos_base.specs.Words.{word_at}
 use Rattle.jos_elf.specs.declared.header.ProgramHeader.{ProgramHeader}
 use Rattle.jos_elf.specs.declared.numbers.TheConstants.{P_FILESZ, P_MEMSZ, P_OFFSET, P_TYPE, P_VADDR, PHDR_LEN, PT_LOAD}
@@ -12,7 +13,10 @@ use Rattle.jos_elf.specs.Tests.{first_failed, is_loaded, segment_tests, table_te
 use Rattle.jos_elf.proofs.Parsed.{tests-lie}
 use Rattle.jos_elf.proofs.Tests.{append-passed}
 use Rattle.lib_os.specs.AbstractSpawn.{headers_in}
+use Rattle.lib_os.specs.AbstractState.{ImageRead}
+use Rattle.lib_os.specs.LibraryPages.{View}
 use Rattle.lib_os.specs.Rows.{AreBytes}
+use Rattle.lib_os.specs.StandsAtSpawn.{HasImage}
 
 -- ---- its words
 
@@ -94,3 +98,18 @@ loaded_lies total headers (suc n) passed m below loaded =
         (tests-lie total headers n loaded_here
         (ap (λ (c : Bool). first_failed (if c then segment_tests total headers n else [])) (sym loaded_here) ∙ last))
     by_last false test last before = before (let other : m ≢ n = grind (arith, nat_tests, test) in omega (arith, below, other))
+
+-- what its tests say of a segment that is loaded
+pub image_lies : {v : View} {image : ImageRead} {headers : ℕ} (whole : HasImage v image headers) (header : ℕ) → header < headers →
+    is_loaded (headers_in image.table header) ≡ true → Lies whole.size (segment_of (headers_in image.table header))
+image_lies {image = image} {headers = headers} whole header below loaded =
+    loaded_lies whole.size (headers_in image.table) headers whole.passed header below loaded
+
+-- it ends where addresses do not wrap
+pub lies_low : {total : ℕ} (header : ProgramHeader) → Lies total (segment_of header) → header.va + header.mem_len ≤ FDTABLE
+lies_low header lies = by_range lies.range
+  where
+    by_range : ((USTABDATA ≤ header.va) × (header.va + header.mem_len ≤ UTEMP)) ⊎ ((UTEXT ≤ header.va) × (header.va + header.mem_len ≤ FDTABLE)) →
+        header.va + header.mem_len ≤ FDTABLE
+    by_range (inl low) = let end = low.1 in omega (arith, end)
+    by_range (inr high) = high.1

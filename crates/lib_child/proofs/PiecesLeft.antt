@@ -67,14 +67,14 @@ of_segments headers (suc n) =
     flat_map-append pieces_of (segments_of headers n) (if is_loaded (headers n) then segment_of (headers n) ∷ [] else [])
     ∙ ap (λ (l : List Piece). l ++ flat_map pieces_of (if is_loaded (headers n) then segment_of (headers n) ∷ [] else [])) (of_segments headers n)
     ∙ ap (λ (l : List Piece). flat_map (λ m. rest_of headers m 0) (rising 0 n) ++ l) (by_loaded (is_loaded (headers n)) refl)
-    ∙ sym (flat_map-append (λ m. rest_of headers m 0) (rising 0 n) (0 + n ∷ []))
+    ∙ sym (flat_map-append (λ m. rest_of headers m 0) (rising 0 n) ((0 + n) ∷ []))
     ∙ sym (ap (flat_map (λ m. rest_of headers m 0)) (rising_last 0 n))
   where
     here : 0 + n ≡ n
     here = omega arith
 
     by_loaded : (c : Bool) → is_loaded (headers n) ≡ c → flat_map pieces_of (if c then segment_of (headers n) ∷ [] else [])
-        ≡ flat_map (λ m. rest_of headers m 0) (0 + n ∷ [])
+        ≡ flat_map (λ m. rest_of headers m 0) ((0 + n) ∷ [])
     by_loaded true is =
         sym (ap (λ (m : ℕ). rest_of headers m 0 ++ []) here
         ∙ ap (λ (c : Bool). (if c then pieces_of (segment_of (headers n)) else []) ++ []) is)

@@ -1,10 +1,10 @@
 -- The laws of spawn as it looks at the program headers for the pages of its child's segments.
-use Rattle.std.proofs.Common.{◌≡◌, ◌≢◌, ◌∙◌, ◌+◌, ◌-◌, ◌*◌, ◌/◌, ◌%◌, ◌^◌, ◌<◌, ◌≤◌, ◌==◌, ◌&&◌, ◌||◌, ◌⊎◌, inl, inr, ℕ, Bool, true, false, refl, sym, ap, arith}
+use Rattle.std.proofs.Common.{◌≡◌, ◌≢◌, ◌∙◌, ◌+◌, ◌-◌, ◌*◌, ◌/◌, ◌%◌, ◌^◌, ◌<◌, ◌≤◌, ◌==◌, ◌&&◌, ◌||◌, ◌⊎◌, ℕ, Bool, true, false, refl, sym, ap, arith}
 use Rattle.std.proofs.Common.{if◌then◌else◌, List, ◌++◌}
 use Rattle.std.specs.Prelude.{nat_lt, slice_index}
 use Rattle.std.proofs.lemmas.Bool.{and_parts}
 use Rattle.std.proofs.lemmas.Bool.Decides.{nat_tests}
-use Rattle.jos_base.specs.declared.numbers.TheConstants.{FDTABLE, PGSIZE, USTABDATA, UTEMP, UTEXT}
+use Rattle.jos_base.specs.declared.numbers.TheConstants.{PGSIZE}
 use Rattle.jos_base.specs.Below.{some_below}
 use Rattle.jos_base.specs.Environments.{Slot, is_live}
 use Rattle.jos_base.specs.KernelState.{KernelState, slot_at}
@@ -24,7 +24,7 @@ use Rattle.lib_os.specs.AbstractState.{Born, ImageRead}
 use Rattle.lib_os.specs.LibraryPages.{View}
 use Rattle.lib_os.specs.Places.{place_of}
 use Rattle.lib_os.specs.SpawnedChild.{bytes_replied, header_touches, placing}
-use Rattle.lib_os.specs.StandsAtSpawn.{HasImage, HasMemory, IsOfKind, IsPlacing, nothing_known}
+use Rattle.lib_os.specs.StandsAtSpawn.{HasMemory, IsOfKind, IsPlacing, nothing_known}
 use Rattle.lib_os.specs.StandsFor.{view_of}
 use Rattle.lib_os.proofs.SpawnedGoes.{goes_still}
 use Rattle.lib_os.proofs.SpawnedProgress.{Alike, page_same, placed_over}
@@ -36,31 +36,16 @@ use Rattle.lib_child.specs.ChildSegments.{last_page, pages_from}
 use Rattle.lib_child.proofs.BearingOn.{comes_goes, none_mine, pages_come}
 use Rattle.lib_child.proofs.BearingStays.{child_told}
 use Rattle.lib_child.proofs.HeaderLoads.{LoadsHeader, header_load_holds}
-use Rattle.lib_child.proofs.HeaderSays.{has_memory, loaded_lies, no_memory, other_kind, says_kind, says_mem_len, says_va}
+use Rattle.lib_child.proofs.HeaderSays.{has_memory, image_lies, lies_low, no_memory, other_kind, says_kind, says_mem_len, says_va}
 
 -- ---- the pages of a segment
-
--- what its tests say of a segment that is loaded
-pub image_lies : {v : View} {image : ImageRead} {headers : ℕ} (whole : HasImage v image headers) (header : ℕ) → header < headers →
-    is_loaded (headers_in image.table header) ≡ true → Lies whole.size (segment_of (headers_in image.table header))
-image_lies {image = image} {headers = headers} whole header below loaded =
-    loaded_lies whole.size (headers_in image.table) headers whole.passed header below loaded
-
--- it ends where addresses do not wrap
-pub lies_low : {total : ℕ} (header : ProgramHeader) → Lies total (segment_of header) → header.va + header.mem_len ≤ FDTABLE
-lies_low header lies = by_range lies.range
-  where
-    by_range : ((USTABDATA ≤ header.va) × (header.va + header.mem_len ≤ UTEMP)) ⊎ ((UTEXT ≤ header.va) × (header.va + header.mem_len ≤ FDTABLE)) →
-        header.va + header.mem_len ≤ FDTABLE
-    by_range (inl low) = let end = low.1 in omega (arith, end)
-    by_range (inr high) = high.1
 
 -- no page in front of its first is one of its
 pub none_before : (image : ImageRead) (header p : ℕ) →
     (header_touches image p header && nat_lt p 0) ≡ (header_touches image p header && nat_lt p ((headers_in image.table header).va / PGSIZE))
 none_before image header p = by_touch (header_touches image p header) refl
   where
-    abbrev one : ProgramHeader
+    one : ProgramHeader
     one = headers_in image.table header
 
     off : (q : ℕ) → nat_lt q 0 ≡ false
@@ -101,7 +86,7 @@ module _ (s : KernelState) (n path argv : ℕ) (live : is_live (slot_at s n) ≡
       LoadsHeader v k b path argv child (bearing.PlacingKind fd headers child header) header P_TYPE
   kind_loads v k b h = by_kind (word == PT_LOAD) refl
     where
-      abbrev word : ℕ
+      word : ℕ
       word = word_at (slice_index h.image.table) (PHDR_LEN * header + P_TYPE)
 
       by_kind : (c : Bool) → (word == PT_LOAD) ≡ c →
@@ -161,10 +146,10 @@ module _ (s : KernelState) (n path argv : ℕ) (live : is_live (slot_at s n) ≡
       LoadsHeader v k b path argv child (bearing.PlacingMemory fd headers child header) header P_MEMSZ
   memory_loads v k b h = by_memory (memory == 0) refl
     where
-      abbrev memory : ℕ
+      memory : ℕ
       memory = word_at (slice_index h.image.table) (PHDR_LEN * header + P_MEMSZ)
 
-      abbrev some : SpawnStep
+      some : SpawnStep
       some = spawn.Bearing (bearing.PlacingAddress fd headers child header memory)
 
       by_memory : (c : Bool) → (memory == 0) ≡ c → LoadsHeader v k b path argv child (bearing.PlacingMemory fd headers child header) header P_MEMSZ
@@ -249,10 +234,10 @@ module _ (s : KernelState) (n path argv : ℕ) (live : is_live (slot_at s n) ≡
             });
         }
       where
-        abbrev va : ℕ
+        va : ℕ
         va = word_at (slice_index h.image.table) (PHDR_LEN * header + P_VADDR)
 
-        abbrev one : ProgramHeader
+        one : ProgramHeader
         one = headers_in h.image.table header
 
         va_is : va ≡ one.va

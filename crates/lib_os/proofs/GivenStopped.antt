@@ -16,7 +16,6 @@ use Rattle.lib_os.specs.declared.spawn_steps.SpawnStep.TheVariants as spawn
 use Rattle.lib_os.specs.AbstractMemory.{page_allows, page_at, page_fault}
 use Rattle.lib_os.specs.AbstractState.{AbstractState, Born}
 use Rattle.lib_os.specs.InOrder.{IsInOrder}
-use Rattle.lib_os.specs.LibraryPages.{View}
 use Rattle.lib_os.specs.LibrarySteps.{copies_left, copy_steps, given_steps_left, hidden_left, left_at, spawn_counts_copies}
 use Rattle.lib_os.specs.Places.{place_of}
 use Rattle.lib_os.specs.Rows.{Names, rows_of}

@@ -202,6 +202,7 @@ pub mod SpawnOwnPages
 pub mod SpawnTakesPages
 pub mod SpawnPagesTaken
 pub mod SpawnGathers
+pub mod SpawnedTurns
 pub mod SpawnAsks
 pub mod SpawnAwaits
 pub mod SpawnGivesBack
@@ -209,6 +210,7 @@ pub mod SpawnRefuses
 pub mod BearsOn
 pub mod SpawnedGoes
 pub mod SpawnedMoves
+pub mod SpawnedTurns
 pub mod BorneCalls
 pub mod SpawnDestroys
 pub mod SpawnDrops
@@ -216,4 +218,9 @@ pub mod SpawnUndoes
 pub mod SpawnCopies
 pub mod SpawnReleases
 pub mod SpawnCloses
+pub mod SpawnGivesChild
+pub mod SpawnReadies
+pub mod SpawnPasses
 pub mod SpawnedProgress
+pub mod ChildPlaced
+pub mod SpawnBegun

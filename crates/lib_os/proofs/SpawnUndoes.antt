@@ -51,7 +51,7 @@ use Rattle.lib_os.proofs.Removing.{destroyed_gone}
 use Rattle.lib_os.proofs.Serving.{IsServed, holds_page, library_moved, plain_copy, plain_upcall, plain_working, printed_nothing, service_step}
 use Rattle.lib_os.proofs.SlotsStand.{born_at, born_live, born_stands, counts_unpiped, is_piped}
 use Rattle.lib_os.proofs.SpawnDestroys.{bearer_seen, destroyed_stands}
-use Rattle.lib_os.proofs.SpawnDrops.{drops_file, no_pipe_there, spawns_file, spawns_object, without_file}
+use Rattle.lib_os.proofs.SpawnDrops.{drops_file, file_gone, no_pipe_there, spawns_file, spawns_object}
 use Rattle.lib_os.proofs.SpawnGathers.{spawn_found}
 use Rattle.lib_os.proofs.SpawnOwnPages.{spawn_there, spawn_words, spawns_at}
 use Rattle.lib_os.proofs.SpawnedGoes.{childs_alike}
@@ -266,7 +266,7 @@ module _ (s : KernelState) (n path argv fd error : ℕ)
     of_file = to_drop_of_file to_drop
 
     abbrev dropped_with : ℕ → AbstractState
-    dropped_with answer = with_born a n (without_file h n path argv closing behind stands fd (refusing answer) (taking []))
+    dropped_with answer = with_born a n (file_gone owner path argv fd (refusing answer) (taking []))
 
     drop_is : {stage : Stage} (is_in : IsIn (slot_at s n) owner path argv stage) →
         abs_step a n ≡ library_step a n owner is_in.regs (service.Spawn path argv) stage
@@ -320,9 +320,9 @@ module _ (s : KernelState) (n path argv fd error : ℕ)
     drop_step (no_child found file) = drop_is found.is_in ∙ rw found.is refl
 
     refuses_then : Refuses (record (slot_at s n) { extra = spawn_words behind })
-        (without_file h n path argv closing behind stands fd (refusing error) (taking [])) path argv error
+        (file_gone owner path argv fd (refusing error) (taking [])) path argv error
     refuses_then =
-        by_drop (found_after (spawn_words behind) (refusing error) (without_file h n path argv closing behind stands fd (refusing error) (taking []))
+        by_drop (found_after (spawn_words behind) (refusing error) (file_gone owner path argv fd (refusing error) (taking []))
         refl refl refl refl (to_drop_in to_drop).1)
 
     pub closing_goes : IsInOrder (with_spaces s (dropped s n fd)) → s.last ≡ Some n →
