@@ -41,7 +41,6 @@ use Rattle.lib_os.proofs.SpawnOwnPages.{spawn_there, spawns_at, spawns_own}
 use Rattle.lib_os.proofs.SpawnWaits.{asks_unasked}
 use Rattle.lib_os.proofs.StatesStand.{born_not_first}
 use Rattle.lib_fd.specs.DescriptorStages.{descriptor_va}
-use Rattle.lib_image.specs.OpeningStages.{opened_va}
 use Rattle.lib_request.specs.PageRequests.{reply_asked, reply_asked_at, request_asked}
 use Rattle.lib_stage.specs.Asks.{performed}
 use Rattle.lib_stage.specs.declared.ask.Ask.{Ask}
@@ -52,7 +51,10 @@ use Rattle.lib_stage.specs.ServiceSteps.{IsServiceStep, Plan, upshot_by}
 use Rattle.jos_run.specs.Plans.{plan_at}
 use Rattle.jos_run.proofs.RequestsCalm.{RequestsCalmly, SameHome, SameSpaces, asks_by_page, awaits_reply, none_requests}
 
--- where spawn waits for its file, a page comes to the beginning of one, or nowhere
+-- where spawn waits for its file, a page comes to that of its descriptor, or nowhere
+abbrev opened_va : ℕ → ℕ
+opened_va fd = if nat_lt fd DESCRIPTORS then descriptor_va fd else UTOP
+
 opened_begins : (fd : ℕ) → opened_va fd % PGSIZE ≡ 0
 opened_begins fd = by_test (nat_lt fd DESCRIPTORS)
   where

@@ -1,4 +1,4 @@
--- What the services that are built ask, and what they do next by the reply, each as its own crate says.
+-- What the services ask, and what they do next by the reply, each as its own crate says.
 use Rattle.lib_os.specs.declared.place.Step.{Step}
 use Rattle.lib_os.specs.declared.service.Service.{Service}
 use Rattle.lib_os.specs.declared.service.Service.TheVariants as service

@@ -1,4 +1,4 @@
-//! The services that are built, each by its own crate.
+//! The services, each by its own crate.
 
 ghost use Rattle.std.specs.Prelude.{◌≡◌};
 ghost use Rattle.jos_run.specs.Plans.{plan_at, plan_of};

@@ -1,1 +1,13 @@
 pub mod RecordTold
+pub mod BearingStays
+pub mod PiecesLeft
+pub mod HeaderSays
+pub mod BearingFalls
+pub mod HeaderLoads
+pub mod BearingOn
+pub mod PlacingGoes
+pub mod PieceGoes
+pub mod RegisterGoes
+pub mod PagesPlaced
+pub mod BearingCalls
+pub mod PlacingPage

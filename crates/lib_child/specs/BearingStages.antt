@@ -2,7 +2,9 @@
 -- all pages of its segments, and then the bytes of the segments, piece by piece: a piece is asked of the file server, and when it has come each page of
 -- the child's is mapped at SPAWN_HERE for as long as bytes are put into it, a word at a time where a word there is whole, and else a byte.
 -- (MIT 6.828, lab 5: lib/spawn.c, spawn and map_segment. That all pages are given before the bytes are read is this system's own.)
-use Rattle.std.specs.Prelude.{ℕ, ◌+◌, ◌-◌, ◌*◌, ◌%◌, ◌^◌, ◌==◌, ◌&&◌, not, nat_le, nat_lt, min, [], ◌∷◌, Option, Some, None, if◌then◌else◌}
+use Rattle.std.specs.Prelude.{ℕ, ◌+◌, ◌-◌, ◌*◌, ◌%◌, ◌^◌, ◌==◌, ◌&&◌, not, nat_le, nat_lt, min, Bool, true, false, [], ◌∷◌, Option, Some, None, if◌then◌else◌}
+use Rattle.jos_base.specs.declared.called.Called.{Called}
+use Rattle.jos_base.specs.declared.called.Called.TheVariants.{Ended}
 use Rattle.jos_base.specs.declared.numbers.TheConstants.{FL_1, FL_IF, PGSIZE, TRAPFRAME_WORDS, UTEMP}
 use Rattle.jos_base.specs.declared.numbers.TheConstants.{SYS_ENV_SET_TRAPFRAME, SYS_PAGE_ALLOC, SYS_PAGE_MAP}
 use Rattle.jos_base.specs.Words.{page_number}
@@ -19,6 +21,7 @@ use Rattle.lib_os.specs.UserCalls.{answer_of}
 use Rattle.lib_stage.specs.declared.ask.Ask.{Ask}
 use Rattle.lib_stage.specs.declared.ask.Ask.TheVariants as ask
 use Rattle.lib_stage.specs.declared.ask.Next.{Next}
+use Rattle.lib_stage.specs.declared.ask.Next.TheVariants as next
 use Rattle.lib_stage.specs.ServiceSteps.{Plan}
 use Rattle.lib_fd.specs.DescriptorStages.{drop_asked_at}
 use Rattle.lib_file.specs.Keeping.{next_va}
@@ -162,7 +165,20 @@ next_of (bearing.PiecePutting fd headers child header va done end kept) word =
     goes_on (put_behind fd headers child header va ((done + moved va done end) % 2 ^ 32) end)
 next_of (bearing.UnmappingHere fd headers child header end) word = goes_on (spawn.Bearing (bearing.PieceLength fd headers child header end))
 
+-- The registers are read in its page by the kernel: whoever has no such page is ended by that call.
+abbrev pub reads_record : BearingStep → Bool
+reads_record (bearing.SettingRegisters fd headers child) = true
+reads_record _ = false
+
+abbrev pub is_ended : Called → Bool
+is_ended Ended = true
+is_ended _ = false
+
+-- by what came
+abbrev pub next_by : BearingStep → Called → Next
+next_by at called = if reads_record at && is_ended called then next.Gone else next_of at (answer_of called)
+
 -- ---- the plan
 
 abbrev pub bears : Bearing → Plan
-bears it = record { number = SERVICE_SPAWN; asks = ask_of it.at; next = λ called. next_of it.at (answer_of called) }
+bears it = record { number = SERVICE_SPAWN; asks = ask_of it.at; next = λ called. next_by it.at called }

@@ -561,6 +561,26 @@ fn next_of(at: BearingStep, word: u32) -> Next
     go_on(at)
 }
 
+/// Whether the child's registers are set at a stage, of which the record is read in a page: whoever has no such page is ended by that call.
+fn reads_record(at: BearingStep) -> bool
+    ensures { result ≡ stages.reads_record at }
+{
+    match at {
+        BearingStep::SettingRegisters { .. } => true,
+        _ => false,
+    }
+}
+
+/// Whether whoever made a call is ended by it.
+fn is_ended(called: Called) -> bool
+    ensures { result ≡ stages.is_ended called }
+{
+    match called {
+        Called::Ended => true,
+        Called::Answered(_) | Called::Blocked => false,
+    }
+}
+
 impl Planned for Bearing {
     ghost use Rattle.lib_child.specs.BearingStages.{bears};
 
@@ -575,6 +595,9 @@ impl Planned for Bearing {
     }
 
     fn next(&self, called: Called) -> Next {
+        if reads_record(self.at) && is_ended(called) {
+            return Next::Gone;
+        }
         next_of(self.at, answer_of(called))
     }
 }

@@ -1,5 +1,5 @@
 -- Bytes that lie over others in a page: behind others that do, in front of them, beside them, and as zeros where there are zeros.
-use Rattle.std.proofs.Common.{◌≡◌, ◌∙◌, ◌+◌, ◌<◌, ◌≤◌, ◌++◌, ◌-◌, ℕ, List, length, replicate, drop, refl, sym, ap, arith}
+use Rattle.std.proofs.Common.{◌≡◌, ◌∙◌, ◌+◌, ◌<◌, ◌≤◌, ◌++◌, ◌-◌, ℕ, List, length, replicate, drop, sym, ap, arith}
 use Rattle.std.proofs.lemmas.List.{drop-replicate, length-replicate, places, replicate-append-replicate, same_lists, take-replicate}
 use Rattle.jos_base.specs.declared.numbers.TheConstants.{PGSIZE}
 use Rattle.jos_base.specs.SpacesState.{overlaid, zero_page}

@@ -72,7 +72,7 @@ module _ (s : KernelState) (n path argv : ℕ) (live : is_live (slot_at s n) ≡
 
   loads_byte : (names : Names) (a : AbstractState) → StandsFor names s a →
       IsLoadedSo s n (service.Spawn path argv) a next_of (SPAWN_GIVEN + copied % PGSIZE) (load_byte s n (SPAWN_GIVEN + copied % PGSIZE))
-  unfolding stacking_told, strings_of
+  unfolding stacking_told strings_of
   loads_byte names a h =
       let there = spawn_there h n path argv (spawn.Given copying) stands in
       let so : IsStacking (view_of s.spaces (slot_at s n).directory) (slot_at s n) there.b path argv count size index copied (index + 1) = there.at in

@@ -14,9 +14,8 @@ use Rattle.jos_elf.specs.declared.image.Segment.{Segment}
 use Rattle.jos_elf.specs.Pages.{file_part, laid_all, laid_between, page_bytes, stack_page}
 use Rattle.jos_elf.specs.StackPage.{addresses_from, fits_stack, in_words, stack_contents, stack_pointer, stack_size, strings_of, strings_size}
 use Rattle.jos_elf.specs.Started.{stack_segment}
-use Rattle.lib_os.specs.StandsAtSpawn.{LiesIn, stack_so_far, with_argv, with_strings}
+use Rattle.lib_os.specs.StandsAtSpawn.{stack_so_far, with_argv, with_strings}
 use Rattle.lib_os.proofs.PagesPut.{overlaid_length}
-use Rattle.lib_given.specs.declared.stack.TheConstants.{STACK_VA}
 use Rattle.lib_given.specs.StackWords.{addresses_place, byte_place}
 use Rattle.lib_given.proofs.GivenLists.{words_more}
 use Rattle.lib_given.proofs.StackBytes.{overlaid_apart, overlaid_joined, overlaid_more, zero_long, zeros_before}

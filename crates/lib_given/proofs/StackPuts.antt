@@ -1,17 +1,17 @@
 -- The law of spawn as it puts the strings into the page of the stack, byte by byte, and the addresses of each, and then the place of these and their number.
-use Rattle.std.proofs.Common.{◌≡◌, ◌≢◌, ◌∙◌, ◌+◌, ◌-◌, ◌*◌, ◌%◌, ◌^◌, ◌<◌, ◌≤◌, ◌==◌, ◌&&◌, ℕ, Bool, true, false, not, List, [], ◌∷◌, length}
+use Rattle.std.proofs.Common.{◌≡◌, ◌≢◌, ◌∙◌, ◌+◌, ◌-◌, ◌*◌, ◌%◌, ◌^◌, ◌<◌, ◌≤◌, ◌==◌, ◌&&◌, ℕ, Bool, true, false, List, [], ◌∷◌}
 use Rattle.std.proofs.Common.{refl, sym, ap, subst, arith, if◌then◌else◌}
 use Rattle.std.specs.Int.{w32, to_le_bytes}
 use Rattle.std.specs.Prelude.{min, nat_le, slice_index, take}
 use Rattle.std.proofs.Math.Nat.{min-eq_left, min-le_right}
 use Rattle.std.proofs.lemmas.Bool.Decides.{nat_tests}
-use Rattle.jos_base.specs.declared.numbers.TheConstants.{PGSIZE, USTACKTOP, UTEMP}
+use Rattle.jos_base.specs.declared.numbers.TheConstants.{PGSIZE, USTACKTOP}
 use Rattle.jos_base.specs.Environments.{Slot, is_live}
 use Rattle.jos_base.specs.KernelState.{KernelState, slot_at}
 use Rattle.jos_base.specs.SpacesState.{overlaid}
 use Rattle.jos_base.specs.Words.{page_number}
 use Rattle.jos_elf.specs.StackPage.{stack_pointer, strings_of, strings_size}
-use Rattle.lib_os.specs.declared.numbers.TheConstants.{SPAWN_GIVEN, SPAWN_STACK}
+use Rattle.lib_os.specs.declared.numbers.TheConstants.{SPAWN_STACK}
 use Rattle.lib_os.specs.declared.place.Step.{Step}
 use Rattle.lib_os.specs.declared.place.Step.TheVariants as step
 use Rattle.lib_os.specs.declared.service.Service.TheVariants as service
@@ -24,7 +24,7 @@ use Rattle.lib_os.specs.AbstractState.{AbstractState, Born}
 use Rattle.lib_os.specs.LibraryPages.{View}
 use Rattle.lib_os.specs.Places.{place_of}
 use Rattle.lib_os.specs.Rows.{Names, is_of_descriptor}
-use Rattle.lib_os.specs.StandsAtSpawn.{GivenStands, HasStacked, HasStrings, HasWords, IsStacking, PageHas, stack_so_far, with_argv, with_strings}
+use Rattle.lib_os.specs.StandsAtSpawn.{GivenStands, HasStrings, HasWords, PageHas, stack_so_far, with_argv, with_strings}
 use Rattle.lib_os.specs.StandsFor.{StandsFor, view_of}
 use Rattle.lib_os.specs.UserCalls.{store, store_byte}
 use Rattle.lib_os.proofs.PagesPut.{IsPutIn, page_beside, page_over}

@@ -123,7 +123,7 @@ module _ {v : View} {k : Slot} {b : Born} {path argv esp fd size : ℕ} where
                     before_table esp fd size entry_point count place h.has.words h.has.header h.has.answer
                     (found_told (spawn_words reading) h.has.found) h.has.of_file h.has.stack entry (count-tells (byte_of h) size h.has.small) stands
                     (leb-true count SEGMENT_MAX fits.0) (leb-true (place + PHDR_LEN * count) size fits.1) h.has.long
-                    (count-passes (byte_of h) size h.has.small h.passed (sym same_fits ∙ e));
+                    (count-passes (byte_of h) size h.has.small h.passed (sym same_fits ∙ e)) h.has.come;
                 of_file = h.has.of_file.of_file;
               };
             }

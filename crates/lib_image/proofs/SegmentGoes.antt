@@ -1,15 +1,14 @@
 -- Where spawn goes on by each word of a program header: its segment passes its tests, and those of the segments before it, or the file is no image.
-use Rattle.std.proofs.Common.{◌≡◌, ◌∙◌, ◌+◌, ◌*◌, ◌<◌, ◌≤◌, ◌==◌, ◌||◌, ◌∷◌, ℕ, Bool, true, false, [], if◌then◌else◌, None, Option, refl, sym, ap, subst, arith}
+use Rattle.std.proofs.Common.{◌≡◌, ◌∙◌, ◌+◌, ◌<◌, ◌≤◌, ◌==◌, ◌∷◌, ℕ, Bool, true, false, [], if◌then◌else◌, None, Option, refl, ap, subst, arith}
 use Rattle.std.specs.Prelude.{is_none, nat_le, nat_lt, take}
 use Rattle.std.proofs.lemmas.Bool.{eq-eqb, eqb-true, le-leb, leb-true, ltb-false, ltb-true}
-use Rattle.jos_base.specs.declared.numbers.TheConstants.{FDTABLE, USTABDATA, UTEMP, UTEXT}
 use Rattle.jos_base.specs.Environments.{Slot}
 use Rattle.jos_elf.specs.declared.fault.ElfFault.{ElfFault}
 use Rattle.jos_elf.specs.declared.fault.ElfFault.TheVariants.{SegmentRange, Truncated}
 use Rattle.jos_elf.specs.declared.header.ProgramHeader.{ProgramHeader}
 use Rattle.jos_elf.specs.declared.numbers.TheConstants.{PT_LOAD}
-use Rattle.jos_elf.specs.Tests.{FaultTest, first_failed, is_loaded, is_placed, leaves_free, overlap_tests, segment_tests, table_tests}
-use Rattle.jos_elf.proofs.Tests.{overlap-failed, overlap-none, overlap-passed, passed-append, passed-cons, table-none, table-passed, table-passed_over}
+use Rattle.jos_elf.specs.Tests.{first_failed, is_loaded, is_placed, leaves_free, overlap_tests, segment_tests, table_tests}
+use Rattle.jos_elf.proofs.Tests.{overlap-failed, overlap-none, overlap-passed, passed-append, passed-cons, table-passed, table-passed_over}
 use Rattle.lib_os.specs.declared.spawn_steps.BearingStep.TheVariants as bearing
 use Rattle.lib_os.specs.declared.spawn_steps.SpawnStep.{SpawnStep}
 use Rattle.lib_os.specs.declared.spawn_steps.SpawnStep.TheVariants as spawn

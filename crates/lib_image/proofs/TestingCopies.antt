@@ -1,5 +1,5 @@
 -- The law of spawn as it copies the program headers of its file, word by word, out of the page in which they came: behind the last it tests their segments.
-use Rattle.std.proofs.Common.{◌≡◌, ◌∙◌, ◌+◌, ◌*◌, ◌%◌, ◌≤◌, ◌++◌, ℕ, Bool, true, false, List, length, if◌then◌else◌, refl, sym, ap, subst, arith}
+use Rattle.std.proofs.Common.{◌≡◌, ◌∙◌, ◌+◌, ◌*◌, ◌%◌, ◌≤◌, ◌++◌, ℕ, Bool, true, false, List, length, if◌then◌else◌, refl, ap, subst, arith}
 use Rattle.std.specs.Int.{w32, to_le_bytes}
 use Rattle.std.specs.Prelude.{min, nat_lt, slice_index, take}
 use Rattle.std.proofs.Math.Nat.{min-eq_left}
@@ -9,7 +9,6 @@ use Rattle.jos_base.specs.declared.numbers.TheConstants.{PGSIZE, SEGMENT_MAX, UT
 use Rattle.jos_base.specs.Environments.{Slot, is_live}
 use Rattle.jos_base.specs.KernelState.{KernelState, slot_at}
 use Rattle.jos_base.specs.Words.{page_number, word_at}
-use Rattle.jos_elf.specs.declared.numbers.TheConstants.{PHDR_LEN}
 use Rattle.jos_elf.proofs.Tests.{table-none}
 use Rattle.lib_os.specs.declared.numbers.TheConstants.{PAGE_WORDS, SPAWN_GIVEN}
 use Rattle.lib_os.specs.declared.place.Step.TheVariants as step
@@ -37,7 +36,7 @@ use Rattle.lib_image.specs.TestingStages.{segments_from, tested, testing_next, w
 use Rattle.lib_image.proofs.SegmentGoes.{segments_go}
 use Rattle.lib_image.proofs.TestingGoes.{TestGoes, test_goes}
 use Rattle.lib_image.proofs.TestingLists.{word_copied}
-use Rattle.lib_image.proofs.TestingLoads.{LoadsOwn, load_holds, test_falls}
+use Rattle.lib_image.proofs.TestingLoads.{LoadsOwn, test_falls}
 use Rattle.lib_image.proofs.TestingStays.{copying_told, headers_beside, headers_told}
 
 module _ {v : View} {k : Slot} {b : Born} {path argv esp fd size entry_point headers copied : ℕ} where

@@ -1,5 +1,5 @@
 -- Where spawn goes on from one of its tests: at the next, with what it has found out, or it drops its file, which is no image.
-use Rattle.std.proofs.Common.{◌≡◌, ◌≢◌, ◌⊎◌, inr, ℕ, Bool, true, false, if◌then◌else◌, refl, subst}
+use Rattle.std.proofs.Common.{◌≡◌, ◌≢◌, inr, ℕ, Bool, true, false, if◌then◌else◌, refl, subst}
 use Rattle.std.specs.Prelude.{None, slice_index}
 use Rattle.jos_base.specs.Environments.{Slot}
 use Rattle.jos_elf.specs.Tests.{first_failed, header_tests, table_tests}
@@ -38,7 +38,7 @@ module _ {v : View} {k : Slot} {b : Born} {path argv : ℕ} (from : TestingStep)
     held = refl;
     unborne = refl;
     stands =
-        no_header size h.words h.header h.answer (found_told (spawn_words (no_image fd)) h.found) h.of_file
+        no_header size h.words h.header h.answer (found_told (spawn_words (no_image fd)) h.found) h.of_file h.come
         (inr (failed_some (header_tests size (slice_index h.header)) fails)) refl;
   }
 
@@ -51,7 +51,7 @@ module _ {v : View} {k : Slot} {b : Born} {path argv : ℕ} (from : TestingStep)
     held = refl;
     unborne = refl;
     stands =
-        no_table size h.words h.header h.table h.answer (found_told (spawn_words (no_image fd)) h.found) h.of_file
+        no_table size h.words h.header h.table h.answer (found_told (spawn_words (no_image fd)) h.found) h.of_file h.come
         (inr (subst (λ (n : ℕ). first_failed (table_tests size (headers_in h.table) n) ≢ None) h.many
         (failed_some (table_tests size (headers_in h.table) headers) fails))) refl;
   }

@@ -18,10 +18,10 @@ use Rattle.lib_stage.specs.ServiceSteps.{ServiceHolds}
 use Rattle.lib_image.specs.declared.stage.ImageStage.TheVariants as stage
 use Rattle.lib_image.specs.ImageStages.{imaging}
 use Rattle.lib_image.specs.TestingStages.{word_place}
-use Rattle.lib_image.proofs.HeaderGoes.{class_goes, count_goes, entry_point_goes, length_goes, magic_goes, table_goes}
-use Rattle.lib_image.proofs.HeaderGoes as header
+use Rattle.lib_image.proofs.HeaderGoes.{class_goes, count_goes, entry_point_goes, magic_goes, table_goes}
+use Rattle.lib_image.proofs.HeaderGoes as of_header
 use Rattle.lib_image.proofs.SegmentGoes.{address_goes, memory_goes, offset_goes, other_address_goes, other_kind_goes, other_memory_goes}
-use Rattle.lib_image.proofs.SegmentGoes as segment
+use Rattle.lib_image.proofs.SegmentGoes as of_segment
 use Rattle.lib_image.proofs.TestingCopies.{copy_loads, table_storing_holds}
 use Rattle.lib_image.proofs.TestingLoads.{header_loads, load_holds, segment_loads}
 
@@ -66,7 +66,7 @@ module _ (s : KernelState) (n path argv : ℕ) (live : is_live (slot_at s n) ≡
       (λ v k b h. header_loads (testing.HeaderClass esp fd size) h.has EI_CLASS (omega arith) refl (class_goes h))
   testing_holds (testing.HeaderKind esp fd size) stands =
       load_holds s n path argv live (testing.HeaderKind esp fd size) stands (UTEMP + E_TYPE)
-      (λ v k b h. header_loads (testing.HeaderKind esp fd size) h.has E_TYPE (omega arith) refl (header.kind_goes h))
+      (λ v k b h. header_loads (testing.HeaderKind esp fd size) h.has E_TYPE (omega arith) refl (of_header.kind_goes h))
   testing_holds (testing.HeaderEntryPoint esp fd size) stands =
       load_holds s n path argv live (testing.HeaderEntryPoint esp fd size) stands (UTEMP + E_ENTRY)
       (λ v k b h. header_loads (testing.HeaderEntryPoint esp fd size) h.has E_ENTRY (omega arith) refl (entry_point_goes h))
@@ -76,7 +76,7 @@ module _ (s : KernelState) (n path argv : ℕ) (live : is_live (slot_at s n) ≡
   testing_holds (testing.HeaderLength esp fd size entry_point place) stands =
       load_holds s n path argv live (testing.HeaderLength esp fd size entry_point place) stands (UTEMP + 40)
       (λ v k b h. header_loads (testing.HeaderLength esp fd size entry_point place) h.0.has 40 (omega arith) refl
-      (header.length_goes entry_point place h.0 h.1 h.2))
+      (of_header.length_goes entry_point place h.0 h.1 h.2))
   testing_holds (testing.HeaderCount esp fd size entry_point place) stands =
       load_holds s n path argv live (testing.HeaderCount esp fd size entry_point place) stands (UTEMP + E_PHNUM)
       (λ v k b h. header_loads (testing.HeaderCount esp fd size entry_point place) h.0.has E_PHNUM (omega arith) refl
@@ -90,7 +90,7 @@ module _ (s : KernelState) (n path argv : ℕ) (live : is_live (slot_at s n) ≡
       load_holds s n path argv live (testing.SegmentKind esp fd size entry_point headers header) stands
       (SPAWN_GIVEN + PHDR_LEN * (header % SEGMENT_MAX) + P_TYPE)
       (λ v k b h. segment_loads (testing.SegmentKind esp fd size entry_point headers header) h header (omega arith) P_TYPE (omega arith) refl
-      (headers_in h.so.table header).kind (kind_at h.so.table header) (segment.kind_goes v k b path argv esp fd size entry_point headers header h))
+      (headers_in h.so.table header).kind (kind_at h.so.table header) (of_segment.kind_goes v k b path argv esp fd size entry_point headers header h))
   testing_holds (testing.SegmentMemory esp fd size entry_point headers header) stands =
       load_holds s n path argv live (testing.SegmentMemory esp fd size entry_point headers header) stands
       (SPAWN_GIVEN + PHDR_LEN * (header % SEGMENT_MAX) + P_MEMSZ)
@@ -109,7 +109,7 @@ module _ (s : KernelState) (n path argv : ℕ) (live : is_live (slot_at s n) ≡
       (λ v k b h. let it = h.testing_it in
       segment_loads (testing.SegmentLength esp fd size entry_point headers header va memory) it header (omega arith) P_FILESZ (omega arith) refl
       (headers_in it.so.table header).file_len (length_at it.so.table header)
-      (segment.length_goes v k b path argv esp fd size entry_point headers header memory va h))
+      (of_segment.length_goes v k b path argv esp fd size entry_point headers header memory va h))
   testing_holds (testing.SegmentOffset esp fd size entry_point headers header va memory length) stands =
       load_holds s n path argv live (testing.SegmentOffset esp fd size entry_point headers header va memory length) stands
       (SPAWN_GIVEN + PHDR_LEN * (header % SEGMENT_MAX) + P_OFFSET)

@@ -1,5 +1,5 @@
 -- Lists of tests by the first that fails, and lists of bytes that are copied word by word.
-use Rattle.std.proofs.Common.{◌≡◌, ◌≢◌, ◌∙◌, ◌+◌, ◌≤◌, ◌++◌, ℕ, true, false, List, ◌∷◌, [], length, None, Option, Some, refl, sym, ap, true≢false, arith}
+use Rattle.std.proofs.Common.{◌≡◌, ◌≢◌, ◌∙◌, ◌+◌, ◌≤◌, ◌++◌, ℕ, true, false, List, ◌∷◌, [], length, None, Option, sym, ap, true≢false, arith}
 use Rattle.std.specs.Int.{w32, from_le_bytes, to_le_bytes}
 use Rattle.std.specs.Prelude.{drop, is_none, slice_index, take}
 use Rattle.std.proofs.lemmas.List.{get_or-drop, length-drop, length-take-le}

@@ -1,5 +1,5 @@
 -- The law of spawn at a test, by the word that it loads from a page of its own.
-use Rattle.std.proofs.Common.{◌≡◌, ◌∙◌, ◌+◌, ◌*◌, ◌%◌, ◌≤◌, ◌<◌, inl, ℕ, List, length, true, refl, ap, subst, arith}
+use Rattle.std.proofs.Common.{◌≡◌, ◌∙◌, ◌+◌, ◌*◌, ◌%◌, ◌≤◌, inl, ℕ, List, length, true, refl, ap, subst, arith}
 use Rattle.std.specs.Prelude.{slice_index}
 use Rattle.jos_base.specs.declared.numbers.TheConstants.{PGSIZE, SEGMENT_MAX, UTEMP}
 use Rattle.jos_base.specs.Environments.{Slot, is_live}

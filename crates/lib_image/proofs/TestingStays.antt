@@ -1,5 +1,5 @@
 -- What spawn knows of the headers of its file stays so as its words tell another step, and as bytes are put into the page of the program headers.
-use Rattle.std.proofs.Common.{◌≡◌, ◌≢◌, ◌∙◌, ◌+◌, ℕ, List, ap, arith}
+use Rattle.std.proofs.Common.{◌≢◌, ◌∙◌, ℕ, List, ap, arith}
 use Rattle.jos_base.specs.Environments.{Slot}
 use Rattle.jos_base.specs.Words.{page_number}
 use Rattle.lib_os.specs.declared.numbers.TheConstants.{SPAWN_GIVEN}
@@ -34,6 +34,7 @@ module _ {v : View} {k : Slot} {b : Born} {path argv : ℕ} (words : List ℕ) w
     header = h.header;
     answer = h.answer;
     found = found_told words h.found;
+    come = h.come;
     stack = h.stack;
     of_file = h.of_file;
     sized = h.sized;
@@ -50,6 +51,7 @@ module _ {v : View} {k : Slot} {b : Born} {path argv : ℕ} (words : List ℕ) w
     table = h.table;
     answer = h.answer;
     found = found_told words h.found;
+    come = h.come;
     stack = h.stack;
     of_file = h.of_file;
     entry_point_is = h.entry_point_is;
@@ -105,6 +107,7 @@ module _ {v w : View} {at : ℕ} {bytes : List ℕ} (put : IsPutIn v w (page_num
     table = h.table;
     answer = h.answer;
     found = h.found;
+    come = h.come;
     stack = stack_beside h.stack;
     of_file = file_beside h.of_file;
     entry_point_is = h.entry_point_is;

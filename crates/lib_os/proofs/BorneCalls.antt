@@ -1,24 +1,30 @@
 -- What the calls come to that an environment makes for the child that it bears: it finds the child by its id, and only the child's slot is another after it, or
--- the child is gone.
-use Rattle.std.proofs.Common.{◌≡◌, ◌≢◌, ◌∙◌, ◌==◌, ◌%◌, ℕ, true, false, List, [], ◌∷◌, Some, refl, sym, ap, arith}
+-- the child is gone; or a page is made for it, or mapped there.
+use Rattle.std.proofs.Common.{◌≡◌, ◌≢◌, ◌∙◌, ◌==◌, ◌%◌, ◌⊎◌, inl, inr, ℕ, true, false, List, [], ◌∷◌, Option, Some, None, refl, sym, ap, arith}
 use Rattle.std.proofs.lemmas.Bool.Decides.{nat_tests}
+use Rattle.jos_base.specs.declared.called.Called.{Called}
 use Rattle.jos_base.specs.declared.called.Called.TheVariants.{Answered}
 use Rattle.jos_base.specs.declared.environment.Status.TheVariants.{Runnable}
 use Rattle.jos_base.specs.declared.numbers.TheConstants.{ENV_RUNNABLE, FIRST_ENV_ID, NENV, SYS_ENV_DESTROY, SYS_ENV_SET_PGFAULT_UPCALL, SYS_ENV_SET_STATUS}
+use Rattle.jos_base.specs.declared.numbers.TheConstants.{SYS_PAGE_ALLOC, SYS_PAGE_MAP}
 use Rattle.jos_base.specs.declared.registers.Regs.{Regs}
 use Rattle.jos_base.specs.Environments.{Slot, found, free_slot, is_live}
 use Rattle.jos_base.specs.KernelState.{KernelState, slot_at, with_registers, with_slot_at, with_status, with_upcall}
-use Rattle.jos_base.specs.SpacesState.{destroyed}
-use Rattle.jos_base.specs.SystemCalls.{answered, call_of, without_environment}
+use Rattle.jos_base.specs.Reach.{Entry}
+use Rattle.jos_base.specs.SpacesState.{SpacesState, allocated, destroyed, inserted}
+use Rattle.jos_base.specs.SystemCalls.{answered, answered_with, call_of, entry_at, inserted_at, is_page_address, is_page_perm, second_of, shared_entry}
+use Rattle.jos_base.specs.SystemCalls.{without_environment}
+use Rattle.jos_base.specs.Words.{page_number}
 use Rattle.lib_os.specs.AbstractState.{AbstractState, Born, born, serving, unborn}
 use Rattle.lib_os.specs.Places.{place_of}
 use Rattle.lib_os.specs.Rows.{Names}
 use Rattle.lib_os.specs.StandsFor.{StandsFor, borne_in}
-use Rattle.lib_os.specs.UserCalls.{asking, called_by, giving, system}
+use Rattle.lib_os.specs.UserCalls.{CallStep, asking, called_by, giving, system}
 use Rattle.lib_os.proofs.BearsOn.{bearer_named, borne_apart, borne_is, borne_lives, borne_own}
-use Rattle.lib_os.proofs.Calls.{system_is}
+use Rattle.lib_os.proofs.Calls.{PageMade, PageRefused, made_is, made_step, system_is}
 use Rattle.lib_os.proofs.ChildCalls.{found_child}
 use Rattle.lib_os.proofs.ChildRuns.{child_runs_is}
+use Rattle.lib_os.proofs.PassedOn.{page_map_to_child}
 use Rattle.lib_os.proofs.Sends.{other_is}
 use Rattle.lib_os.proofs.Slots.{slot_kept, slots_alike}
 use Rattle.lib_os.proofs.SlotsStand.{born_at, born_live}
@@ -69,6 +75,58 @@ module _ {names : Names} {s : KernelState} {a : AbstractState} (h : StandsFor na
   borne_runs_is rest =
       child_runs_is s n id live borne_some (borne_apart h n id b is bears) (borne_lives h n id b is bears) (borne_own h n id b is bears).id_is
       borne_owned rest
+
+  -- page_alloc(id, va, perm)
+  module _ (va perm : ℕ) (rest : List ℕ) (address : is_page_address va ≡ true) (permitted : is_page_perm perm ≡ true) where
+    abbrev page_asked : CallStep Called
+    page_asked = system s n SYS_PAGE_ALLOC (id ∷ va ∷ perm ∷ rest)
+
+    page_is : page_asked ≡ made_step s (second_of (allocated s.spaces (slot_at s m).directory (page_number va) perm))
+    unfolding call_of
+    page_is =
+        let q : Regs = asking (slot_at s n).registers SYS_PAGE_ALLOC (id ∷ va ∷ perm ∷ rest) in
+        let k : KernelState = with_registers s n q in
+        system_is s n SYS_PAGE_ALLOC (id ∷ va ∷ perm ∷ rest)
+        (answered_with k n (second_of (allocated k.spaces (slot_at k m).directory (page_number va) perm))) refl
+        (rw (borne_found q, address, permitted) refl)
+        ∙ made_is s n live q (second_of (allocated k.spaces (slot_at k m).directory (page_number va) perm))
+        ∙ ap (λ (x : Slot). made_step s (second_of (allocated s.spaces x.directory (page_number va) perm))) (kept q)
+
+    pub borne_page_made_or_refused : PageMade s (id % NENV) va perm (system s n SYS_PAGE_ALLOC (id ∷ va ∷ perm ∷ rest))
+        ⊎ PageRefused s (id % NENV) va perm (system s n SYS_PAGE_ALLOC (id ∷ va ∷ perm ∷ rest))
+    borne_page_made_or_refused = by_found (allocated s.spaces (slot_at s m).directory (page_number va) perm) refl
+      where
+        by_found : (o : Option (ℕ × SpacesState)) → allocated s.spaces (slot_at s m).directory (page_number va) perm ≡ o →
+            PageMade s m va perm page_asked ⊎ PageRefused s m va perm page_asked
+        by_found None e = inr (record { is = e; step = page_is ∙ ap (λ f. made_step s (second_of f)) e })
+        by_found (Some f) e = inl (record {
+          frame = f.0;
+          spaces = f.1;
+          is = e;
+          step = page_is ∙ ap (λ f. made_step s (second_of f)) e;
+        })
+
+  -- page_map(0, from, id, to, perm), by the entry that is given on
+  module _ (from to perm : ℕ) (e : Entry) (from_address : is_page_address from ≡ true) (to_address : is_page_address to ≡ true) where
+    pub borne_map_is : shared_entry (entry_at s n from) perm ≡ Some e →
+        system s n SYS_PAGE_MAP (0 ∷ from ∷ id ∷ to ∷ perm ∷ []) ≡ made_step s (inserted_at s (id % NENV) to e)
+    borne_map_is given =
+        page_map_to_child s n id live (borne_apart h n id b is bears) borne_some (borne_lives h n id b is bears) (borne_own h n id b is bears).id_is
+        borne_owned from to perm e from_address to_address given
+
+    -- and page_map(id, from, id, to, perm)
+    pub borne_map_own_is : shared_entry (entry_at s (id % NENV) from) perm ≡ Some e →
+        system s n SYS_PAGE_MAP (id ∷ from ∷ id ∷ to ∷ perm ∷ []) ≡ made_step s (inserted_at s (id % NENV) to e)
+    unfolding call_of
+    borne_map_own_is given =
+        let args : List ℕ = id ∷ from ∷ id ∷ to ∷ perm ∷ [] in
+        let q : Regs = asking (slot_at s n).registers SYS_PAGE_MAP args in
+        let k : KernelState = with_registers s n q in
+        let gives : shared_entry (entry_at k m from) perm ≡ Some e =
+        (λ i. shared_entry (s.spaces.entries (kept q i).directory (page_number from)) perm) ∙ given in
+        system_is s n SYS_PAGE_MAP args (answered_with k n (inserted_at k m to e)) refl (rw (borne_found q, from_address, to_address, gives) refl)
+        ∙ made_is s n live q (inserted_at k m to e)
+        ∙ (λ i. made_step s (inserted s.spaces (kept q i).directory (page_number to) e))
 
   -- env_destroy(id)
   module _ (rest : List ℕ) where

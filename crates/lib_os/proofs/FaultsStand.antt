@@ -1,7 +1,7 @@
 -- A page fault of a program, or of a service that moves bytes to or from the program's memory, is handed to the library's handler: the
 -- frame is written to the top of the handler's stack, and the handler stands at its first step. The state stands for the abstract one where
 -- the page waits to be copied, or where a service stands before the access; else for that in which the program is marked with its fault.
-use Rattle.std.proofs.Common.{◌≡◌, ◌≢◌, ◌∙◌, ◌==◌, ◌||◌, ◌<◌, ◌+◌, ◌-◌, ◌*◌, ◌^◌, ℕ, zero, suc, not, Bool, true, false}
+use Rattle.std.proofs.Common.{◌≡◌, ◌≢◌, ◌∙◌, ◌==◌, ◌||◌, ◌<◌, ◌≤◌, ◌+◌, ◌-◌, ◌*◌, ◌^◌, ℕ, zero, suc, not, Bool, true, false}
 use Rattle.std.proofs.Common.{List, [], ◌∷◌, length, refl, sym, ap, subst, arith, if◌then◌else◌}
 use Rattle.std.specs.Prelude.{Option, Some, None, Ok, get_or, nat_lt, slice_index, bit_and}
 use Rattle.std.proofs.lemmas.Bool.{false≢true}

@@ -16,7 +16,6 @@ use Rattle.lib_os.specs.declared.spawn_steps.SpawnStep.TheVariants as spawn
 use Rattle.lib_os.specs.AbstractMemory.{page_allows, page_at, page_fault}
 use Rattle.lib_os.specs.AbstractState.{AbstractState, Born}
 use Rattle.lib_os.specs.InOrder.{IsInOrder}
-use Rattle.lib_os.specs.LibraryPages.{View}
 use Rattle.lib_os.specs.LibrarySteps.{copies_left, copy_steps, given_steps_left, hidden_left, left_at, spawn_counts_copies}
 use Rattle.lib_os.specs.Places.{place_of}
 use Rattle.lib_os.specs.Rows.{Names, rows_of}
@@ -48,17 +47,17 @@ module _ {names : Names} {s : KernelState} {a : AbstractState} (h : StandsFor na
   abbrev there : Place
   there = spawns_at path argv (spawn.Given at)
 
-  is : IsServed names s a n (service.Spawn path argv) (step.Spawning (spawn.Given at))
-  is = spawn_there h n path argv (spawn.Given at) stands
+  abbrev served_there : IsServed names s a n (service.Spawn path argv) (step.Spawning (spawn.Given at))
+  served_there = spawn_there h n path argv (spawn.Given at) stands
 
-  plain : is_plain there ≡ true
+  pub plain : is_plain (spawns_at path argv (spawn.Given at)) ≡ true
   plain = unborne_plain there refl refl refl
 
   abbrev fault : PageFault
   fault = page_fault (page_at b va) va Read
 
   forbids : page_allows (page_at b va) Read ≡ false
-  forbids = entry_forbids h n b is.is va stopping.inside false refuses
+  forbids = entry_forbids h n b served_there.is va stopping.inside false refuses
 
   abbrev pub given_stopped_after : KernelState
   given_stopped_after =
@@ -67,24 +66,24 @@ module _ {names : Names} {s : KernelState} {a : AbstractState} (h : StandsFor na
       (page_fault (page_at (spawn_there h n path argv (spawn.Given at) stands).b va) va Read)
 
   pub given_stopped : load_byte s n va ≡ handing given_stopped_after
-  given_stopped = load_byte_faults h n b is.is there stands refl plain refl fault va (user_refuses names s a n b h is.is va stopping.inside Read forbids)
+  given_stopped = load_byte_faults h n b served_there.is there stands refl plain refl fault va (user_refuses names s a n b h served_there.is va stopping.inside Read forbids)
 
   pub given_stopped_stands : AreSmall (slot_at s n).registers → IsInOrder given_stopped_after → s.last ≡ Some n → StandsFor names given_stopped_after a
   given_stopped_stands small in_order last =
-      fault_stops h n b is.is there stands refl plain refl fault small stopping.inside (error_small false (page_at b va))
-      (user_refusal names s a n b h is.is va stopping.inside Read forbids) stopping.eax stopping.program stopping.silent stopping.awake
+      fault_stops h n b served_there.is there stands refl plain refl fault small stopping.inside (error_small false (page_at b va))
+      (user_refusal names s a n b h served_there.is va stopping.inside Read forbids) stopping.eax stopping.program stopping.silent stopping.awake
       (subst (λ (t : Bool). IsStoppedAt t (view_of s.spaces (slot_at s n).directory) b va (slot_at s n).registers.eip)
       (sym (refused_error false (page_at b va))) (stopping.stopped (slot_at s n).registers.eip))
       in_order last
 
-  pub given_stopped_lowers : hidden_left given_stopped_after n < hidden_left s n
-  given_stopped_lowers = stops_lower h n b is.is there stands refl plain refl fault enough
-    where
-      abbrev waiting : ℕ
-      waiting = copies_left (rows_of s.spaces (slot_at s n).directory)
+  abbrev waiting : ℕ
+  waiting = copies_left (rows_of s.spaces (slot_at s n).directory)
 
-      enough : 2066 + copy_steps * waiting ≤ left_at there waiting
-      enough =
-          let few = copies_behind at faults in
-          let counted = ap (λ (c : Bool). given_steps_left at + (if c then copy_steps * waiting else 0)) faults in
-          omega (arith, few, counted)
+  enough : 2066 + copy_steps * waiting ≤ left_at there waiting
+  enough =
+      let few = copies_behind at faults in
+      let counted = ap (λ (c : Bool). given_steps_left at + (if c then copy_steps * waiting else 0)) faults in
+      omega (arith, few, counted)
+
+  pub given_stopped_lowers : hidden_left given_stopped_after n < hidden_left s n
+  given_stopped_lowers = stops_lower h n b served_there.is there stands refl plain refl fault enough

@@ -4,7 +4,6 @@ pub mod SlotsSet
 pub mod SpawnTells
 pub mod WordsTell
 pub mod DescriptorWords
-pub mod BuiltServices
 pub mod Serving
 pub mod Answering
 pub mod Listed
@@ -211,7 +210,17 @@ pub mod SpawnRefuses
 pub mod BearsOn
 pub mod SpawnedGoes
 pub mod SpawnedMoves
+pub mod SpawnedTurns
 pub mod BorneCalls
 pub mod SpawnDestroys
 pub mod SpawnDrops
+pub mod SpawnUndoes
+pub mod SpawnCopies
+pub mod SpawnReleases
+pub mod SpawnCloses
+pub mod SpawnGivesChild
+pub mod SpawnReadies
+pub mod SpawnPasses
 pub mod SpawnedProgress
+pub mod ChildPlaced
+pub mod SpawnBegun

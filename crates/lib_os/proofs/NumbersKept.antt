@@ -106,7 +106,7 @@ working_kept s after n others copies then_so live a h m b ne at lives =
     let space = copies live a h m b ne at in
     ap (λ (d : ℕ). rows_of after.spaces d (page_number UTEMP)) kept.directory ∙ space.working
 
-kept_in : (Q : ℕ → Type 0) (s t : SpacesState) (d : ℕ) → Q d → NoMoreWait Q s t → SpaceKept d s t
+pub kept_in : (Q : ℕ → Type 0) (s t : SpacesState) (d : ℕ) → Q d → NoMoreWait Q s t → SpaceKept d s t
 kept_in Q s t d here wait = record {
   fewer = no_more_copies (rows_of s d) (rows_of t d) (λ p waits. wait.waited d p here waits);
   working = wait.working d here;

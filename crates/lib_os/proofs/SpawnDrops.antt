@@ -83,6 +83,10 @@ module _ {names : Names} {s : KernelState} {a : AbstractState} (h : StandsFor na
 
 -- ---- its page is gone
 
+-- spawn without its descriptor, as it has found out something else, and is at another stage
+abbrev pub file_gone : Born → ℕ → ℕ → ℕ → Spawning → Stage → Born
+file_gone b path argv fd found stage = record (with_descriptor b fd None) { phase = in_service (service.Spawn path argv) stage; spawning = Some found }
+
 module _ {names : Names} {s : KernelState} {a : AbstractState} {sp : SpacesState} (h : StandsFor names s a) (n path argv : ℕ) (from to : SpawnStep)
     (stands : place_of (slot_at s n) ≡ spawns_at path argv from) (fd : ℕ) (below : fd < DESCRIPTORS)
     (removed : Removed s.spaces sp (slot_at s n).directory (descriptor_page fd)) (alone : rows_of s.spaces (slot_at s n).directory (pipe_page fd) ≡ None)
@@ -98,8 +102,8 @@ module _ {names : Names} {s : KernelState} {a : AbstractState} {sp : SpacesState
   abbrev is : a.slots n ≡ born b
   is = at_file.is
 
-  abbrev pub without_file : Born
-  without_file = record (with_descriptor b fd None) { phase = in_service (service.Spawn path argv) stage; spawning = Some found }
+  abbrev without_file : Born
+  without_file = file_gone b path argv fd found stage
 
   abbrev home : ℕ
   home = (slot_at s n).directory

@@ -65,8 +65,7 @@ piece_long done end file_len some end_is begins = by_room (nat_le (done + TRANSF
 -- It is the first of those that are left.
 pub next_piece : (image : ImageRead) (header done end : ℕ) → IsNextPiece image header done end →
     (rest : List Piece) × (pieces_behind image header done ≡ record { at = (headers_in image.table header).file_at + done; len = end - done } ∷ rest)
-next_piece image header done end next =
-    (it.0, rw next.loaded (ap (λ (k : ℕ). drop k (pieces_of segment) ++ more) up ∙ it.1 ∙ (λ i. record { at = at_is i; len = long_is i } ∷ it.0)))
+next_piece image header done end next = (it.0, rw next.loaded (it.1 ∙ (λ i. record { at = at_is i; len = long_is i } ∷ it.0)))
   where
     segment : Segment
     segment = segment_of (headers_in image.table header)
@@ -76,11 +75,12 @@ next_piece image header done end next =
         flat_map (λ n. rest_of (headers_in image.table) n 0)
         (rising (header + 1) (entry_count_of (slice_index image.header) - (header + 1)))
 
-    up : (done + (TRANSFER_MAX - 1)) / TRANSFER_MAX ≡ done / TRANSFER_MAX
-    up = let begins = next.begins in omega (arith, begins)
+    -- its number
+    number : ℕ
+    number = (done + (TRANSFER_MAX - 1)) / TRANSFER_MAX
 
-    first : 0 + done / TRANSFER_MAX ≡ done / TRANSFER_MAX
-    first = omega arith
+    number_is : 0 + number ≡ done / TRANSFER_MAX
+    number_is = let begins = next.begins in omega (arith, begins)
 
     most : end ≤ (headers_in image.table header).file_len
     most = by_room (nat_le (done + TRANSFER_MAX) (headers_in image.table header).file_len) refl
@@ -93,20 +93,19 @@ next_piece image header done end next =
             let past : (headers_in image.table header).file_len < done + TRANSFER_MAX = grind (arith, nat_tests, test) in
             let all = next.end_is ∙ min-eq_right (omega (arith, past)) in omega (arith, all)
 
-    within : done / TRANSFER_MAX < ((headers_in image.table header).file_len + (TRANSFER_MAX - 1)) / TRANSFER_MAX
+    within : number < ((headers_in image.table header).file_len + (TRANSFER_MAX - 1)) / TRANSFER_MAX
     within = let some = next.some in let room = most in let begins = next.begins in omega (arith, some, room, begins)
 
     it : (rest : List Piece)
-        × (drop (done / TRANSFER_MAX) (pieces_of segment) ++ more ≡ piece_of segment (0 + done / TRANSFER_MAX) ∷ rest)
-    it =
-        front_behind (piece_of segment) 0 ((segment.file_len + (TRANSFER_MAX - 1)) / TRANSFER_MAX) (done / TRANSFER_MAX) more within
+        × (drop number (pieces_of segment) ++ more ≡ piece_of segment (0 + number) ∷ rest)
+    it = front_behind (piece_of segment) 0 ((segment.file_len + (TRANSFER_MAX - 1)) / TRANSFER_MAX) number more within
 
-    at_is : segment.file_at + TRANSFER_MAX * (0 + done / TRANSFER_MAX) ≡ segment.file_at + done
-    at_is = let begins = next.begins in omega (arith, begins)
+    at_is : segment.file_at + TRANSFER_MAX * (0 + number) ≡ segment.file_at + done
+    at_is = let begins = next.begins in let same = number_is in omega (arith, begins, same)
 
-    long_is : min TRANSFER_MAX (segment.file_len - TRANSFER_MAX * (0 + done / TRANSFER_MAX)) ≡ end - done
+    long_is : min TRANSFER_MAX (segment.file_len - TRANSFER_MAX * (0 + number)) ≡ end - done
     long_is =
-        ap (λ (k : ℕ). min TRANSFER_MAX (segment.file_len - TRANSFER_MAX * k)) first
+        ap (λ (k : ℕ). min TRANSFER_MAX (segment.file_len - TRANSFER_MAX * k)) number_is
         ∙ piece_long done end segment.file_len next.some next.end_is next.begins
 
 next_long : (image : ImageRead) (header done end : ℕ) → IsNextPiece image header done end → first_len (pieces_behind image header done) ≡ end - done
@@ -179,7 +178,7 @@ none_long (byte ∷ rest) none = absurd (omega (arith, none))
 abbrev pub spawn_replied_born : Born → ℕ → ℕ → List ℕ → ℕ → Born
 spawn_replied_born b path argv bytes answer = record b { phase = in_service (service.Spawn path argv) (replied bytes answer); blocked = false }
 
-pub for_again : {v : View} {b : Born} (after : Born) → after.spawning ≡ b.spawning → (wanted : FilePart) (count : ℕ) → IsFor v b wanted count →
+for_again : {v : View} {b : Born} (after : Born) → after.spawning ≡ b.spawning → (wanted : FilePart) (count : ℕ) → IsFor v b wanted count →
     IsFor v after wanted count
 for_again after same _ _ (for_header esp fd size words found sized stack long) = for_header esp fd size words (same ∙ found) sized stack long
 for_again after same _ _ (for_table esp fd size entry_point headers place words header found sized stack begins many few) =

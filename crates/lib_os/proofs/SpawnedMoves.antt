@@ -20,7 +20,7 @@ use Rattle.lib_os.specs.DescriptorPages.{lock_of}
 use Rattle.lib_os.specs.InOrder.{IsInOrder}
 use Rattle.lib_os.specs.PipeEnds.{EndsStandAt, LocksStand, locked_at}
 use Rattle.lib_os.specs.Places.{place_of}
-use Rattle.lib_os.specs.Rows.{EntryRow, Names, counted, is_of_descriptor, is_pipe_page, is_shared, logical, pipe_page, rows_of}
+use Rattle.lib_os.specs.Rows.{EntryRow, Names, counted, descriptor_page, is_of_descriptor, is_pipe_page, is_shared, logical, pipe_page, rows_of}
 use Rattle.lib_os.specs.SpawnedChild.{spawning_child}
 use Rattle.lib_os.specs.SpawnPages.{has_given_stack, is_childs, keeps_here}
 use Rattle.lib_os.specs.StandsFor.{StandsFor, StandsForSlot, StandsForBorn, StandsForUnborn, IsBorneBy, by_spawn, borne_in, things_in}
@@ -34,7 +34,7 @@ use Rattle.lib_os.proofs.Serving.{words_of_none}
 use Rattle.lib_os.proofs.Slots.{slot_back, upd-back}
 use Rattle.lib_os.proofs.SlotsStand.{CountsKept, SeenAlike, but_pipes, slot_stands, live_stands, born_live}
 use Rattle.lib_os.proofs.SpawnedGoes.{HasOfImage, IsSpawner, same_born, spawned_child, went_place}
-use Rattle.lib_os.proofs.SpawnOwnPages.{spawn_words, spawns_at}
+use Rattle.lib_os.proofs.SpawnOwnPages.{spawn_there, spawn_words, spawns_at}
 use Rattle.lib_os.proofs.StatesStand.{Settles, tabled_set, born_not_first, clients_live, ends_at, server_alike, server_same, slot_in_order, turns_settle}
 use Rattle.jos_base.proofs.Maps.{upd-at, upd-other}
 
@@ -44,12 +44,26 @@ pipe_is : (fd : ℕ) → fd < DESCRIPTORS →
     (is_pipe_page (pipe_page fd) ≡ true) × (is_of_descriptor (pipe_page fd) ≡ true) × (pipe_page fd ≢ page_number PFTEMP)
 pipe_is fd below = (grind (arith, nat_tests), grind (arith, nat_tests), (λ same. omega (arith, same)))
 
+pub descriptor_page_is : (fd : ℕ) → fd < DESCRIPTORS → is_of_descriptor (descriptor_page fd) ≡ true
+descriptor_page_is fd below = grind (arith, nat_tests)
+
 -- a descriptor's page is none of the child's that stand here
 pub descriptor_mine : (at : SpawnStep) (p : ℕ) → is_of_descriptor p ≡ true → is_childs at p ≡ false
 descriptor_mine at p is =
     let here : (p == page_number SPAWN_HERE) ≡ false = grind (arith, nat_tests, is) in
     let stack : (p == page_number SPAWN_STACK) ≡ false = grind (arith, nat_tests, is) in
     (λ i. (here i && keeps_here at) || (stack i && has_given_stack at))
+
+-- so that it counts as it stands
+pub descriptor_counts : {names : Names} {s : KernelState} {a : AbstractState} (h : StandsFor names s a) (n path argv : ℕ) (at : SpawnStep)
+    (stands : place_of (slot_at s n) ≡ spawns_at path argv at) (fd : ℕ) → fd < DESCRIPTORS →
+    logical s.spaces s.environments.slots n (descriptor_page fd) ≡ rows_of s.spaces (slot_at s n).directory (descriptor_page fd)
+descriptor_counts {s = s} h n path argv at stands fd below =
+    let it = spawn_there h n path argv at stands in
+    logical_live s.spaces s.environments.slots n (clients_live h n it.b it.is) (descriptor_page fd)
+    ∙ ap (λ (q : Place). counted q (rows_of s.spaces (slot_at s n).directory) (descriptor_page fd)) stands
+    ∙ counted_elsewhere (spawns_at path argv at) (rows_of s.spaces (slot_at s n).directory) (descriptor_page fd) (λ same. omega (arith, same))
+    (descriptor_mine at (descriptor_page fd) (descriptor_page_is fd below))
 
 -- ---- the two
 

@@ -53,29 +53,3 @@ is_built number = nat_le number SERVICE_SPAWN
 
 unfoldable pub service_of : Regs → Service
 service_of r = if is_built r.eax then named_service r else service.Unknown
-
--- the services of these numbers, and the answer to any other
-abbrev pub is_built_service : Service → Bool
-is_built_service service.Exit = true
-is_built_service (service.Cputs va len) = true
-is_built_service service.GetId = true
-is_built_service service.Yield = true
-is_built_service service.Fork = true
-is_built_service (service.Wait id) = true
-is_built_service (service.PageNew va flags) = true
-is_built_service (service.PageDrop va) = true
-is_built_service (service.Send id value va) = true
-is_built_service (service.Receive va from) = true
-is_built_service (service.OpenFile path mode) = true
-is_built_service (service.Close fd) = true
-is_built_service (service.Read fd va len) = true
-is_built_service (service.Write fd va len) = true
-is_built_service (service.Seek fd offset) = true
-is_built_service (service.Stat fd va) = true
-is_built_service (service.SetSize fd size) = true
-is_built_service (service.Remove path) = true
-is_built_service service.Sync = true
-is_built_service (service.Dup old new) = true
-is_built_service service.Pipe = true
-is_built_service (service.Spawn path argv) = true
-is_built_service service.Unknown = true

@@ -82,7 +82,7 @@ pub fn service_of(regs: &Regs) -> Service
     }
 }
 
-/// The service of a number in EAX, built or not.
+/// The service of a number in EAX.
 #[tactic(auto, unfolding(crate::specs::Services::named_service))]
 fn named_service(regs: &Regs) -> Service
     ensures { result ≡ services.named_service regs.now }

@@ -1,3 +1,4 @@
 pub mod StackPages
 pub mod Waits
 pub mod WaitLaw
+pub mod SpawnLaw
