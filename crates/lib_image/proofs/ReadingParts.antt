@@ -1,6 +1,6 @@
 -- What spawn has asked for as it reads a part of its file, and where it goes on behind the reply: where the part has come whole, it tests it or puts it into its child; and else it
 -- drops its file, or gives back its child.
-use Rattle.std.proofs.Common.{◌≡◌, ◌≢◌, ◌∙◌, inl, ◌+◌, ◌-◌, ◌*◌, ◌%◌, ◌^◌, ◌<◌, ◌≤◌, ◌==◌, ◌||◌, ◌++◌, ℕ, Bool, true, false, not, List, [], ◌∷◌, length, Option}
+use Rattle.std.proofs.Common.{◌≡◌, ◌≢◌, ◌∙◌, inl, ◌+◌, ◌-◌, ◌*◌, ◌%◌, ◌<◌, ◌≤◌, ◌==◌, ◌||◌, ◌++◌, ℕ, Bool, true, false, List, [], ◌∷◌, length, Option}
 use Rattle.std.proofs.Common.{None, Some, append-nil, append_assoc, refl, sym, ap, subst, arith, if◌then◌else◌}
 use Rattle.std.specs.Prelude.{min, nat_le, nat_lt, slice_index, take}
 use Rattle.std.proofs.Math.Nat.{min-eq_left}
@@ -10,7 +10,6 @@ use Rattle.jos_base.specs.declared.numbers.TheConstants.{NENV, SEGMENT_MAX, UTEM
 use Rattle.jos_base.specs.Environments.{Slot}
 use Rattle.jos_base.specs.Words.{negated, page_number}
 use Rattle.jos_elf.specs.declared.numbers.TheConstants.{E_NOT_EXEC, EHDR_LEN, PHDR_LEN}
-use Rattle.jos_elf.specs.Headers.{entry_count_of}
 use Rattle.jos_elf.specs.Tests.{first_failed, header_tests, table_tests}
 use Rattle.jos_elf.proofs.Tests.{table-none}
 use Rattle.lib_os.specs.declared.numbers.TheConstants.{TRANSFER_MAX}
@@ -30,7 +29,7 @@ use Rattle.lib_os.specs.FileServer.{is_count}
 use Rattle.lib_os.specs.LibraryPages.{View}
 use Rattle.lib_os.specs.Rows.{AreBytes}
 use Rattle.lib_os.specs.SpawnedChild.{Loads, bytes_replied, is_closed, is_loading, spawning_child}
-use Rattle.lib_os.specs.StandsAtSpawn.{Found, GivenHas, HasHeaders, HasPieces, IsBefore, IsFor, IsIn, IsNextPiece, PageHas, StandsAtSpawn, and_last, before_header}
+use Rattle.lib_os.specs.StandsAtSpawn.{Found, GivenHas, HasHeaders, HasPieces, IsBefore, IsFor, IsIn, PageHas, StandsAtSpawn, and_last, before_header}
 use Rattle.lib_os.specs.StandsAtSpawn.{before_piece, before_table, for_header, for_piece, for_table, header_unread, is_error, is_short, no_header, no_table, none_yet}
 use Rattle.lib_os.specs.StandsAtSpawn.{piece_start, pieces_behind, table_unread}
 use Rattle.lib_os.proofs.Serving.{holds_page}
@@ -38,9 +37,8 @@ use Rattle.lib_os.proofs.SpawnedTurns.{KeepsBearing, LoadsOn, bears_none, bears_
 use Rattle.lib_os.proofs.SpawnOwnPages.{spawn_words, spawns_at}
 use Rattle.lib_os.proofs.SpawnReplies.{next_piece}
 use Rattle.lib_os.proofs.SpawnRequests.{found_before}
-use Rattle.lib_image.specs.ReadingStages.{is_whole, not_read, once_read, read_by, wanted}
+use Rattle.lib_image.specs.ReadingStages.{is_whole, not_read, once_read, wanted}
 use Rattle.lib_image.specs.SpawnNexts.{no_image}
-use Rattle.lib_image.specs.TestingStages.{segments_from, words_from}
 use Rattle.lib_image.proofs.OpeningStays.{in_moved}
 
 -- ---- what it asks for
