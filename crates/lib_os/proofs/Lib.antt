@@ -202,7 +202,6 @@ pub mod SpawnOwnPages
 pub mod SpawnTakesPages
 pub mod SpawnPagesTaken
 pub mod SpawnGathers
-pub mod SpawnedTurns
 pub mod SpawnAsks
 pub mod SpawnAwaits
 pub mod SpawnGivesBack
