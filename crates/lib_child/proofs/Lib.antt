@@ -11,3 +11,4 @@ pub mod RegisterGoes
 pub mod PagesPlaced
 pub mod BearingCalls
 pub mod PlacingPage
+pub mod MakingChild

@@ -282,7 +282,9 @@ module _ {names : Names} {s : KernelState} {a : AbstractState} (h : StandsFor na
   }
 
   abbrev SoAfter : Type 0
-  SoAfter = (w : View) → StandsAtSpawn w (slot_at s n) b path argv from → StandsAtSpawn w parent bearer path argv to
+  SoAfter =
+      (w : View) → w.row ≡ rows_of s.spaces (slot_at s n).directory → StandsAtSpawn w (slot_at s n) b path argv from →
+      StandsAtSpawn w parent bearer path argv to
 
   module _ (fresh_so : IsProgress (entry_count_of (slice_index image.header)) to fresh) (so : SoAfter) where
     mine : StandsForBorn names sp parent bearer
@@ -309,7 +311,7 @@ module _ {names : Names} {s : KernelState} {a : AbstractState} (h : StandsFor na
           stack = own.stack;
           flags = own.flags;
           at = subst (λ (p : Place). StandsAt p (view_of sp (slot_at s n).directory) parent bearer) (sym there)
-              (so (view_of sp (slot_at s n).directory) (subst (λ (p : Place). StandsAt p (view_of sp (slot_at s n).directory) (slot_at s n) b) stands own.at));
+              (so (view_of sp (slot_at s n).directory) (rows_kept (slot_at s n).directory) (subst (λ (p : Place). StandsAt p (view_of sp (slot_at s n).directory) (slot_at s n) b) stands own.at));
         }
 
     slots_stand : (j : ℕ) → StandsForSlot names sp (slots_after j) (abstract_after j)
