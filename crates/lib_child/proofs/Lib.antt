@@ -12,3 +12,6 @@ pub mod PagesPlaced
 pub mod BearingCalls
 pub mod PlacingPage
 pub mod MakingChild
+pub mod PutsAt
+pub mod HereSteps
+pub mod PieceLoads

@@ -121,9 +121,6 @@ own_entry names s d p bytes writes inside seen =
 
 -- ---- the page is mapped
 
-pub here_entry : Entry → Entry
-here_entry e = record { frame = e.frame; perm = own_perm }
-
 module _ {names : Names} {s : KernelState} {a : AbstractState} {sp : SpacesState} (h : StandsFor names s a) (n path argv id : ℕ) (from to : SpawnStep)
     (stands : place_of (slot_at s n) ≡ spawns_at path argv from) (bears : spawning_child from ≡ Some id) (bears_after : spawning_child to ≡ Some id)
     (p : ℕ) (aside : LiesAside p) (requests : keeps_request_page from ≡ keeps_request_page to)
@@ -196,7 +193,7 @@ module _ {names : Names} {s : KernelState} {a : AbstractState} {sp : SpacesState
       by_region true test = sym (ap (λ (q : ℕ). is_some (s.spaces.regions home q)) (eqb-true r (p / NPTENTRIES) test) ∙ table)
       by_region false test = refl
 
-  pub mapped_beside : IsBesidePage (view_of s.spaces (slot_at s n).directory) (view_of sp (slot_at s n).directory) p
+  mapped_beside : IsBesidePage (view_of s.spaces (slot_at s n).directory) (view_of sp (slot_at s n).directory) p
   mapped_beside = record {
     rows = row_beside;
     bytes = λ q x ne hx. puts.bytes home q x (λ same. ne) hx;
@@ -347,10 +344,11 @@ module _ {names : Names} {s : KernelState} {a : AbstractState} {sp : SpacesState
   pipe_descriptor : (q : ℕ) → is_pipe_page q ≡ true → is_of_descriptor q ≡ true
   pipe_descriptor q pipes = grind (arith, nat_tests, pipes)
 
-  pub here_stands : StandsAtSpawn (view_of sp (slot_at s n).directory) (record (slot_at s n) { extra = spawn_words to })
-      (spawn_there h n path argv from stands).b path argv to → StandsFor names (with_extra (with_spaces s sp) n (spawn_words to)) a
+  pub here_stands : (IsBesidePage (view_of s.spaces (slot_at s n).directory) (view_of sp (slot_at s n).directory) p →
+      StandsAtSpawn (view_of sp (slot_at s n).directory) (record (slot_at s n) { extra = spawn_words to }) (spawn_there h n path argv from stands).b path argv to) →
+      StandsFor names (with_extra (with_spaces s sp) n (spawn_words to)) a
   here_stands so =
-      spawning_moves h n path argv id from to b v bears_after sp (λ d not_mine not_childs. others d not_mine) (part so) has_still
+      spawning_moves h n path argv id from to b v bears_after sp (λ d not_mine not_childs. others d not_mine) (part (so mapped_beside)) has_still
       (rows_bytes sp.pages counted_bytes (rows_same before behind counts (rows_stand h))) order (others_counts h n last sp)
       (λ q pipes. row_beside q (λ same.
       let contradiction : true ≡ false = sym (pipe_descriptor q pipes) ∙ ap is_of_descriptor same ∙ aside.no_descriptor in cc))

@@ -224,3 +224,4 @@ pub mod SpawnPasses
 pub mod SpawnedProgress
 pub mod ChildPlaced
 pub mod SpawnBegun
+pub mod HereMoves
