@@ -255,6 +255,7 @@ module _ {names : Names} {s : KernelState} {a : AbstractState} {sp : SpacesState
         here_is = aside_here aside puts;
         there_is = child_row place_there ∙ there_is;
         own_page = own_there;
+        user = refl;
         same = refl;
       })
   stands_here q is false test = absurd (false≢true (sym (childs_after q (eqb-false q p test)) ∙ is))
