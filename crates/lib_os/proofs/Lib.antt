@@ -223,3 +223,4 @@ pub mod SpawnPasses
 pub mod SpawnedProgress
 pub mod ChildPlaced
 pub mod SpawnBegun
+pub mod HereMoves
