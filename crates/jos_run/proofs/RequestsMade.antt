@@ -271,16 +271,20 @@ module _ {names : Names} {s : KernelState} {a : AbstractState} (h : StandsFor na
     spawn_path : {name : List ℕ} → SpawnHasPath v name → HasPath page name
     spawn_path {name = name} it =
         let few = it.few in
-        let many = length-append name (0 ∷ []) in
         record {
           short = omega (arith, few);
-          bytes = λ k below.
-              byte_told it.kept.entry it.kept.stands k (omega (arith, below, few)) ∙ it.kept.same k (omega (arith, below, many))
-              ∙ get_or_append_left name (0 ∷ []) 0 k below;
-          ends = byte_told it.kept.entry it.kept.stands (length name) (omega (arith, few)) ∙ it.kept.same (length name) (omega (arith, many))
-              ∙ get_or_at name 0 [] 0 (length name) refl;
+          bytes = λ k below. told k (omega (arith, below)) ∙ get_or_append_left name (0 ∷ []) 0 k below;
+          ends = told (length name) (omega arith) ∙ get_or_at name 0 [] 0 (length name) refl;
           no_nul = no_end_within name it.no_end;
         }
+      where
+        told : (k : ℕ) → k ≤ length name → page k ≡ slice_index (name ++ 0 ∷ []) k
+        told k within =
+            let few = it.few in
+            let many = length-append name (0 ∷ []) in
+            let first : 0 + k ≡ k = omega arith in
+            byte_told it.kept.entry it.kept.stands k (omega (arith, within, few)) ∙ sym (ap (slice_index (v.bytes it.kept.entry.frame)) first)
+            ∙ it.kept.same k (omega (arith, within, many))
 
     file_made : {esp fd : ℕ} → (it : TellsFile v (slot_at s n) b path argv esp fd) →
         Asks a n (with_spawning b (opening it.ready.words)) spawns kind.Open page
