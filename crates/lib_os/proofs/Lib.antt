@@ -222,3 +222,5 @@ pub mod SpawnReadies
 pub mod SpawnPasses
 pub mod SpawnedProgress
 pub mod ChildPlaced
+pub mod SpawnHandsOn
+pub mod SpawnedImage
