@@ -202,6 +202,7 @@ pub mod SpawnOwnPages
 pub mod SpawnTakesPages
 pub mod SpawnPagesTaken
 pub mod SpawnGathers
+pub mod SpawnedTurns
 pub mod SpawnAsks
 pub mod SpawnAwaits
 pub mod SpawnGivesBack
@@ -209,7 +210,6 @@ pub mod SpawnRefuses
 pub mod BearsOn
 pub mod SpawnedGoes
 pub mod SpawnedMoves
-pub mod SpawnedTurns
 pub mod BorneCalls
 pub mod SpawnDestroys
 pub mod SpawnDrops
@@ -224,3 +224,4 @@ pub mod SpawnedProgress
 pub mod ChildPlaced
 pub mod SpawnHandsOn
 pub mod SpawnedImage
+pub mod SpawnBegun
