@@ -67,6 +67,7 @@ closed_with words h = record {
     is = h.found.is;
   };
   none_left = h.none_left;
+  tested = h.tested;
 }
 
 -- ---- the child at a lower page
