@@ -32,6 +32,7 @@ use Rattle.lib_os.proofs.SpawnCopies.{spawn_maps_copies}
 use Rattle.lib_os.proofs.SpawnHandsOn.{hander_stands, hander_tables, hands_is, hands_on}
 use Rattle.lib_os.proofs.SpawnOwnPages.{spawn_there, spawn_words, spawns_at}
 use Rattle.lib_os.proofs.SpawnPasses.{closed_with}
+use Rattle.lib_stage.specs.Asks.{performed}
 use Rattle.lib_stage.specs.ServiceSteps.{Plan, ServiceHolds, upshot_by}
 use Rattle.lib_stage.proofs.Laws.{FollowsBy, KeepsBy, knowingly, law_of_call}
 use Rattle.lib_fork.specs.ForkStages.{page_va}
@@ -134,6 +135,7 @@ module _ (s : KernelState) (n path argv : ℕ) (live : is_live (slot_at s n) ≡
           (λ in_order. (refl, (h.0, handed h.0 a h.1 turn.last sp in_order is))) order
 
   pub passing_page_holds : ServiceHolds s n (births (stage.Finishing (finishing.PassingPage child page perm)))
+  unfolding performed
   passing_page_holds =
       law_of_call s n plan (service.Spawn path argv) (step.Spawning from)
       (record {

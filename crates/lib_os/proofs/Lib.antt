@@ -225,3 +225,5 @@ pub mod ChildPlaced
 pub mod SpawnHandsOn
 pub mod SpawnedImage
 pub mod SpawnBegun
+pub mod BornOn
+pub mod SpawnBirths

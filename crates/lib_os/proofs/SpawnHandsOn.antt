@@ -145,7 +145,7 @@ module _ {names : Names} {s : KernelState} {a : AbstractState} (h : StandsFor na
   v : IsSpawner names s a n path argv from child b
   v = spawner h n path argv child from stands refl
 
-  stood : IsClosed (slot_at s n) b path argv child × (page < top) × IsPassing (view_of s.spaces home) page perm
+  abbrev stood : IsClosed (slot_at s n) b path argv child × (page < top) × IsPassing (view_of s.spaces home) page perm
   stood = it.at
 
   abbrev passed : IsPassing (view_of s.spaces home) page perm
@@ -246,7 +246,7 @@ module _ {names : Names} {s : KernelState} {a : AbstractState} (h : StandsFor na
           nowhere (v.child.none page outside descriptor (grind (arith, nat_tests, low)))
 
       by_sharing : (c : Bool) → is_shared x.perm ≡ c → is_shared x.perm ≡ false
-      by_sharing false own = own
+      by_sharing false off = off
       by_sharing true shared = absurd (by_place (is_programs page) (is_of_descriptor page) refl refl shared)
 
   -- ---- the page is the child's too

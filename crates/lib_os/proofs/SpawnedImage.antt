@@ -139,7 +139,7 @@ module _ (image : ImageRead) (file : List ℕ) where
             touches p segment ≡ false
         by_range (inl low) =
             by_test (touches p segment) refl
-            (λ on. let both = two _ _ on in
+            (λ on. let both = two (nat_lt segment.va ((p + 1) * PGSIZE)) (nat_lt (p * PGSIZE) (segment.va + segment.mem_len)) on in
             let first = both.0 in
             let second = both.1 in
             let begin = low.0 in
@@ -152,7 +152,7 @@ module _ (image : ImageRead) (file : List ℕ) where
             let contradiction : false ≡ true = sym outside ∙ inside in cc)
         by_range (inr high) =
             by_test (touches p segment) refl
-            (λ on. let both = two _ _ on in
+            (λ on. let both = two (nat_lt segment.va ((p + 1) * PGSIZE)) (nat_lt (p * PGSIZE) (segment.va + segment.mem_len)) on in
             let first = both.0 in
             let second = both.1 in
             let begin = high.0 in
