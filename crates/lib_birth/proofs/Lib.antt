@@ -4,3 +4,4 @@ pub mod DroppingSteps
 pub mod ReleasingSteps
 pub mod ReadyingSteps
 pub mod PassingSteps
+pub mod HandingSteps

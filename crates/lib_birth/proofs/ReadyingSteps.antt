@@ -1,8 +1,10 @@
 -- The law of spawn, whose child has its segments, as it gives the child the stack of its handler of page faults, and then the handler; and, when the child has its
 -- own stack, as it drops the descriptor of its file.
 use Rattle.std.proofs.Common.{◌≡◌, ◌⊎◌, inl, inr, ◌%◌, ◌==◌, ◌&&◌, ◌||◌, ℕ, Bool, true, false, List, [], ◌∷◌, refl, sym, ap, subst, arith}
+use Rattle.std.proofs.Math.Bool.{or-true}
 use Rattle.jos_base.specs.declared.called.Called.{Called}
 use Rattle.jos_base.specs.declared.numbers.TheConstants.{NENV, SYS_ENV_SET_PGFAULT_UPCALL, SYS_PAGE_ALLOC, SYS_PAGE_UNMAP}
+use Rattle.jos_base.specs.declared.registers.Regs.{Regs}
 use Rattle.jos_base.specs.Environments.{is_live}
 use Rattle.jos_base.specs.KernelState.{KernelState, slot_at}
 use Rattle.jos_base.specs.Words.{page_number}
@@ -36,7 +38,7 @@ use Rattle.lib_birth.specs.BirthStages.{births}
 use Rattle.lib_birth.proofs.BirthFalls.{stack_falls, upcall_falls}
 
 -- whoever is answered lives on
-pub lives_answered : {s : KernelState} {n : ℕ} {call : CallStep Called} → IsAnswered call n (slot_at s n).registers → LivesOn call n (slot_at s n).registers
+pub lives_answered : {n : ℕ} {call : CallStep Called} {regs : Regs} → IsAnswered call n regs → LivesOn call n regs
 lives_answered it = record { live = it.live; registers = it.registers; written = it.written }
 
 module _ (s : KernelState) (n path argv : ℕ) (live : is_live (slot_at s n) ≡ true) (fd child : ℕ) where
@@ -78,17 +80,13 @@ module _ (s : KernelState) (n path argv : ℕ) (live : is_live (slot_at s n) ≡
           stands = stands;
           live = live;
           numbered = refl;
-          plain = plainly (alloc_plain (child == 0));
+          plain = plainly (ap (λ (c : Bool). c && true) (or-true (child == 0)));
           goes_on = refl;
           falls = λ called. stack_falls path argv fd child (answer_of called);
           few = omega arith;
         })
         SYS_PAGE_ALLOC (child ∷ UXSTACK ∷ working_perm ∷ 0 ∷ 0 ∷ []) refl refl
         (lives_answered (alloc_answers s n live child UXSTACK working_perm 0 0)) stack_keeps
-      where
-        alloc_plain : (c : Bool) → (true && (true && (((c || true) && true) && true))) ≡ true
-        alloc_plain true = refl
-        alloc_plain false = refl
 
   -- ---- the handler
 

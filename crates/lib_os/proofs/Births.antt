@@ -65,14 +65,14 @@ below (suc n) passes is = by_test (some_below n passes) refl (λ first. below n 
     by_test false first before e = (n, omega arith, e)
 
 -- where a region has a page
-page_in : (memory : ℕ → Option Page) (region : ℕ) → has_page_in memory region ≡ true →
+pub page_in : (memory : ℕ → Option Page) (region : ℕ) → has_page_in memory region ≡ true →
     (p : ℕ) × (p / NPTENTRIES ≡ region) × (is_some (memory p) ≡ true)
 page_in memory region is =
     let it = below NPTENTRIES (λ p. is_some (memory (region * NPTENTRIES + p))) is in
     (region * NPTENTRIES + it.0, omega (arith, it.1), it.2)
 
 -- a page that is seen has an entry
-entry_seen : (names : Names) (s : SpacesState) (d p : ℕ) → is_some (page_seen names s d p) ≡ true → (e : Entry) × (s.entries d p ≡ Some e)
+pub entry_seen : (names : Names) (s : SpacesState) (d p : ℕ) → is_some (page_seen names s d p) ≡ true → (e : Entry) × (s.entries d p ≡ Some e)
 unfolding rows_of
 entry_seen names s d p is = by_entry (is_programs p) (s.entries d p) refl is
   where
@@ -83,17 +83,17 @@ entry_seen names s d p is = by_entry (is_programs p) (s.entries d p) refl is
     by_entry false None at seen = absurd (let contradiction : false ≡ true = seen in cc)
 
 -- a page that no program may have is not seen
-unseen : (names : Names) (s : SpacesState) (d p : ℕ) → is_programs p ≡ false → page_seen names s d p ≡ None
+pub unseen : (names : Names) (s : SpacesState) (d p : ℕ) → is_programs p ≡ false → page_seen names s d p ≡ None
 unseen names s d p outside = ap (λ (t : Bool). seen_where t (option_map (page_by names s.pages) (rows_of s d p))) outside
 
-copy_outside : is_programs (page_number PFTEMP) ≡ false
+pub copy_outside : is_programs (page_number PFTEMP) ≡ false
 copy_outside = by_test (is_programs (page_number PFTEMP)) refl
   where
     by_test : (t : Bool) → is_programs (page_number PFTEMP) ≡ t → t ≡ false
     by_test true is = absurd ((programs_beside (page_number PFTEMP) is).0 refl)
     by_test false is = refl
 
-working_outside : is_programs (page_number UTEMP) ≡ false
+pub working_outside : is_programs (page_number UTEMP) ≡ false
 working_outside = by_test (is_programs (page_number UTEMP)) refl
   where
     by_test : (t : Bool) → is_programs (page_number UTEMP) ≡ t → t ≡ false
@@ -101,10 +101,10 @@ working_outside = by_test (is_programs (page_number UTEMP)) refl
     by_test false is = refl
 
 -- they are no descriptor's either
-copy_no_descriptor : is_of_descriptor (page_number PFTEMP) ≡ false
+pub copy_no_descriptor : is_of_descriptor (page_number PFTEMP) ≡ false
 copy_no_descriptor = refl
 
-working_no_descriptor : is_of_descriptor (page_number UTEMP) ≡ false
+pub working_no_descriptor : is_of_descriptor (page_number UTEMP) ≡ false
 working_no_descriptor = refl
 
 -- the page of each descriptor is one
@@ -112,7 +112,7 @@ descriptor_is : (fd : ℕ) → nat_lt fd DESCRIPTORS ≡ true → is_of_descript
 descriptor_is fd below = grind (arith, nat_tests)
 
 -- where two spaces have the same entry at its page, they have the same descriptor
-descriptor_same : (names : Names) (s : SpacesState) (d c fd : ℕ) →
+pub descriptor_same : (names : Names) (s : SpacesState) (d c fd : ℕ) →
     (is_of_descriptor (descriptor_page fd) ≡ true → rows_of s c (descriptor_page fd) ≡ rows_of s d (descriptor_page fd)) →
     descriptor_seen names s c fd ≡ descriptor_seen names s d fd
 descriptor_same names s d c fd same = by_test (nat_lt fd DESCRIPTORS) refl

@@ -219,7 +219,7 @@ or_true true t on = refl
 or_true false t on = on
 
 -- the pages of descriptors lie in a region of the library's
-descriptors_region : (p : ℕ) → is_of_descriptor p ≡ true → is_library_region (p / NPTENTRIES) ≡ true
+pub descriptors_region : (p : ℕ) → is_of_descriptor p ≡ true → is_library_region (p / NPTENTRIES) ≡ true
 descriptors_region p is =
     let there : (p / NPTENTRIES == region_index FDTABLE) ≡ true = grind (arith, nat_tests) in
     ap (λ (c : Bool). c || (p / NPTENTRIES == region_index USTACKTOP)) (or_true (p / NPTENTRIES == region_index UTEMP) _ there)

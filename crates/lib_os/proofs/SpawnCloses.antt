@@ -60,12 +60,12 @@ behind_first image pieces bytes piece rest left =
     ∙ ap (λ (l : List Piece). drop 1 l) left
 
 -- what has come for its segments is all of its pieces
-come_so : {image : ImageRead} {pieces had : List (List ℕ)} {stage : Stage} → HasPieces image pieces had stage → {b : Born} {path argv : ℕ} →
-    b.phase ≡ in_service (service.Spawn path argv) stage → all_of pieces ++ bytes_replied b.phase ≡ all_of had
-come_so {pieces = pieces} none_yet phase =
-    ap (λ (p : Phase). all_of pieces ++ bytes_replied p) phase ∙ append-nil (all_of pieces)
-come_so {pieces = pieces} (and_last bytes answer piece rest left long counts) phase =
-    ap (λ (p : Phase). all_of pieces ++ bytes_replied p) phase ∙ sym (all_more pieces bytes)
+come_so : {image : ImageRead} {pieces had : List (List ℕ)} {stage : Stage} → HasPieces image pieces had stage → {phase : Phase} {path argv : ℕ} →
+    phase ≡ in_service (service.Spawn path argv) stage → all_of pieces ++ bytes_replied phase ≡ all_of had
+come_so {pieces = pieces} none_yet is =
+    ap (λ (p : Phase). all_of pieces ++ bytes_replied p) is ∙ append-nil (all_of pieces)
+come_so {pieces = pieces} (and_last bytes answer piece rest left long counts) is =
+    ap (λ (p : Phase). all_of pieces ++ bytes_replied p) is ∙ sym (all_more pieces bytes)
 
 none_childs : (c d : Bool) → ((c && false) || (d && false)) ≡ false
 none_childs true true = refl
@@ -207,13 +207,14 @@ module _ (s : KernelState) (n path argv fd child : ℕ)
 
     -- ---- the state behind it
 
-    closed_then : {w : View} → StandsAtSpawn w moved later path argv to
-    closed_then = (
+    closed_then : (w : View) → StandsAtSpawn w moved later path argv to
+    closed_then w = (
       record {
         image = has.image;
         pieces = has.had;
         found = found_after (spawn_words to) found later refl refl refl refl has.found.is_in;
         none_left = has.none_left;
+        tested = has.tested;
       },
       omega arith,
     )
@@ -232,7 +233,7 @@ module _ (s : KernelState) (n path argv fd child : ℕ)
             names,
             drops_file_bearing h n path argv from to stands fd has.of_file.below removed (no_pipe_there h n path argv from stands fd has.of_file) found
                 (taking []) refl (λ p. none_childs (p == page_number SPAWN_HERE) (p == page_number SPAWN_STACK))
-                (λ p. none_childs (p == page_number SPAWN_HERE) (p == page_number SPAWN_STACK)) last order closed_then child refl refl
+                (λ p. none_childs (p == page_number SPAWN_HERE) (p == page_number SPAWN_STACK)) last order (closed_then _) child refl refl
                 (has_then (others (slot_at s m).directory apart)),
           ),
         )
