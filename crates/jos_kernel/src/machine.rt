@@ -1,12 +1,13 @@
 //! The machine: the system with the console's input, and the memory of the environment that runs.
 
-ghost use Rattle.std.specs.Prelude.{◌≡◌, ◌==◌, ◌<◌, ◌≤◌, ◌-◌, ◌^◌, Bool, None, Some, Ok, Err, IfOk, IfErr, OnOk, OnErr, is_ok, true, false, not, length};
+ghost use Rattle.std.specs.Prelude.{◌≡◌, ◌≢◌, ◌==◌, ◌<◌, ◌≤◌, ◌-◌, ◌^◌, Bool, None, Some, Ok, Err, IfOk, IfErr, OnOk, OnErr, is_ok, true, false, not, length};
 ghost use Rattle.std.specs.Option.{ForSome};
 ghost use Rattle.std.specs.Result.{result_err};
 ghost use Rattle.jos_host.specs.Told.{HasCause};
 ghost use Rattle.jos_host.specs.Frames.{Unchanged, around};
+ghost use Rattle.jos_base.specs.declared.called.Called.TheVariants.{Ended};
 ghost use Rattle.jos_base.specs.declared.memory.Access.TheVariants.{Write};
-ghost use Rattle.jos_base.specs.declared.numbers.TheConstants.{NENV, CPUTS_MAX};
+ghost use Rattle.jos_base.specs.declared.numbers.TheConstants.{NENV, CPUTS_MAX, SYS_CPUTS};
 ghost use Rattle.jos_base.specs.Environments.{is_live, is_running};
 ghost use Rattle.jos_base.specs.KernelState.{KernelState, slot_at, with_registers, with_extra, with_spaces, turn_begun, turn_ended};
 ghost use Rattle.jos_base.specs.SystemCalls.{handled, killed, system_call, user_bytes, with_bytes_reached, may_print};
@@ -427,6 +428,7 @@ impl<F: Fence> Machine<F> {
         ensures told { Does result (system_call (kernel_state self.old) slot) (kernel_state self.new) (around H.console host.old host.new) }
         ensures small { IfOk result (λ answer. answer.written ≤ CPUTS_MAX) }
         ensures fails { OnErr result (may_print (slot_at (kernel_state self.old) slot).registers.eax ≡ true) }
+        ensures ended { OnErr result ((slot_at (kernel_state self.old) slot).registers.eax ≢ SYS_CPUTS → (system_call (kernel_state self.old) slot).called ≡ Ended) }
         ensures rest { Unchanged H.files H.input H.asked H.notes host.old host.new }
         ensures cause { HasCause (H.faults host.old) (H.faults host.new) result }
     {

@@ -1,10 +1,12 @@
 -- A system call that is served is one step, and so are registers taken back, over states alone.
-use Rattle.std.proofs.Common.{◌≡◌, ◌∙◌, ◌+◌, ℕ, Bool, true, List, [], Option, Result, Ok, Err}
+use Rattle.std.proofs.Common.{◌≡◌, ◌≢◌, ◌∙◌, ◌+◌, ℕ, Bool, true, List, [], Option, Result, Ok, Err}
 use Rattle.std.proofs.Common.{refl, sym, ap, subst}
 use Rattle.std.specs.Prelude.{◌-◌, ◌^◌, min}
 use Rattle.jos_host.specs.declared.host.Failed.{Failed}
 use Rattle.jos_host.specs.Frames.{Around}
+use Rattle.jos_base.specs.declared.called.Called.TheVariants.{Ended}
 use Rattle.jos_base.specs.declared.memory.PageFault.{PageFault}
+use Rattle.jos_base.specs.declared.numbers.TheConstants.{SYS_CPUTS}
 use Rattle.jos_base.specs.declared.registers.Regs.{Regs}
 use Rattle.jos_base.specs.Environments.{Slot}
 use Rattle.jos_base.specs.KernelState.{KernelState, slot_at, with_registers}
@@ -43,6 +45,13 @@ module _ (s asked mid after : KernelState) (n number : ℕ) (args : List ℕ) (c
 
   pub failed_prints : may_print (slot_at asked n).registers.eax ≡ true → may_print number ≡ true
   failed_prints may = ap (λ (x : ℕ). may_print x) (sym eax_is) ∙ may
+
+  -- and unless that is cputs, the caller is ended
+  pub failed_ended : ((slot_at asked n).registers.eax ≢ SYS_CPUTS → (system_call asked n).called ≡ Ended) →
+      number ≢ SYS_CPUTS → (call.system s n number args).gives ≡ got Ended
+  unfolding call.system
+  failed_ended ended other =
+      ap got (ap (λ (k : KernelState). (system_call k n).called) (sym state_is) ∙ ended (λ is. other (sym eax_is ∙ is)))
 
   -- it is answered, and the registers are taken back
   pub answered_step : (answer : CallAnswer) (own : Bool) → own ≡ sets_own s n number args → after ≡ taken_back mid n own kept →

@@ -1,7 +1,8 @@
 -- Which call the caller's registers name, over states alone.
-use Rattle.std.proofs.Common.{◌≡◌, ◌≢◌, ◌∙◌, ◌==◌, ℕ, true, false, Result, Ok, Err, ap, refl, sym, subst, arith}
+use Rattle.std.proofs.Common.{◌≡◌, ◌≢◌, ◌∙◌, ◌==◌, ℕ, true, false, List, Result, Ok, Err, ap, refl, sym, subst, arith}
 use Rattle.std.specs.Result.{OnErr}
 use Rattle.std.proofs.lemmas.Bool.Decides.{nat_tests}
+use Rattle.jos_base.specs.declared.called.Called.TheVariants.{Ended}
 use Rattle.jos_base.specs.declared.registers.Regs.{Regs}
 use Rattle.jos_base.specs.declared.environment.Status.TheVariants.{Runnable}
 use Rattle.jos_base.specs.declared.errno.Errno.TheVariants.{Invalid}
@@ -109,3 +110,18 @@ module _ (k : KernelState) (n : ℕ) (regs : Regs) (same : regs ≡ (slot_at k n
       OnErr answer (may_print (slot_at k n).registers.eax ≡ true)
   env_set_trapframe_fails (Ok x) e = tt
   env_set_trapframe_fails (Err x) e = subst (λ (r : Regs). may_print r.eax ≡ true) same (rw e refl)
+
+  -- and only cputs may fail for a caller that goes on
+  pub cputs_ended : {T E : Type 0} (answer : Result T E) → regs.eax ≡ SYS_CPUTS →
+      OnErr answer ((slot_at k n).registers.eax ≢ SYS_CPUTS → (system_call k n).called ≡ Ended)
+  cputs_ended (Ok x) e = tt
+  cputs_ended (Err x) e = λ other. absurd (other (ap (λ (r : Regs). r.eax) (sym same) ∙ e))
+
+  pub env_set_trapframe_ended : {T E : Type 0} (answer : Result T E) (state : List ℕ → KernelState) (input : List ℕ) → k ≡ state input →
+      regs.eax ≡ SYS_ENV_SET_TRAPFRAME →
+      OnErr answer ((input : List ℕ) → (env_set_trapframe_of (state input) n (found (state input).environments regs.edx n true) regs.ecx).called ≡ Ended) →
+      OnErr answer ((slot_at k n).registers.eax ≢ SYS_CPUTS → (system_call k n).called ≡ Ended)
+  env_set_trapframe_ended (Ok x) state input is e ended = tt
+  env_set_trapframe_ended (Err x) state input is e ended = λ other.
+      ap (λ (did : Did). did.called) (is_env_set_trapframe e)
+      ∙ ap (λ (z : KernelState). (env_set_trapframe_of z n (found z.environments regs.edx n true) regs.ecx).called) is ∙ ended input

@@ -1,8 +1,10 @@
 -- Page faults and their handlers, over states alone.
 use Rattle.std.proofs.Common.{◌≡◌, ◌≢◌, ◌∙◌, ℕ, ◌+◌, ◌-◌, ◌<◌, ◌≤◌, ◌%◌, ◌==◌, ◌&&◌, Bool, true, false, Option, Some, None, Result, Ok, Err}
+use Rattle.std.specs.Result.{OnErr}
 use Rattle.std.proofs.Common.{List, length, min, ◌^◌, refl, sym, ap, subst, arith}
 use Rattle.std.specs.Prelude.{nat_lt, nat_le, if◌then◌else◌}
 use Rattle.std.proofs.lemmas.Bool.Decides.{nat_tests}
+use Rattle.jos_base.specs.declared.called.Called.TheVariants.{Ended}
 use Rattle.jos_base.specs.declared.memory.Access.{Access}
 use Rattle.jos_base.specs.declared.memory.Access.TheVariants.{Write}
 use Rattle.jos_base.specs.declared.memory.PageFault.{PageFault}
@@ -12,9 +14,9 @@ use Rattle.jos_base.specs.SpacesState.{SpacesState, overlaid, with_page_bytes}
 use Rattle.jos_base.specs.UserMemory.{reach_in, touched, touched_by}
 use Rattle.jos_base.specs.declared.registers.Regs.{Regs}
 use Rattle.jos_base.specs.TrapFrames.{upcall_place, exception_stack, frame_size, frame_words, bytes_of_words, frame_bytes, from_record, words_of_bytes}
-use Rattle.jos_base.specs.Environments.{Slot}
+use Rattle.jos_base.specs.Environments.{Slot, found}
 use Rattle.jos_base.specs.KernelState.{KernelState, slot_at, with_registers, with_spaces, with_upcall}
-use Rattle.jos_base.specs.SystemCalls.{handled, handler_entered, answered, refused, killed, user_bytes, with_bytes_reached}
+use Rattle.jos_base.specs.SystemCalls.{Did, handled, handler_entered, answered, refused, killed, user_bytes, with_bytes_reached}
 use Rattle.jos_base.specs.SystemCalls.{record_size, env_set_trapframe_of, env_set_trapframe_by, env_set_pgfault_upcall_of}
 use Rattle.jos_base.specs.declared.errno.Errno.TheVariants.{BadEnv}
 use Rattle.jos_base.specs.declared.line.Line.TheVariants.{UserMemCheck}
@@ -124,3 +126,14 @@ pub trapframe_unread : (k : KernelState) (n : ℕ) (f : Option ℕ) (target va :
     → user_bytes k n va record_size ≡ Err fault → env_set_trapframe_of k n f va ≡ killed k n (UserMemCheck fault.va)
 trapframe_unread k n f target va found fault is =
     ap (λ z. env_set_trapframe_of k n z va) (sym found) ∙ ap (env_set_trapframe_by k n target va) is
+
+-- the caller whose record can't be read is ended
+pub unread_ended : {T E : Type 0} (answer : Result T E) (state : List ℕ → KernelState) (n id target va : ℕ) (fault : PageFault) →
+    ((input : List ℕ) → Some target ≡ found (state input).environments id n true) →
+    ((input : List ℕ) → user_bytes (state input) n va record_size ≡ Err fault) →
+    OnErr answer ((input : List ℕ) → (env_set_trapframe_of (state input) n (found (state input).environments id n true) va).called ≡ Ended)
+unfolding killed
+unread_ended (Ok x) state n id target va fault there is = tt
+unread_ended (Err x) state n id target va fault there is = λ input.
+    ap (λ (did : Did). did.called)
+    (trapframe_unread (state input) n (found (state input).environments id n true) target va (there input) fault (is input))

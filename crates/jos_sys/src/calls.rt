@@ -3,6 +3,7 @@
 ghost use Rattle.std.specs.Prelude.{◌≡◌, ◌≢◌, ℕ, ◌≤◌, List, Ok, Err, MatchResult, IfOk, IfErr, OnOk, OnErr, IfSome, true, length};
 ghost use Rattle.jos_host.specs.Told.{HasCause};
 ghost use Rattle.jos_host.specs.Frames.{Unchanged, around};
+ghost use Rattle.jos_base.specs.declared.called.Called.TheVariants.{Ended};
 ghost use Rattle.jos_base.specs.declared.environment.Status.TheVariants.{Free};
 ghost use Rattle.jos_base.specs.Reach.{bytes_read};
 ghost use Rattle.jos_base.specs.SpacesState.{directories};
@@ -287,6 +288,7 @@ impl System {
         requires spaces { Keeps self.old }
         ensures told { (input : List ℕ) → Does result (env_set_trapframe_of (state_of self.old input) current (found (state_of self.old input).environments id.0 current true) va) (state_of self.new input) (around H.console host.old host.new) }
         ensures small { IfOk result (λ answer. answer.written ≤ CPUTS_MAX) }
+        ensures ended { OnErr result ((input : List ℕ) → (env_set_trapframe_of (state_of self.old input) current (found (state_of self.old input).environments id.0 current true) va).called ≡ Ended) }
         ensures spaces { Keeps self.new }
         ensures rest { Unchanged H.files H.input H.asked H.notes host.old host.new }
         ensures cause { HasCause (H.faults host.old) (H.faults host.new) result }
@@ -322,6 +324,9 @@ impl System {
 
     /// Makes the system call that the registers of an environment name: its number stands in EAX, what it is given in
     /// EDX, ECX, EBX, EDI and ESI, and it is answered in EAX. (MIT 6.828, kern/syscall.c)
+    ///
+    /// # Errors
+    /// The host failed, in a call that prints (`fails`): in cputs, or else in the line of the caller's end (`ended`).
     #[cold]
     #[inline(never)]
     pub fn call<H: Host>(
@@ -335,6 +340,7 @@ impl System {
         ensures told { Does result (system_call (state_of self.old (left_of input.old)) current) (state_of self.new (left_of input.new)) (around H.console host.old host.new) }
         ensures small { IfOk result (λ answer. answer.written ≤ CPUTS_MAX) }
         ensures fails { OnErr result (may_print (slot_at (state_of self.old (left_of input.old)) current).registers.eax ≡ true) }
+        ensures ended { OnErr result ((slot_at (state_of self.old (left_of input.old)) current).registers.eax ≢ SYS_CPUTS → (system_call (state_of self.old (left_of input.old)) current).called ≡ Ended) }
         ensures spaces { Keeps self.new }
         ensures rest { Unchanged H.files H.input H.asked H.notes host.old host.new }
         ensures cause { HasCause (H.faults host.old) (H.faults host.new) result }

@@ -93,7 +93,7 @@ module _ (s : KernelState) (n path argv : ℕ) (live : is_live (slot_at s n) ≡
           few = omega arith;
         })
         goes (system_never s n SYS_ENV_DESTROY (child ∷ 0 ∷ 0 ∷ 0 ∷ 0 ∷ [])) keeps
-        (λ may a h turn. absurd (let contradiction : false ≡ true = may in cc))
+        (λ may a h turn. absurd (let contradiction : false ≡ true = may.0 in cc))
 
   -- ---- the descriptor is dropped
 

@@ -3,6 +3,7 @@ pub mod UndoingSteps
 pub mod DroppingSteps
 pub mod ReleasingSteps
 pub mod ReadyingSteps
+pub mod PassingSteps
 pub mod RightsWrites
 pub mod RightsApart
 pub mod RightsProgress

@@ -48,4 +48,4 @@ module _ (s : KernelState) (n : ℕ) (call : Service) (hands : hands_back call �
   unfolding performed
   returning_holds =
       law_with s n returning call (step.Returning answer) there (λ called is stays. (give_lives s n live).live) given_keeps
-      (λ may a h turn. absurd (let contradiction : false ≡ true = may in cc)) given_lowers
+      (λ may a h turn. absurd (let contradiction : false ≡ true = may.0 in cc)) given_lowers

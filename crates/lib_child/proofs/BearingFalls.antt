@@ -6,6 +6,7 @@ use Rattle.jos_base.specs.Counting.{page_limit}
 use Rattle.jos_base.specs.Environments.{Slot}
 use Rattle.jos_base.specs.KernelState.{KernelState, slot_at}
 use Rattle.jos_elf.specs.declared.numbers.TheConstants.{PT_LOAD}
+use Rattle.jos_base.specs.Words.{page_number}
 use Rattle.lib_os.specs.declared.numbers.TheConstants.{TRANSFER_MAX}
 use Rattle.lib_os.specs.declared.place.Step.TheVariants as step
 use Rattle.lib_os.specs.declared.service.Service.TheVariants as service

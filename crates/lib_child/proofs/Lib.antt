@@ -7,3 +7,7 @@ pub mod HeaderLoads
 pub mod BearingOn
 pub mod PlacingGoes
 pub mod PieceGoes
+pub mod RegisterGoes
+pub mod PagesPlaced
+pub mod BearingCalls
+pub mod PlacingPage

@@ -104,10 +104,10 @@ module _ (s : KernelState) (n path argv : ℕ) (live : is_live (slot_at s n) ≡
       LoadsHeader v k b path argv child (bearing.PieceKind fd headers child header) header P_TYPE
   kind_loads v k b h = by_kind (word == PT_LOAD) refl
     where
-      abbrev word : ℕ
+      word : ℕ
       word = word_at (slice_index h.filled.image.table) (PHDR_LEN * header + P_TYPE)
 
-      abbrev to : SpawnStep
+      to : SpawnStep
       to = spawn.Bearing (bearing.PieceMemory fd headers child header)
 
       by_kind : (c : Bool) → (word == PT_LOAD) ≡ c → LoadsHeader v k b path argv child (bearing.PieceKind fd headers child header) header P_TYPE
@@ -164,10 +164,10 @@ module _ (s : KernelState) (n path argv : ℕ) (live : is_live (slot_at s n) ≡
       LoadsHeader v k b path argv child (bearing.PieceMemory fd headers child header) header P_MEMSZ
   memory_loads v k b h = by_memory (memory == 0) refl
     where
-      abbrev memory : ℕ
+      memory : ℕ
       memory = word_at (slice_index h.filled.image.table) (PHDR_LEN * header + P_MEMSZ)
 
-      abbrev to : SpawnStep
+      to : SpawnStep
       to = spawn.Bearing (bearing.PieceLength fd headers child header 0)
 
       by_memory : (c : Bool) → (memory == 0) ≡ c → LoadsHeader v k b path argv child (bearing.PieceMemory fd headers child header) header P_MEMSZ
@@ -229,10 +229,10 @@ module _ (s : KernelState) (n path argv : ℕ) (live : is_live (slot_at s n) ≡
         LoadsHeader v k b path argv child (bearing.PieceLength fd headers child header done) header P_FILESZ
     length_loads v k b h = by_length (nat_lt done length) refl
       where
-        abbrev length : ℕ
+        length : ℕ
         length = word_at (slice_index h.filled.image.table) (PHDR_LEN * header + P_FILESZ)
 
-        abbrev to : SpawnStep
+        to : SpawnStep
         to = spawn.Bearing (bearing.PieceOffset fd headers child header done (done + min TRANSFER_MAX (length - done)))
 
         by_length : (c : Bool) → nat_lt done length ≡ c → LoadsHeader v k b path argv child (bearing.PieceLength fd headers child header done) header P_FILESZ
@@ -337,10 +337,10 @@ module _ (s : KernelState) (n path argv : ℕ) (live : is_live (slot_at s n) ≡
             };
           }
         where
-          abbrev one : ProgramHeader
+          one : ProgramHeader
           one = headers_in h.filled.image.table header
 
-          abbrev place : ℕ
+          place : ℕ
           place = (word_at (slice_index h.filled.image.table) (PHDR_LEN * header + P_OFFSET) + done) % 2 ^ 32
 
           place_is : place ≡ one.file_at + done
@@ -397,7 +397,7 @@ module _ (s : KernelState) (n path argv : ℕ) (live : is_live (slot_at s n) ≡
             };
           }
         where
-          abbrev va : ℕ
+          va : ℕ
           va = word_at (slice_index h.0.image.table) (PHDR_LEN * header + P_VADDR)
 
           first : (done % TRANSFER_MAX == 0) ≡ true

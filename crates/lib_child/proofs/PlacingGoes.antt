@@ -45,7 +45,7 @@ pub none_before : (image : ImageRead) (header p : ℕ) →
     (header_touches image p header && nat_lt p 0) ≡ (header_touches image p header && nat_lt p ((headers_in image.table header).va / PGSIZE))
 none_before image header p = by_touch (header_touches image p header) refl
   where
-    abbrev one : ProgramHeader
+    one : ProgramHeader
     one = headers_in image.table header
 
     off : (q : ℕ) → nat_lt q 0 ≡ false
@@ -86,7 +86,7 @@ module _ (s : KernelState) (n path argv : ℕ) (live : is_live (slot_at s n) ≡
       LoadsHeader v k b path argv child (bearing.PlacingKind fd headers child header) header P_TYPE
   kind_loads v k b h = by_kind (word == PT_LOAD) refl
     where
-      abbrev word : ℕ
+      word : ℕ
       word = word_at (slice_index h.image.table) (PHDR_LEN * header + P_TYPE)
 
       by_kind : (c : Bool) → (word == PT_LOAD) ≡ c →
@@ -146,10 +146,10 @@ module _ (s : KernelState) (n path argv : ℕ) (live : is_live (slot_at s n) ≡
       LoadsHeader v k b path argv child (bearing.PlacingMemory fd headers child header) header P_MEMSZ
   memory_loads v k b h = by_memory (memory == 0) refl
     where
-      abbrev memory : ℕ
+      memory : ℕ
       memory = word_at (slice_index h.image.table) (PHDR_LEN * header + P_MEMSZ)
 
-      abbrev some : SpawnStep
+      some : SpawnStep
       some = spawn.Bearing (bearing.PlacingAddress fd headers child header memory)
 
       by_memory : (c : Bool) → (memory == 0) ≡ c → LoadsHeader v k b path argv child (bearing.PlacingMemory fd headers child header) header P_MEMSZ
@@ -234,10 +234,10 @@ module _ (s : KernelState) (n path argv : ℕ) (live : is_live (slot_at s n) ≡
             });
         }
       where
-        abbrev va : ℕ
+        va : ℕ
         va = word_at (slice_index h.image.table) (PHDR_LEN * header + P_VADDR)
 
-        abbrev one : ProgramHeader
+        one : ProgramHeader
         one = headers_in h.image.table header
 
         va_is : va ≡ one.va

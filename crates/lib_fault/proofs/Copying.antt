@@ -57,7 +57,7 @@ taking_keeps s n va live stands order = elim (page_made_or_refused s n PFTEMP co
 
 pub taking_fails : (s : KernelState) (n va : ℕ) → is_live (slot_at s n) ≡ true → place_of (slot_at s n) ≡ place.InHandler (handler.Taking va) →
     FailsBy s n (handling (handler.Taking va)) (performed s n (ask_of (handler.Taking va)))
-taking_fails s n va live stands may a h turn = absurd (let contradiction : false ≡ true = may in cc)
+taking_fails s n va live stands may a h turn = absurd (let contradiction : false ≡ true = may.0 in cc)
 
 -- ---- a word is stored in the copy
 
@@ -129,7 +129,7 @@ unmapping_keeps s n va live stands order =
 
 pub unmapping_fails : (s : KernelState) (n va : ℕ) → is_live (slot_at s n) ≡ true → place_of (slot_at s n) ≡ place.InHandler (handler.Unmapping va) →
     FailsBy s n (handling (handler.Unmapping va)) (performed s n (ask_of (handler.Unmapping va)))
-unmapping_fails s n va live stands may a h turn = absurd (let contradiction : false ≡ true = may in cc)
+unmapping_fails s n va live stands may a h turn = absurd (let contradiction : false ≡ true = may.0 in cc)
 
 -- ---- the copy is put in the place of the page
 
@@ -169,4 +169,4 @@ module _ (s : KernelState) (n va : ℕ) (live : is_live (slot_at s n) ≡ true)
       (sym gives.1) (over_keeps order)
 
   pub mapping_over_fails : FailsBy s n (handling (handler.MappingOver va)) (performed s n (ask_of (handler.MappingOver va)))
-  mapping_over_fails may a h turn = absurd (let contradiction : false ≡ true = may in cc)
+  mapping_over_fails may a h turn = absurd (let contradiction : false ≡ true = may.0 in cc)

@@ -68,7 +68,7 @@ module _ (s : KernelState) (n va error ip : ℕ) (live : is_live (slot_at s n) �
 
     -- nothing is printed by it
     pub unsetting_fails : FailsBy s n (handling unsetting) (performed s n (ask_of unsetting))
-    unsetting_fails may a h turn = absurd (let contradiction : false ≡ true = may in cc)
+    unsetting_fails may a h turn = absurd (let contradiction : false ≡ true = may.0 in cc)
 
   -- ---- the fault, once more
 

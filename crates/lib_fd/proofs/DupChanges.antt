@@ -336,7 +336,7 @@ module _ (s : KernelState) (n old new : ℕ) (live : is_live (slot_at s n) ≡ t
           lives = goes.live;
           keeps = λ order a h turn quiet.
               subst (λ (z : CallStep Called). IsInOrder z.state → FollowsBy s n mapping_end a z) (sym (end_call h.1).step) (end_follows h.1 turn.last) order;
-          fails = λ may a h turn. absurd (let contradiction : false ≡ true = may in cc);
+          fails = λ may a h turn. absurd (let contradiction : false ≡ true = may.0 in cc);
           leaves = plain_leaves s n mapping_end refl;
           lowers = falling_lowers s n mapping_end asked dup (step.Piped pipe.MappingEnd) stands refl goes
               (λ a h turn is. system_never s n SYS_PAGE_MAP _ a h turn is) (λ called. omega arith);
@@ -400,7 +400,7 @@ module _ (s : KernelState) (n old new : ℕ) (live : is_live (slot_at s n) ≡ t
           lives = goes.live;
           keeps = λ order a h turn quiet.
               subst (λ (z : CallStep Called). IsInOrder z.state → FollowsBy s n mapping a z) (sym (call h.1).step) (follows h.1 turn.last) order;
-          fails = λ may a h turn. absurd (let contradiction : false ≡ true = may in cc);
+          fails = λ may a h turn. absurd (let contradiction : false ≡ true = may.0 in cc);
           leaves = plain_leaves s n mapping refl;
           lowers = falling_lowers s n mapping asked dup step.MappingDescriptor stands refl goes
               (λ a h turn is. system_never s n SYS_PAGE_MAP _ a h turn is) (λ called. mapping_falls (answer_of called));

@@ -54,7 +54,7 @@ module _ (s : KernelState) (n id : ℕ) (live : is_live (slot_at s n) ≡ true)
       )
 
   pub child_runs_fails : FailsBy s n plan (performed s n (ask_of running))
-  child_runs_fails may a h turn = absurd (let contradiction : false ≡ true = may in cc)
+  child_runs_fails may a h turn = absurd (let contradiction : false ≡ true = may.0 in cc)
 
 -- ---- a child that was refused something is destroyed, which is nowhere
 

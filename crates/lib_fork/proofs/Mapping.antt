@@ -138,4 +138,4 @@ module _ (s : KernelState) (n id page perm : ℕ) (live : is_live (slot_at s n) 
 
   pub map_child_fails : FailsBy s n (forking (record { at = stage.MapChild id page perm })) (performed s n (ask_of (stage.MapChild id page perm)))
   unfolding performed
-  map_child_fails may a h turn = absurd (let contradiction : false ≡ true = may in cc)
+  map_child_fails may a h turn = absurd (let contradiction : false ≡ true = may.0 in cc)

@@ -66,7 +66,7 @@ module _ (s : KernelState) (n id : ℕ) (live : is_live (slot_at s n) ≡ true)
   child_stack_keeps order = stack_keeps order
 
   pub child_stack_fails : FailsBy s n (forking (record { at = stage.ChildStack id })) (performed s n (ask_of (stage.ChildStack id)))
-  child_stack_fails may a h turn = absurd (let contradiction : false ≡ true = may in cc)
+  child_stack_fails may a h turn = absurd (let contradiction : false ≡ true = may.0 in cc)
 
 -- ---- the handler
 
@@ -98,4 +98,4 @@ module _ (s : KernelState) (n id : ℕ) (live : is_live (slot_at s n) ≡ true)
       (sym gives.1) upcall_keeps
 
   pub child_upcall_fails : FailsBy s n (forking (record { at = stage.ChildUpcall id })) (performed s n (ask_of (stage.ChildUpcall id)))
-  child_upcall_fails may a h turn = absurd (let contradiction : false ≡ true = may in cc)
+  child_upcall_fails may a h turn = absurd (let contradiction : false ≡ true = may.0 in cc)

@@ -64,7 +64,7 @@ module _ (s : KernelState) (n id page : ℕ) (live : is_live (slot_at s n) ≡ t
       (sym gives.1) (onto_keeps order)
 
   pub remap_fails : FailsBy s n (forking (record { at = stage.Remap id page })) (performed s n (ask_of (stage.Remap id page)))
-  remap_fails may a h turn = absurd (let contradiction : false ≡ true = may in cc)
+  remap_fails may a h turn = absurd (let contradiction : false ≡ true = may.0 in cc)
 
   -- the table is there, so that no frame is taken
   pub remap_takes :

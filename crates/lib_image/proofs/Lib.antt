@@ -6,6 +6,10 @@ pub mod ImageFalls
 pub mod OpeningStays
 pub mod OpeningAsks
 pub mod OpeningLaw
+pub mod ReadingStays
+pub mod ReadingGoes
+pub mod ReadingParts
+pub mod ReadingLaw
 pub mod TestingLists
 pub mod TestingStays
 pub mod TestingGoes

@@ -21,7 +21,6 @@ use Rattle.lib_os.specs.LibraryPages.{View}
 use Rattle.lib_os.specs.LibrarySteps.{KeepsStanding, request_perm, spawn_asks_by, spawn_frames_at, spawn_pauses_at, steps_left}
 use Rattle.lib_os.specs.Places.{place_of}
 use Rattle.lib_os.specs.Rows.{Names}
-use Rattle.lib_os.specs.SpawnedChild.{spawning_child}
 use Rattle.lib_os.specs.StandsAtSpawn.{StandsAtSpawn}
 use Rattle.lib_os.specs.StandsFor.{StandsFor, view_of}
 use Rattle.lib_os.specs.UserCalls.{CallStep, answer_of, got}
@@ -31,6 +30,7 @@ use Rattle.lib_os.proofs.Serving.{holds_page}
 use Rattle.lib_os.proofs.SpawnAsks.{GoesFrom, HidesFrom, SpawnAsking, spawn_asked_keeps, spawn_asking_copies, spawn_asking_server, spawn_lacking_keeps}
 use Rattle.lib_os.proofs.SpawnAsks.{spawn_pausing_keeps, spawn_waiting_keeps}
 use Rattle.lib_os.proofs.SpawnAwaits.{behind_asked, destination_of, spawn_awaiting_keeps}
+use Rattle.lib_os.proofs.SpawnedTurns.{KeepsBearing}
 use Rattle.lib_os.proofs.SpawnOwnPages.{keeps_own, spawn_there, spawn_words, spawns_at}
 use Rattle.lib_os.proofs.SpawnWaits.{SpawnHasAsked}
 use Rattle.lib_os.proofs.Trying.{IsAnswered, LivesOn, recv_lives}
@@ -95,7 +95,7 @@ module _ (s : KernelState) (n path argv : ℕ) (live : is_live (slot_at s n) ≡
       (falls : (w : ℕ) → Falls (service.Spawn path argv) (step.Spawning from) (next_by pausing awaiting (refused w) w))
       (waits_on : HidesFrom n path argv from pausing) (goes : GoesFrom n path argv from awaiting)
       (asking : (names : Names) (a : AbstractState) (h : StandsFor names s a) →
-      SpawnAsking a n (view_of s.spaces (slot_at s n).directory) (slot_at s n) (spawn_there h n path argv from stands).b path argv pausing awaiting) where
+      SpawnAsking a n (view_of s.spaces (slot_at s n).directory) (slot_at s n) (spawn_there h n path argv from stands).b path argv from pausing awaiting) where
     abbrev asking_plan : Plan
     asking_plan = staged call (request_asked word) (λ w. next_by pausing awaiting (refused w) w)
 
@@ -163,7 +163,7 @@ module _ (s : KernelState) (n path argv : ℕ) (live : is_live (slot_at s n) ≡
 
   module _ (steady : spawn_pauses_at from ≡ false)
       (has : (v : View) (k : Slot) (b : Born) → StandsAtSpawn v k b path argv from → SpawnHasAsked v k b path argv from)
-      (unborne : spawning_child from ≡ None) (unborne_after : spawning_child (behind_asked from) ≡ None)
+      (bearing : KeepsBearing from (behind_asked from))
       (held : holds_page (spawns_at path argv from) ≡ holds_page (spawns_at path argv (behind_asked from))) where
     abbrev waiting_plan : ℕ → Plan
     waiting_plan va = staged call (reply_asked_at va) (λ word. shows (behind_asked from))
@@ -187,4 +187,4 @@ module _ (s : KernelState) (n path argv : ℕ) (live : is_live (slot_at s n) ≡
         subst (λ (place : ℕ). ServiceHolds s n (waiting_plan place)) (sym same)
         (law_of_call s n (waiting_plan (destination_of from)) call (step.Spawning from) waiting_at SYS_IPC_RECV args refl refl lives
         (λ order. shown_keeps s n SYS_IPC_RECV args (waiting_plan (destination_of from)) (step.Spawning (behind_asked from)) lives (λ called. refl)
-        (spawn_awaiting_keeps s n path argv from stands has unborne unborne_after held)))
+        (spawn_awaiting_keeps s n path argv from stands has bearing held)))

@@ -5,6 +5,7 @@ use Rattle.std.proofs.Common.{arith, if◌then◌else◌}
 use Rattle.std.specs.Prelude.{nat_lt, slice_index}
 use Rattle.std.proofs.lemmas.Bool.Decides.{nat_tests}
 use Rattle.std.proofs.lemmas.List.{length-append}
+use Rattle.std.proofs.lemmas.Option.{none-some}
 use Rattle.jos_base.specs.declared.environment.Status.{Status}
 use Rattle.jos_base.specs.declared.environment.Status.TheVariants.{NotRunnable, Runnable, Running}
 use Rattle.jos_base.specs.declared.numbers.TheConstants.{E_MAX_OPEN, FDTABLE, PGSIZE, UTEMP, UTOP}
@@ -45,6 +46,7 @@ use Rattle.lib_os.proofs.ReplyRead.{reply_load}
 use Rattle.lib_os.proofs.SlotsStand.{born_live}
 use Rattle.lib_os.proofs.SpawnAsks.{SpawnAsking, goes_unborne, hides_unborne}
 use Rattle.lib_os.proofs.SpawnOwnPages.{own_word_stored, spawn_there, spawn_words, spawns_at}
+use Rattle.lib_os.proofs.SpawnedTurns.{bears_none}
 use Rattle.lib_os.proofs.SpawnRequests.{file_asking}
 use Rattle.lib_os.proofs.SpawnWaits.{asks_file}
 use Rattle.lib_os.proofs.WindowWords.{read_at}
@@ -282,7 +284,8 @@ module _ (s : KernelState) (n path argv : ℕ) (live : is_live (slot_at s n) ≡
   module _ (esp fd id : ℕ) (stands : place_of (slot_at s n) ≡ spawns_at path argv (spawn.Opening (opening.OpenAsking esp fd id))) where
     asking : (names : Names) (a : AbstractState) (h : StandsFor names s a) →
         SpawnAsking a n (view_of s.spaces (slot_at s n).directory) (slot_at s n)
-        (spawn_there h n path argv (spawn.Opening (opening.OpenAsking esp fd id)) stands).b path argv (spawn.Opening (opening.OpenPausing esp fd id))
+        (spawn_there h n path argv (spawn.Opening (opening.OpenAsking esp fd id)) stands).b path argv (spawn.Opening (opening.OpenAsking esp fd id))
+        (spawn.Opening (opening.OpenPausing esp fd id))
         (spawn.Opening (opening.OpenAwaiting esp fd id))
     asking names a h =
         let v = spawn_there h n path argv (spawn.Opening (opening.OpenAsking esp fd id)) stands in
@@ -315,6 +318,7 @@ module _ (s : KernelState) (n path argv : ℕ) (live : is_live (slot_at s n) ≡
               free = it.1.free;
             },
           );
+          loads_on = λ child is. absurd (none-some child is);
         }
 
     pub open_asking_holds : ServiceHolds s n (imaging (stage.Opening (opening.OpenAsking esp fd id)))
@@ -344,7 +348,7 @@ module _ (s : KernelState) (n path argv : ℕ) (live : is_live (slot_at s n) ≡
   pub open_awaiting_holds : (esp fd id : ℕ) → place_of (slot_at s n) ≡ spawns_at path argv (spawn.Opening (opening.OpenAwaiting esp fd id)) →
       ServiceHolds s n (imaging (stage.Opening (opening.OpenAwaiting esp fd id)))
   open_awaiting_holds esp fd id stands =
-      spawn_awaiting_holds s n path argv live (spawn.Opening (opening.OpenAwaiting esp fd id)) stands refl (λ v k b h. asks_file esp fd id h.0 h.1) refl refl refl
+      spawn_awaiting_holds s n path argv live (spawn.Opening (opening.OpenAwaiting esp fd id)) stands refl (λ v k b h. asks_file esp fd id h.0 h.1) (bears_none refl refl) refl
       (opened_va fd) (opened_place fd)
 
   -- ---- the reply has come

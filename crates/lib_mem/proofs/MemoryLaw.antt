@@ -169,7 +169,7 @@ module _ (s : KernelState) (n : ℕ) (step : Step) (live : is_live (slot_at s n)
       subst (λ (z : CallStep Called). PlanHolds s n (passing memory.Yield (ask.System SYS_YIELD none)) z) (sym is) (record {
         lives = λ called given stays. ap (λ (k : Slot). is_live k) put;
         keeps = λ order a h turn quiet. let l = yield_leads s n step there h.0 a h.1 in (l.0, l.1, l.2, l.3 order turn.last quiet);
-        fails = λ may a h turn. absurd (let contradiction : false ≡ true = may in cc);
+        fails = λ may a h turn. absurd (let contradiction : false ≡ true = may.0 in cc);
         leaves = record {
           rest = record { last = rest.last; turns = rest.turns; frames = rest.frames; refused = rest.refused; told = rest.told };
           turn = λ a stands_for running silent runs. ap is_yield there;

@@ -4,6 +4,7 @@ use Rattle.std.proofs.Common.{◌≡◌, ◌≢◌, ◌∙◌, ◌==◌, ◌%◌
 use Rattle.std.proofs.Common.{if◌then◌else◌}
 use Rattle.std.specs.Option.{option_map}
 use Rattle.std.specs.Prelude.{is_some, nat_le, slice_index}
+use Rattle.std.proofs.lemmas.Bool.{eqb-false, eqb-true}
 use Rattle.std.proofs.lemmas.Bool.Decides.{nat_tests}
 use Rattle.std.proofs.lemmas.Option.{same_Some}
 use Rattle.jos_base.specs.declared.called.Called.{Called}
@@ -229,25 +230,25 @@ module _ {names : Names} {s : KernelState} {a : AbstractState} {sp : SpacesState
 
       by_page : (p : ℕ) → is_programs p ≡ true → (c : Bool) → (p == page) ≡ c → page_seen names sp d p ≡ child_page b x.image g.progress x.file p
       by_page p there true test =
-          let same : page ≡ p = grind (arith, nat_tests, test) in
-          subst (λ (q : ℕ). page_seen names sp d q ≡ child_page b x.image g.progress x.file q) same (seen_here ∙ sym g.here)
+          let same : p ≡ page = eqb-true p page test in
+          subst (λ (q : ℕ). page_seen names sp d q ≡ child_page b x.image g.progress x.file q) (sym same) (seen_here ∙ sym g.here)
       by_page p there false test =
-          let ne : p ≢ page = grind (arith, nat_tests, test) in
+          let ne : p ≢ page = eqb-false p page test in
           seen_at names names s.spaces sp d p (beside p ne) (λ y hy own_page. bytes_beside d p y (λ same too. ne too) hy) (λ y hy shared_page. refl)
           ∙ x.memory p there ∙ g.others p there ne
 
       uncopied : (p : ℕ) (y : Entry) → is_programs p ≡ true → rows_of sp d p ≡ Some y → is_shared y.perm ≡ false → (c : Bool) → (p == page) ≡ c →
           is_cow y.perm ≡ false
       uncopied p y there hy own_page true test =
-          let same : p ≡ page = grind (arith, nat_tests, test) in
+          let same : p ≡ page = eqb-true p page test in
           ap (λ (e : Entry). is_cow e.perm) (sym (same_Some new_entry y (sym (row_placed made.placed) ∙ ap (rows_of sp d) (sym same) ∙ hy)))
       uncopied p y there hy own_page false test =
-          let ne : p ≢ page = grind (arith, nat_tests, test) in x.uncopied p y there (sym (beside p ne) ∙ hy) own_page
+          let ne : p ≢ page = eqb-false p page test in x.uncopied p y there (sym (beside p ne) ∙ hy) own_page
 
       by_region : (r : ℕ) (c : Bool) → (r == page / NPTENTRIES) ≡ c → (c || is_some (s.spaces.regions d r)) ≡ true →
           (has_page_in (child_page b x.image (passing (entry_count_of (slice_index x.image.header)) 0) x.file) r || is_library_region r) ≡ true
       by_region r true test is =
-          let same : r ≡ page / NPTENTRIES = grind (arith, nat_tests, test) in
+          let same : r ≡ page / NPTENTRIES = eqb-true r (page / NPTENTRIES) test in
           let at : r * NPTENTRIES + (page - r * NPTENTRIES) ≡ page = omega (arith, same) in
           or_first (has_page_in (child_page b x.image (passing (entry_count_of (slice_index x.image.header)) 0) x.file) r) (is_library_region r)
           (some_below-at (λ i. is_some (child_page b x.image (passing (entry_count_of (slice_index x.image.header)) 0) x.file (r * NPTENTRIES + i))) NPTENTRIES
@@ -321,9 +322,9 @@ module _ {names : Names} {s : KernelState} {a : AbstractState} {sp : SpacesState
 
       by_place : (c : Bool) → (q == d) ≡ c → (t : Bool) → (r == page) ≡ t → sp.pages e.frame ≡ s.spaces.pages e.frame
       by_place true test true here =
-          absurd (g.own_before (names.name e.frame) (has_write e.perm) (named_there (grind (arith, nat_tests, test)) (grind (arith, nat_tests, here))))
-      by_place true test false there = let ne : r ≢ page = grind (arith, nat_tests, there) in bytes_beside q r e (λ same too. ne too) hx
-      by_place false test t place = let ne : q ≢ d = grind (arith, nat_tests, test) in bytes_beside q r e (λ same too. ne same) hx
+          absurd (g.own_before (names.name e.frame) (has_write e.perm) (named_there (eqb-true q d test) (eqb-true r page here)))
+      by_place true test false there = let ne : r ≢ page = eqb-false r page there in bytes_beside q r e (λ same too. ne too) hx
+      by_place false test t place = let ne : q ≢ d = eqb-false q d test in bytes_beside q r e (λ same too. ne same) hx
 
   pub page_placed_stands : Places b id from to page → SoAfter → StandsFor names (with_extra (with_spaces s sp) n (spawn_words to)) a
   page_placed_stands places so =

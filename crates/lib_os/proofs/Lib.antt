@@ -202,6 +202,7 @@ pub mod SpawnOwnPages
 pub mod SpawnTakesPages
 pub mod SpawnPagesTaken
 pub mod SpawnGathers
+pub mod SpawnedTurns
 pub mod SpawnAsks
 pub mod SpawnAwaits
 pub mod SpawnGivesBack
@@ -219,5 +220,7 @@ pub mod SpawnReleases
 pub mod SpawnCloses
 pub mod SpawnGivesChild
 pub mod SpawnReadies
+pub mod SpawnPasses
 pub mod SpawnedProgress
 pub mod ChildPlaced
+pub mod SpawnBegun

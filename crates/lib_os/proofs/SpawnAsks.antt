@@ -43,7 +43,9 @@ use Rattle.lib_os.proofs.ServerStands.{OthersKept, first_slot}
 use Rattle.lib_os.proofs.Serving.{holds_page, printed_nothing}
 use Rattle.lib_os.proofs.Slots.{slot_kept}
 use Rattle.lib_os.proofs.SlotsStand.{born_live, is_piped}
-use Rattle.lib_os.proofs.SpawnGathers.{shown_from, spawn_found}
+use Rattle.lib_os.proofs.SpawnGathers.{spawn_found}
+use Rattle.lib_os.proofs.SpawnedGoes.{borne_went, goes_still, same_born}
+use Rattle.lib_os.proofs.SpawnedTurns.{KeepsBearing, LoadsOn, bears_none, bears_same, shown_on}
 use Rattle.lib_os.proofs.SpawnOwnPages.{IsSpawnsOwn, keeps_own, spawn_there, spawn_words, spawns_at, spawns_own}
 use Rattle.lib_os.proofs.SpawnStays.{spawn_kept}
 use Rattle.lib_os.proofs.StatesStand.{born_not_first, status_stands}
@@ -63,7 +65,7 @@ others_spawn {s = s} {t = t} kept q other k b path argv at h =
 
 -- Where it stands before it asks: what it has found out when it has asked, what it asks of the server, and that it stands so behind that, and where it
 -- gives up its turn.
-pub record SpawnAsking (a : AbstractState) (n : ℕ) (v : View) (k : Slot) (b : Born) (path argv : ℕ) (pausing awaiting : SpawnStep) : Type 0 where
+pub record SpawnAsking (a : AbstractState) (n : ℕ) (v : View) (k : Slot) (b : Born) (path argv : ℕ) (from pausing awaiting : SpawnStep) : Type 0 where
   pub stage : Stage
   pub phase : b.phase ≡ in_service (service.Spawn path argv) stage
   pub silent : k.rendezvous.receiving ≡ false
@@ -71,6 +73,8 @@ pub record SpawnAsking (a : AbstractState) (n : ℕ) (v : View) (k : Slot) (b : 
   pub does : IsAsking a n (with_spawning b found) (service.Spawn path argv)
   pub pauses : StandsAtSpawn v (record k { extra = spawn_words pausing }) b path argv pausing
   pub has_asked : StandsAtSpawn v (record k { extra = spawn_words awaiting }) (spawn_found b path argv found asked) path argv awaiting
+  -- where it bears a child, it goes on loading the same image
+  pub loads_on : (id : ℕ) → spawning_child from ≡ Some id → LoadsOn b (Some found) (in_service (service.Spawn path argv) asked)
 
 spawn_may_wait : (a : AbstractState) (n : ℕ) (b c : Born) (path argv : ℕ) (stage : Stage) → a.slots n ≡ born b →
     b.phase ≡ in_service (service.Spawn path argv) stage → IsAsking a n c (service.Spawn path argv) → is_idle a.server ≡ false → (quantum : ℕ) →
@@ -88,6 +92,7 @@ spawn_may_wait a n b c path argv stage at phase it not_idle quantum =
 pub record GoesFrom (n path argv : ℕ) (from to : SpawnStep) : Type 0 where
   pub shown : (names : Names) (t : KernelState) (c : AbstractState) → StandsFor names t c → place_of (slot_at t n) ≡ spawns_at path argv from →
       (b : Born) → c.slots n ≡ born b → (found : Spawning) (stage : Stage) →
+      ((id : ℕ) → spawning_child from ≡ Some id → LoadsOn b (Some found) (in_service (service.Spawn path argv) stage)) →
       StandsAtSpawn (view_of t.spaces (slot_at t n).directory) (record (slot_at t n) { extra = spawn_words to }) (spawn_found b path argv found stage) path argv
       to →
       StandsFor names (with_extra t n (spawn_words to)) (with_born c n (spawn_found b path argv found stage))
@@ -98,28 +103,37 @@ pub record HidesFrom (n path argv : ℕ) (from to : SpawnStep) : Type 0 where
       StandsAtSpawn (view_of t.spaces (slot_at t n).directory) (record (slot_at t n) { extra = spawn_words to }) b path argv to →
       StandsFor names (with_extra t n (spawn_words to)) c
 
+module _ (n path argv : ℕ) (from to : SpawnStep) (held : holds_page (spawns_at path argv from) ≡ holds_page (spawns_at path argv to)) where
+  pub goes_bearing : KeepsBearing from to → GoesFrom n path argv from to
+  goes_bearing keeps = record {
+    shown = λ names t c h stands b is found stage loads so. shown_on h n path argv from to stands keeps held b is found stage loads so;
+  }
+
+  hidden_on : (names : Names) (t : KernelState) (c : AbstractState) → StandsFor names t c → place_of (slot_at t n) ≡ spawns_at path argv from →
+      (b : Born) → c.slots n ≡ born b →
+      StandsAtSpawn (view_of t.spaces (slot_at t n).directory) (record (slot_at t n) { extra = spawn_words to }) b path argv to →
+      KeepsBearing from to → StandsFor names (with_extra t n (spawn_words to)) c
+  hidden_on names t c h stands b is so (bears_none unborne unborne_after) =
+      let v = spawn_there h n path argv from stands in
+      let same : v.b ≡ b = same_born v.b b (sym v.is ∙ is) in
+      words_stand h n SERVICE_SPAWN v.b v.is v.own v.outside (ap borne_in v.place ∙ unborne) (ap is_calm v.place) (service.Spawn path argv)
+      (step.Spawning to) (ap holds_page v.place ∙ held) unborne_after refl (named_at (slot_at t n) (service.Spawn path argv) (step.Spawning from) stands)
+      (subst (λ (x : Born). StandsAtSpawn (view_of t.spaces (slot_at t n).directory) (record (slot_at t n) { extra = spawn_words to }) x path argv to)
+      (sym same) so)
+  hidden_on names t c h stands b is so (bears_same id bears bears_after childs told still) =
+      borne_went h n path argv id from to stands bears bears_after held childs told b is (goes_still id from to still) so
+
+  pub hides_bearing : KeepsBearing from to → HidesFrom n path argv from to
+  hides_bearing keeps = record { hidden = λ names t c h stands b is so. hidden_on names t c h stands b is so keeps }
+
 -- where it bears no child
-module _ (n path argv : ℕ) (from to : SpawnStep) (unborne : spawning_child from ≡ None) (unborne_after : spawning_child to ≡ None)
-    (held : holds_page (spawns_at path argv from) ≡ holds_page (spawns_at path argv to)) where
-  pub goes_unborne : GoesFrom n path argv from to
-  goes_unborne = record {
-    shown = λ names t c h stands b is found stage so. shown_from h n path argv from to stands unborne unborne_after held found stage b is so;
-  }
+pub goes_unborne : (n path argv : ℕ) (from to : SpawnStep) → spawning_child from ≡ None → spawning_child to ≡ None →
+    holds_page (spawns_at path argv from) ≡ holds_page (spawns_at path argv to) → GoesFrom n path argv from to
+goes_unborne n path argv from to unborne unborne_after held = goes_bearing n path argv from to held (bears_none unborne unborne_after)
 
-  same_born : (d e : Born) → born d ≡ born e → d ≡ e
-  same_born d e same = cc
-
-  pub hides_unborne : HidesFrom n path argv from to
-  hides_unborne = record {
-    hidden = λ names t c h stands b is so.
-        let v = spawn_there h n path argv from stands in
-        let same : v.b ≡ b = same_born v.b b (sym v.is ∙ is) in
-        words_stand h n SERVICE_SPAWN v.b v.is v.own v.outside (ap borne_in v.place ∙ unborne) (ap is_calm v.place) (service.Spawn path argv)
-        (step.Spawning to) (ap holds_page v.place ∙ held) unborne_after refl
-        (named_at (slot_at t n) (service.Spawn path argv) (step.Spawning from) stands)
-        (subst (λ (x : Born). StandsAtSpawn (view_of t.spaces (slot_at t n).directory) (record (slot_at t n) { extra = spawn_words to }) x path argv to)
-        (sym same) so);
-  }
+pub hides_unborne : (n path argv : ℕ) (from to : SpawnStep) → spawning_child from ≡ None → spawning_child to ≡ None →
+    holds_page (spawns_at path argv from) ≡ holds_page (spawns_at path argv to) → HidesFrom n path argv from to
+hides_unborne n path argv from to unborne unborne_after held = hides_bearing n path argv from to held (bears_none unborne unborne_after)
 
 -- ---- the call
 
@@ -127,7 +141,7 @@ module _ (s : KernelState) (n path argv : ℕ) (from pausing awaiting : SpawnSte
     (stands : place_of (slot_at s n) ≡ spawns_at path argv from) (keeps : keeps_own from (page_number UTEMP) ≡ true)
     (by : spawn_asks_by from ≡ Some word) (waits_on : HidesFrom n path argv from pausing) (goes : GoesFrom n path argv from awaiting)
     (asking : (names : Names) (a : AbstractState) (h : StandsFor names s a) →
-    SpawnAsking a n (view_of s.spaces (slot_at s n).directory) (slot_at s n) (spawn_there h n path argv from stands).b path argv pausing awaiting) where
+    SpawnAsking a n (view_of s.spaces (slot_at s n).directory) (slot_at s n) (spawn_there h n path argv from stands).b path argv from pausing awaiting) where
   abbrev mid : KernelState
   mid = (page_ask_call s n word).state
 
@@ -151,7 +165,7 @@ module _ (s : KernelState) (n path argv : ℕ) (from pausing awaiting : SpawnSte
     abbrev b : Born
     b = (spawn_there h n path argv from stands).b
 
-    abbrev asks_now : SpawnAsking a n (view_of s.spaces (slot_at s n).directory) (slot_at s n) b path argv pausing awaiting
+    abbrev asks_now : SpawnAsking a n (view_of s.spaces (slot_at s n).directory) (slot_at s n) b path argv from pausing awaiting
     asks_now = asking names a h
 
     other : n ≢ 0
@@ -187,7 +201,7 @@ module _ (s : KernelState) (n path argv : ℕ) (from pausing awaiting : SpawnSte
     pub spawn_asked_stands : StandsFor names (with_extra (page_asked s sp n word) n (spawn_words awaiting))
         (at_stage (with_request_of a n asks_now.does.request) n (with_spawning b asks_now.found) (service.Spawn path argv) asked)
     spawn_asked_stands =
-        goes.shown names (page_asked s sp n word) (with_request_of a n asks_now.does.request) comes_there (ap (λ (k : Slot). place_of k) kept ∙ stands) b (spawn_there h n path argv from stands).is asks_now.found asked
+        goes.shown names (page_asked s sp n word) (with_request_of a n asks_now.does.request) comes_there (ap (λ (k : Slot). place_of k) kept ∙ stands) b (spawn_there h n path argv from stands).is asks_now.found asked asks_now.loads_on
         has_asked_there
 
   pub spawn_asked_keeps : IsInOrder mid → (page_ask_call s n word).gives ≡ got (Answered 0) →

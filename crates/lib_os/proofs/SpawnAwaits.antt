@@ -25,19 +25,18 @@ use Rattle.lib_os.specs.declared.spawn_steps.SpawnStep.{SpawnStep}
 use Rattle.lib_os.specs.declared.spawn_steps.SpawnStep.TheVariants as spawn
 use Rattle.lib_os.specs.AbstractRun.{abs_step}
 use Rattle.lib_os.specs.AbstractSpawn.{spawn_step}
-use Rattle.lib_os.specs.AbstractState.{AbstractState, Born, Spawning, asked, awaiting, heading, in_service, loading, opening, tabling}
+use Rattle.lib_os.specs.AbstractState.{AbstractState, Born, Phase, Spawning, asked, awaiting, heading, in_service, loading, opening, tabling}
 use Rattle.lib_os.specs.FileServer.{await_reply}
 use Rattle.lib_os.specs.LibraryCall.{library_step}
 use Rattle.lib_os.specs.LibraryPages.{View, has_copy}
 use Rattle.lib_os.specs.LibrarySteps.{KeepsStanding}
 use Rattle.lib_os.specs.Places.{place_of}
 use Rattle.lib_os.specs.Rows.{Names, rows_of}
-use Rattle.lib_os.specs.SpawnedChild.{spawning_child}
+use Rattle.lib_os.specs.SpawnedChild.{Loads, bytes_replied, spawning_child}
 use Rattle.lib_os.specs.StandsAtSpawn.{IsFor, StandsAtSpawn, awaits_bytes, awaits_file, destination_at, for_header, for_piece, for_table}
 use Rattle.lib_os.specs.StandsFor.{StandsAt, StandsFor, StandsForBorn, borne_in, upcall_at, view_of}
 use Rattle.lib_os.specs.UserCalls.{CallStep, got, system}
 use Rattle.lib_os.proofs.Calls.{ipc_recv_is, receives_at, waits_is}
-use Rattle.lib_os.proofs.Logical.{is_making_pipe, unborne_plain}
 use Rattle.lib_os.proofs.Numbered.{named_at}
 use Rattle.lib_os.proofs.PipesStand.{calm_places, descriptors_turned, is_calm}
 use Rattle.lib_os.proofs.Serving.{IsServed, holds_page, library_moved, pages_kept, plain_copy, plain_upcall, plain_working, printed_nothing, service_step}
@@ -46,7 +45,8 @@ use Rattle.lib_os.proofs.SlotsStand.{born_live}
 use Rattle.lib_os.proofs.SpawnOwnPages.{spawn_there, spawn_words, spawns_at}
 use Rattle.lib_os.proofs.SpawnReplies.{for_again}
 use Rattle.lib_os.proofs.SpawnWaits.{SpawnHasAsked, asked_so, asks_file, asks_part}
-use Rattle.lib_os.proofs.StatesStand.{slot_changed, stopped_settles}
+use Rattle.lib_os.proofs.SpawnedTurns.{KeepsBearing, LoadsOn, turned_children, turned_counts}
+use Rattle.lib_os.proofs.StatesStand.{slot_becomes, stopped_settles}
 use Rattle.lib_os.proofs.WordsTell.{is_in_handler, place_at}
 
 -- ---- where it waits
@@ -141,7 +141,7 @@ waits_asked a n b regs path argv found is = rw is refl
 module _ {names : Names} {s : KernelState} {a : AbstractState} (h : StandsFor names s a) (n path argv : ℕ) (from : SpawnStep)
     (stands : place_of (slot_at s n) ≡ spawns_at path argv from)
     (has : SpawnHasAsked (view_of s.spaces (slot_at s n).directory) (slot_at s n) (spawn_there h n path argv from stands).b path argv from)
-    (unborne : spawning_child from ≡ None) (unborne_after : spawning_child (behind_asked from) ≡ None)
+    (keeps : KeepsBearing from (behind_asked from))
     (held : holds_page (spawns_at path argv from) ≡ holds_page (spawns_at path argv (behind_asked from))) where
   abbrev k : Slot
   k = slot_at s n
@@ -198,6 +198,11 @@ module _ {names : Names} {s : KernelState} {a : AbstractState} (h : StandsFor na
             (waits_there (view_of s.spaces k.directory) k v.b path argv from has);
       }
 
+  -- no bytes have come with the reply, as before
+  loads_on : (id : ℕ) → spawning_child from ≡ Some id → LoadsOn v.b v.b.spawning (in_service (service.Spawn path argv) awaiting)
+  loads_on id is slot image file loads =
+      subst (λ (p : Phase). Loads slot image v.b.spawning (bytes_replied p) file) (asked_so has).phase loads
+
   -- the call
   receive_call : (rest : List ℕ) → system s n SYS_IPC_RECV (destination_of from ∷ FIRST_ENV_ID ∷ rest)
       ≡ record {
@@ -218,23 +223,23 @@ module _ {names : Names} {s : KernelState} {a : AbstractState} (h : StandsFor na
       ≡ with_slot_at s n (record asleep { extra = spawn_words to }) =
       ap (λ (x : CallStep Called). with_extra x.state n (spawn_words to)) (receive_call rest) ∙ words_put s n asleep (spawn_words to) in
       subst (λ (x : KernelState). StandsFor names x (await_reply a n v.b (service.Spawn path argv))) (sym after)
-      (slot_changed h n v.b v.is j (spawn_waiting v.b path argv) refl (stopped_settles k j refl refl refl refl)
-      (unborne_plain (place_of k) plain (ap borne_in stands ∙ unborne) (ap is_making_pipe stands))
-      (unborne_plain (place_of j) plain_after (ap borne_in j_place ∙ unborne_after) (ap is_making_pipe j_place)) waiting_own
-      (calm_places (ap is_calm stands) (ap is_calm j_place)) (λ fd. refl))
+      (slot_becomes h n v.b v.is j (spawn_waiting v.b path argv) refl (stopped_settles k j refl refl refl refl)
+      (turned_counts h n path argv v.b v.is from to stands j j_place refl refl (in_service (service.Spawn path argv) awaiting) v.b.spawning true loads_on keeps)
+      (turned_children h n path argv v.b v.is from to stands j j_place refl refl (in_service (service.Spawn path argv) awaiting) v.b.spawning true loads_on keeps)
+      waiting_own (calm_places (ap is_calm stands) (ap is_calm j_place)) (λ fd. refl))
 
 -- what the step comes to
 pub spawn_awaiting_keeps : (s : KernelState) (n path argv : ℕ) (from : SpawnStep) → place_of (slot_at s n) ≡ spawns_at path argv from →
     ((v : View) (k : Slot) (b : Born) → StandsAtSpawn v k b path argv from → SpawnHasAsked v k b path argv from) →
-    spawning_child from ≡ None → spawning_child (behind_asked from) ≡ None →
+    KeepsBearing from (behind_asked from) →
     holds_page (spawns_at path argv from) ≡ holds_page (spawns_at path argv (behind_asked from)) →
     KeepsStanding progress.Visible n s
     (with_extra (system s n SYS_IPC_RECV (destination_of from ∷ FIRST_ENV_ID ∷ 0 ∷ 0 ∷ 0 ∷ [])).state n (spawn_words (behind_asked from))) []
-spawn_awaiting_keeps s n path argv from stands has unborne unborne_after held a h turn quiet =
+spawn_awaiting_keeps s n path argv from stands has keeps held a h turn quiet =
     let v = spawn_there h.1 n path argv from stands in
     let it = has (view_of s.spaces (slot_at s n).directory) (slot_at s n) v.b v.at in (
       _,
-      waiting_step h.1 n path argv from stands it unborne unborne_after held,
+      waiting_step h.1 n path argv from stands it keeps held,
       printed_nothing a,
-      (h.0, waiting_stands h.1 n path argv from stands it unborne unborne_after held (0 ∷ 0 ∷ 0 ∷ [])),
+      (h.0, waiting_stands h.1 n path argv from stands it keeps held (0 ∷ 0 ∷ 0 ∷ [])),
     )

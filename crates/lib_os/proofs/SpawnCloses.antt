@@ -3,7 +3,7 @@ use Rattle.std.proofs.Common.{◌≡◌, ◌≢◌, ◌∙◌, ◌+◌, ◌*◌,
 use Rattle.std.specs.Prelude.{drop, is_some, nat_le, nat_lt, slice_index, Option, Some, None}
 use Rattle.std.proofs.lemmas.Bool.{false≢true}
 use Rattle.std.proofs.lemmas.Bool.Decides.{nat_tests}
-use Rattle.std.proofs.lemmas.List.{append-assoc, append-nil, drop-drop, length-append}
+use Rattle.std.proofs.lemmas.List.{append_assoc, append-nil, drop-drop, length-append}
 use Rattle.jos_base.specs.declared.numbers.TheConstants.{FDTABLE, NENV, NPTENTRIES, USTACKTOP}
 use Rattle.jos_base.specs.Environments.{Slot, is_live as is_live_slot}
 use Rattle.jos_base.specs.KernelState.{KernelState, slot_at, with_extra, with_spaces}
@@ -49,7 +49,7 @@ use Rattle.lib_os.proofs.SpawnUndoes.{found_after}
 all_more : (pieces : List (List ℕ)) (bytes : List ℕ) → all_of (pieces ++ bytes ∷ []) ≡ all_of pieces ++ bytes
 unfolding all_of
 all_more [] bytes = append-nil bytes
-all_more (piece ∷ rest) bytes = ap (λ (l : List ℕ). piece ++ l) (all_more rest bytes) ∙ sym (append-assoc piece (all_of rest) bytes)
+all_more (piece ∷ rest) bytes = ap (λ (l : List ℕ). piece ++ l) (all_more rest bytes) ∙ sym (append_assoc piece (all_of rest) bytes)
 
 -- the pieces behind the first that is left
 behind_first : (image : ImageRead) (pieces : List (List ℕ)) (bytes : List ℕ) (piece : Piece) (rest : List Piece) →
@@ -114,6 +114,7 @@ module _ (s : KernelState) (n path argv fd child : ℕ)
     -- ---- the abstract system's
 
     closing_step : abs_step a n ≡ Some (with_born a n later)
+    unfolding library_step spawn_step
     closing_step =
         service_step a n b has.found.is_in.regs (service.Spawn path argv) has.stage it.is has.found.is_in.program has.found.is_in.phase has.found.is_in.awake
         ∙ by_pieces has.has has.none_left has.found.is
@@ -122,7 +123,6 @@ module _ (s : KernelState) (n path argv fd child : ℕ)
             b.spawning ≡ Some (loading fd has.image m pieces) →
             library_step a n b has.found.is_in.regs (service.Spawn path argv) stage
             ≡ Some (with_born a n (file_gone b path argv fd (closed has.image m had) (taking [])))
-        unfolding library_step spawn_step
         by_pieces none_yet none_left is =
             let object = spawns_object h n path argv from stands fd has.of_file in rw (is, object, none_left) refl
         by_pieces (and_last bytes answer piece rest left long counts) none_left is =

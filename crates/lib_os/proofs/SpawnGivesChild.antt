@@ -1,6 +1,7 @@
 -- Spawn that bears a child gives it a page: one entry of the child's space is another, and no other entry, nor the bytes of any page. The kernel's state goes on
 -- standing for the same abstract one, where the child has what it is to have.
 use Rattle.std.proofs.Common.{◌≡◌, ◌≢◌, ◌∙◌, ◌%◌, ◌==◌, ℕ, Bool, true, false, List, Some, None, is_some, refl, sym, ap, subst, arith, if◌then◌else◌}
+use Rattle.std.proofs.lemmas.Bool.{false≢true}
 use Rattle.std.proofs.lemmas.Bool.Decides.{nat_tests}
 use Rattle.jos_base.specs.declared.numbers.TheConstants.{NENV}
 use Rattle.jos_base.specs.Environments.{Slot, is_live as is_live_slot}
@@ -17,7 +18,7 @@ use Rattle.lib_os.specs.AbstractState.{AbstractState, Born}
 use Rattle.lib_os.specs.DescriptorPages.{lasting_words}
 use Rattle.lib_os.specs.InOrder.{IsInOrder}
 use Rattle.lib_os.specs.Places.{place_of}
-use Rattle.lib_os.specs.Rows.{EntryRow, Names, Rows, counted, is_of_descriptor, is_pipe_page, logical, rows_of}
+use Rattle.lib_os.specs.Rows.{EntryRow, Names, Rows, counted, is_of_descriptor, is_pipe_page, is_shared, logical, rows_of}
 use Rattle.lib_os.specs.SpawnedChild.{spawning_child}
 use Rattle.lib_os.specs.SpawnPages.{is_childs}
 use Rattle.lib_os.specs.StandsAtSpawn.{StandsAtSpawn}
@@ -36,12 +37,13 @@ use Rattle.lib_os.proofs.StatesStand.{others_counts}
 pub record PutsInChild (s sp : SpacesState) (d p : ℕ) (e : Entry) : Type 0 where
   pub beside : (q r : ℕ) → Elsewhere q r d p → rows_of sp q r ≡ rows_of s q r
   pub there : rows_of sp d p ≡ Some e
-  pub bytes : (q r : ℕ) (x : Entry) → rows_of s q r ≡ Some x → sp.pages x.frame ≡ s.pages x.frame
+  pub bytes : (q r : ℕ) (x : Entry) → Elsewhere q r d p → rows_of s q r ≡ Some x → sp.pages x.frame ≡ s.pages x.frame
   pub regions : (q r : ℕ) → q ≢ d → is_some (sp.regions q r) ≡ is_some (s.regions q r)
 
 module _ {names : Names} {s : KernelState} {a : AbstractState} {sp : SpacesState} (h : StandsFor names s a) (n path argv id : ℕ) (from to : SpawnStep)
     (stands : place_of (slot_at s n) ≡ spawns_at path argv from) (bears : spawning_child from ≡ Some id) (p : ℕ) (e : Entry)
-    (puts : PutsInChild s.spaces sp (slot_at s (id % NENV)).directory p e) (last : s.last ≡ Some n) where
+    (puts : PutsInChild s.spaces sp (slot_at s (id % NENV)).directory p e)
+    (own_there : (x : Entry) → rows_of s.spaces (slot_at s (id % NENV)).directory p ≡ Some x → is_shared x.perm ≡ false) (last : s.last ≡ Some n) where
   abbrev it : IsServed names s a n (service.Spawn path argv) (step.Spawning from)
   it = spawn_there h n path argv from stands
 
@@ -66,10 +68,10 @@ module _ {names : Names} {s : KernelState} {a : AbstractState} {sp : SpacesState
   others_alike : (q : ℕ) → q ≢ d → SeenAlike names names s.spaces sp q
   others_alike q ne = record {
     rows = λ i r. puts.beside q r (λ same too. ne same) i;
-    bytes = λ r x hx own_page. puts.bytes q r x hx;
+    bytes = λ r x hx own_page. puts.bytes q r x (λ same too. ne same) hx;
     named_so = λ r x hx shared_page. refl;
-    devices = λ r x descriptor hx shared_page. ap lasting_words (puts.bytes q r x hx);
-    pipes = λ r x pipes hx shared_page. puts.bytes q r x hx;
+    devices = λ r x descriptor hx shared_page. ap lasting_words (puts.bytes q r x (λ same too. ne same) hx);
+    pipes = λ r x pipes hx shared_page. puts.bytes q r x (λ same too. ne same) hx;
     regions = λ r. puts.regions q r ne;
   }
 
@@ -87,10 +89,19 @@ module _ {names : Names} {s : KernelState} {a : AbstractState} {sp : SpacesState
   given_row r ne = puts.beside d r (λ same. ne)
 
   -- what counted keeps its bytes
-  pub given_bytes : (j r : ℕ) (x : Entry) → logical s.spaces s.environments.slots j r ≡ Some x → sp.pages x.frame ≡ s.spaces.pages x.frame
-  given_bytes j r x hx =
-      let found = (logical_some s.spaces s.environments.slots j r x hx).1 in
-      subst (λ (f : ℕ). sp.pages f ≡ s.spaces.pages f) found.frame (puts.bytes _ r found.entry found.stands)
+  pub given_bytes : (j r : ℕ) (x : Entry) → Elsewhere j r (id % NENV) p → logical s.spaces s.environments.slots j r ≡ Some x →
+      sp.pages x.frame ≡ s.spaces.pages x.frame
+  given_bytes j r x ne hx =
+      let both = logical_some s.spaces s.environments.slots j r x hx in
+      let found = both.1 in
+      let apart = h.in_order.spaces.apart j m both.0 (spawned_lives h giver) in
+      subst (λ (f : ℕ). sp.pages f ≡ s.spaces.pages f) found.frame (puts.bytes _ r found.entry (λ same. ne (apart same)) found.stands)
+
+  -- and what is shared
+  shared_bytes : (q r : ℕ) (x : Entry) → rows_of s.spaces q r ≡ Some x → is_shared x.perm ≡ true → sp.pages x.frame ≡ s.spaces.pages x.frame
+  shared_bytes q r x is shared_page =
+      puts.bytes q r x
+      (λ same too. false≢true (sym (own_there x ((λ i. rows_of s.spaces (sym same i) (sym too i)) ∙ is)) ∙ shared_page)) is
 
   module _ (bears_after : spawning_child to ≡ Some id) (held : holds_page (spawns_at path argv from) ≡ holds_page (spawns_at path argv to))
       (so : StandsAtSpawn (view_of sp (slot_at s n).directory) (record (slot_at s n) { extra = spawn_words to }) (spawn_there h n path argv from stands).b
@@ -104,7 +115,7 @@ module _ {names : Names} {s : KernelState} {a : AbstractState} {sp : SpacesState
     gives_by_rows rows =
         spawning_moves h n path argv id from to b giver bears_after sp (λ q ne beside. others_alike q beside)
         (went_own (slot_at s n) path argv from to stands held own_still so) has rows order (others_counts h n last sp)
-        (λ r pipes. giver_row r) (λ q r x is shared_page. puts.bytes q r x is)
+        (λ r pipes. giver_row r) shared_bytes
 
     -- where the same of its own pages are the child's at both steps
     module _ (childs : (q : ℕ) → is_childs from q ≡ is_childs to q) where

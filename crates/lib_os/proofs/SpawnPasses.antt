@@ -20,7 +20,7 @@ use Rattle.lib_os.specs.Places.{place_of}
 use Rattle.lib_os.specs.Rows.{EntryRow, Names, is_of_descriptor, is_programs, logical, rows_of}
 use Rattle.lib_os.specs.SpawnedChild.{IsProgress, Progress, child_page, handler_of, own_page, passing, registers_of, spawning_child}
 use Rattle.lib_os.specs.SpawnPages.{is_childs}
-use Rattle.lib_os.specs.StandsAtSpawn.{StandsAtSpawn}
+use Rattle.lib_os.specs.StandsAtSpawn.{IsClosed, StandsAtSpawn}
 use Rattle.lib_os.specs.StandsFor.{StandsFor, view_of}
 use Rattle.lib_os.proofs.EntriesStand.{rows_same, rows_stand}
 use Rattle.lib_os.proofs.Serving.{IsServed, holds_page}
@@ -36,6 +36,39 @@ pub record NoneShared (b : Born) (row : EntryRow) (low high : ℕ) : Type 0 wher
   pub memory : (p : ℕ) → is_programs p ≡ true → low ≤ p → p < high → (q : Option Page) → under_shared (b.memory p) q ≡ q
   pub descriptors : (p : ℕ) → is_of_descriptor p ≡ true → low ≤ p → p < high → row p ≡ None
 
+-- of one page it is so, where that is not shared
+pub none_shared_one : (b : Born) (row : EntryRow) (page : ℕ) → (is_programs page ≡ true → (q : Option Page) → under_shared (b.memory page) q ≡ q) →
+    (is_of_descriptor page ≡ true → row page ≡ None) → NoneShared b row page (page + 1)
+none_shared_one b row page memory descriptor = record {
+  memory = λ p inside at_least lower.
+      let here : page ≡ p = omega (arith, at_least, lower) in
+      subst (λ (r : ℕ). is_programs r ≡ true → (q : Option Page) → under_shared (b.memory r) q ≡ q) here memory inside;
+  descriptors = λ p is at_least lower.
+      let here : page ≡ p = omega (arith, at_least, lower) in
+      subst (λ (r : ℕ). is_of_descriptor r ≡ true → row r ≡ None) here descriptor is;
+}
+
+-- what is closed is so whatever its words are
+pub closed_with : {k : Slot} {b : Born} {path argv child : ℕ} (words : List ℕ) → IsClosed k b path argv child →
+    IsClosed (record k { extra = words }) b path argv child
+closed_with words h = record {
+  image = h.image;
+  pieces = h.pieces;
+  found = record {
+    is_in = record {
+      regs = h.found.is_in.regs;
+      program = h.found.is_in.program;
+      eax = h.found.is_in.eax;
+      registers = h.found.is_in.registers;
+      phase = h.found.is_in.phase;
+      silent = h.found.is_in.silent;
+      awake = h.found.is_in.awake;
+    };
+    is = h.found.is;
+  };
+  none_left = h.none_left;
+}
+
 -- ---- the child at a lower page
 
 module _ {names : Names} {s : SpacesState} {parent : Slot} {b : Born} {k : Slot} {id : ℕ} (from to : SpawnStep) (low high : ℕ) (lower : low ≤ high)
@@ -46,8 +79,8 @@ module _ {names : Names} {s : SpacesState} {parent : Slot} {b : Born} {k : Slot}
     image = x.image;
     file = x.file;
     loads = x.loads;
-    progress = passing n low;
-    is_so = is n;
+    progress = passing (entry_count_of (slice_index x.image.header)) low;
+    is_so = is (entry_count_of (slice_index x.image.header));
     registers = x.registers ∙ ap (λ (before : Progress). registers_of before.registers parent.registers x.image) was_so;
     upcall = x.upcall ∙ ap (λ (before : Progress). handler_of before.handler) was_so;
     memory = λ p inside.
@@ -65,21 +98,18 @@ module _ {names : Names} {s : SpacesState} {parent : Slot} {b : Born} {k : Slot}
     here = λ p childs. absurd (false≢true (sym (none_childs p) ∙ childs));
   }
     where
-      abbrev n : ℕ
-      n = entry_count_of (slice_index x.image.header)
-
-      was_so : x.progress ≡ passing n high
-      was_so = was n x.progress x.is_so
+      was_so : x.progress ≡ passing (entry_count_of (slice_index x.image.header)) high
+      was_so = was (entry_count_of (slice_index x.image.header)) x.progress x.is_so
 
       by_place : (p : ℕ) → is_programs p ≡ true → (c : Bool) → nat_le high p ≡ c → (d : Bool) → nat_le low p ≡ d →
-          (if c then under_shared (b.memory p) (own_page x.image (passing n high) x.file p) else own_page x.image (passing n high) x.file p)
-          ≡ (if d then under_shared (b.memory p) (own_page x.image (passing n low) x.file p) else own_page x.image (passing n low) x.file p)
+          (if c then under_shared (b.memory p) (own_page x.image (passing (entry_count_of (slice_index x.image.header)) high) x.file p) else own_page x.image (passing (entry_count_of (slice_index x.image.header)) high) x.file p)
+          ≡ (if d then under_shared (b.memory p) (own_page x.image (passing (entry_count_of (slice_index x.image.header)) low) x.file p) else own_page x.image (passing (entry_count_of (slice_index x.image.header)) low) x.file p)
       by_place p inside true above true over = refl
       by_place p inside false above false over = refl
       by_place p inside false above true over =
           let at_least : low ≤ p = grind (arith, nat_tests, over) in
           let below : p < high = grind (arith, nat_tests, above) in
-          sym (none.memory p inside at_least below (own_page x.image (passing n low) x.file p))
+          sym (none.memory p inside at_least below (own_page x.image (passing (entry_count_of (slice_index x.image.header)) low) x.file p))
       by_place p inside true above false over =
           absurd (let contradiction : false ≡ true = grind (arith, nat_tests, above, over, lower) in cc)
 
@@ -143,4 +173,4 @@ module _ {names : Names} {s : KernelState} {a : AbstractState} (h : StandsFor na
       spawning_moves h n path argv id from to b v bears_after s.spaces (λ d mine theirs. same_space names s.spaces d)
       (went_own (slot_at s n) path argv from to stands held it.own so) (has_moved (spawn_words to) has)
       (rows_same (logical s.spaces s.environments.slots) (logical s.spaces (upd s.environments.slots n moved)) (set_counts s n moved refl refl alike)
-      (rows_stand h)) h.in_order (λ j ne piped runs p x is. refl) (λ p pipes. refl) (λ d p x is shared_page. refl)
+      (rows_stand h)) h.in_order (λ j ne piped runs fd x y below is lies device. (refl, refl)) (λ p pipes. refl) (λ d p x is shared_page. refl)

@@ -74,6 +74,7 @@ all_bytes_with words h = record {
 
 pub stack_for_with : {v : View} {k : Slot} {b : Born} {path argv fd child : ℕ} (words : List ℕ) → HasStackFor v k b path argv fd child →
     HasStackFor v (record k { extra = words }) b path argv fd child
+unfolding all_bytes_with
 stack_for_with words h = record { has = all_bytes_with words h.has; esp = h.esp; stack = h.stack }
 
 -- ---- the handler
@@ -178,7 +179,7 @@ module _ {names : Names} {s : KernelState} {a : AbstractState} (h : StandsFor na
       (went_own (slot_at s n) path argv from to stands refl it.own (stack_for_with (spawn_words to) it.at)) still_unborn has_handler
       (rows_same (logical s.spaces s.environments.slots) (logical s.spaces (upd (upd s.environments.slots m handled) n moved)) all_count (rows_stand h))
       (slot_in_order running n moved (ap (λ (x : Slot). is_live_slot x) (sym bearer_was)) (ap (λ (x : Slot). x.directory) (sym bearer_was))
-      (slot_in_order s m handled refl refl h.in_order)) (λ j ne piped runs p x is. refl) (λ p pipes. refl) (λ d p x is shared_page. refl))
+      (slot_in_order s m handled refl refl h.in_order)) (λ j ne piped runs fd x y below is lies device. (refl, refl)) (λ p pipes. refl) (λ d p x is shared_page. refl))
 
 -- ---- the stack
 
@@ -236,9 +237,12 @@ module _ {names : Names} {s : KernelState} {a : AbstractState} {sp : SpacesState
   puts = record {
     beside = rows_beside;
     there = row_placed made.placed;
-    bytes = λ q r x hx. made.placed.bytes q r x (rows_kept q r x hx) (made.new q r x hx);
+    bytes = λ q r x ne hx. made.placed.bytes q r x (rows_kept q r x hx) (made.new q r x hx);
     regions = λ q r ne. other_regions made.placed q r ne;
   }
+
+  none_there : (x : Entry) → rows_of s.spaces d handlers_page ≡ Some x → is_shared x.perm ≡ false
+  none_there x is = absurd (none-some x (sym stood_none ∙ is))
 
   child_row : (r : ℕ) → r ≢ handlers_page → rows_of sp d r ≡ rows_of s.spaces d r
   child_row r ne = rows_beside d r (λ same. ne)
@@ -258,12 +262,12 @@ module _ {names : Names} {s : KernelState} {a : AbstractState} {sp : SpacesState
         registers = x.registers ∙ ap (λ (before : Progress). registers_of before.registers (slot_at s n).registers x.image) x.is_so;
         upcall = x.upcall ∙ ap (λ (before : Progress). handler_of before.handler) x.is_so;
         memory = λ p inside.
-            seen_at names names s.spaces sp d p (child_row p (programs_beside p inside).1) (λ e hx own_page. puts.bytes d p e hx) (λ e hx shared_page. refl)
+            seen_at names names s.spaces sp d p (child_row p (programs_beside p inside).1) (λ e hx own_page. puts.bytes d p e (λ same too. (programs_beside p inside).1 too) hx) (λ e hx shared_page. refl)
             ∙ x.memory p inside ∙ ap (λ (before : Progress). child_page owner x.image before x.file p) x.is_so;
         uncopied = λ p e inside is own_page. x.uncopied p e inside (sym (child_row p (programs_beside p inside).1) ∙ is) own_page;
         handed = λ p is on.
             child_row p (no_descriptor p is) ∙ x.handed p is (ap (λ (before : Progress). nat_le before.passed p) x.is_so ∙ on)
-            ∙ sym (giver_row h n path argv child begin then_at stands refl handlers_page new_entry puts last p);
+            ∙ sym (giver_row h n path argv child begin then_at stands refl handlers_page new_entry puts none_there last p);
         rest = λ p is off. child_row p (no_descriptor p is) ∙ x.rest p is (ap (λ (before : Progress). nat_le before.passed p) x.is_so ∙ off);
         handler_stack = λ on. record { entry = new_entry; stands = row_placed made.placed; own_page = refl; writes = refl };
         no_handler_stack = λ off. absurd (false≢true (sym off));
@@ -299,7 +303,7 @@ module _ {names : Names} {s : KernelState} {a : AbstractState} {sp : SpacesState
   stack_row : PutsRow names names s.spaces.pages a.shared sp.pages a.shared (things_in s a) a.next_name a.next_name
       (logical s.spaces s.environments.slots) (child % NENV) handlers_page (Some new_entry)
   stack_row = record {
-    bytes = λ j q x ne hx. kept j q x hx;
+    bytes = λ j q x ne hx. kept j q x ne hx;
     agree = λ j q x e ne hx is same.
         let found = (logical_some s.spaces s.environments.slots j q x hx).1 in
         absurd (made.new _ q found.entry found.stands (found.frame ∙ same ∙ ap (λ (y : Entry). y.frame) (sym (same_Some new_entry e is))));
@@ -310,14 +314,14 @@ module _ {names : Names} {s : KernelState} {a : AbstractState} {sp : SpacesState
         absurd (made.new (slot_at s 0).directory q y at (sym same ∙ ap (λ (x : Entry). x.frame) (sym (same_Some new_entry e is))));
     named_new = λ e is shared_page.
         let contradiction : false ≡ true = ap (λ (y : Entry). is_shared y.perm) (same_Some new_entry e is) ∙ shared_page in cc;
-    named_old = λ j q x ne hx shared_page was. named_bytes (sym (kept j q x hx)) was;
+    named_old = λ j q x ne hx shared_page was. named_bytes (sym (kept j q x ne hx)) was;
   }
     where
-      kept : (j q : ℕ) (x : Entry) → logical s.spaces s.environments.slots j q ≡ Some x → sp.pages x.frame ≡ s.spaces.pages x.frame
-      kept = given_bytes h n path argv child begin then_at stands refl handlers_page new_entry puts last
+      kept : (j q : ℕ) (x : Entry) → Elsewhere j q (child % NENV) handlers_page → logical s.spaces s.environments.slots j q ≡ Some x → sp.pages x.frame ≡ s.spaces.pages x.frame
+      kept = given_bytes h n path argv child begin then_at stands refl handlers_page new_entry puts none_there last
 
   pub handlers_stack_stands : StandsFor names (with_extra (with_spaces s sp) n (spawn_words (spawn.Finishing (finishing.ChildUpcall fd child)))) a
   handlers_stack_stands =
-      gives_child h n path argv child begin then_at stands refl handlers_page new_entry puts last refl refl
-      (stack_for_with (spawn_words then_at) (giver_stands h n path argv child begin then_at stands refl handlers_page new_entry puts last)) has_stack order
+      gives_child h n path argv child begin then_at stands refl handlers_page new_entry puts none_there last refl refl
+      (stack_for_with (spawn_words then_at) (giver_stands h n path argv child begin then_at stands refl handlers_page new_entry puts none_there last)) has_stack order
       (λ q. refl) stack_row

@@ -192,7 +192,7 @@ module _ (c : AbstractState) (n : ℕ) (b : Born) (k : Slot) (v : View) (path ar
 -- ---- where it stands
 
 -- where it reads its file no page of its own is the child's
-reading_apart : (wanted : FilePart) (at : ReadStep) (p : ℕ) → is_childs (spawn.Reading wanted at) p ≡ false
+pub reading_apart : (wanted : FilePart) (at : ReadStep) (p : ℕ) → is_childs (spawn.Reading wanted at) p ≡ false
 reading_apart wanted at p = none_of (p == page_number SPAWN_HERE) (p == page_number SPAWN_STACK)
   where
     none_of : (t u : Bool) → (t && false) || (u && false) ≡ false

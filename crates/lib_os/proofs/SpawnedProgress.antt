@@ -73,7 +73,7 @@ page_same b image file before after p passed stack placed filled settled =
     (λ i. if nat_le (passed i) p then under_shared (b.memory p) (own_by (stack i) (placed i) (filled i) (settled i))
     else own_by (stack i) (placed i) (filled i) (settled i))
   where
-    abbrev own_by : Bool → Bool → List Segment → Bool → Option Page
+    own_by : Bool → Bool → List Segment → Bool → Option Page
     own_by has_stack is_placed segments settled =
         if p == stack_page then (if has_stack then Some (stack_of image.words) else None)
         else (if is_placed then Some (own (page_bytes segments file p) (any_writes p segments || not settled)) else None)
@@ -156,7 +156,7 @@ loaded_whatever header len = refl
 filled_loaded : (image : ImageRead) (progress : Progress) (m : ℕ) → is_loaded (headers_filled image progress m) ≡ is_loaded (packed (headers_in image.table) m)
 filled_loaded image progress m = by_front (nat_lt m progress.filled)
   where
-    abbrev one : ProgramHeader
+    one : ProgramHeader
     one = packed (headers_in image.table) m
 
     by_front : (c : Bool) → is_loaded (if c then one else record one { file_len = if m == progress.filled then progress.bytes else 0 }) ≡ is_loaded one
@@ -173,7 +173,7 @@ filled_behind image headers header done all =
     (λ m. filled_loaded image (filling headers header done) m ∙ sym (filled_loaded image (filling headers (header + 1) 0) m))
     (λ m loaded. ap segment_of (by_front m (sym (filled_loaded image (filling headers header done) m) ∙ loaded) (nat_lt m header) refl (nat_lt m (header + 1)) refl))
   where
-    abbrev one : ℕ → ProgramHeader
+    one : ℕ → ProgramHeader
     one m = packed (headers_in image.table) m
 
     packed_loaded : (m : ℕ) → is_loaded (one m) ≡ true → is_loaded (headers_in image.table m) ≡ true

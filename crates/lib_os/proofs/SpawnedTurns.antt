@@ -20,12 +20,13 @@ use Rattle.lib_os.specs.SpawnedChild.{IsProgress, Loads, Progress, bytes_replied
 use Rattle.lib_os.specs.SpawnPages.{is_childs}
 use Rattle.lib_os.specs.StandsAtSpawn.{StandsAtSpawn}
 use Rattle.lib_os.specs.StandsFor.{HasChildren, IsBorneBy, StandsFor, StandsForBorn, borne_in, by_spawn, view_of}
+use Rattle.lib_os.proofs.Bearing.{same_unborn}
 use Rattle.lib_os.proofs.Children.{born_bears_none, children_kept, of_parent}
 use Rattle.lib_os.proofs.Logical.{is_making_pipe, unborne_plain}
 use Rattle.lib_os.proofs.PipesStand.{calm_places, is_calm}
 use Rattle.lib_os.proofs.Serving.{holds_page}
 use Rattle.lib_os.proofs.SpawnGathers.{shown_own, spawn_found}
-use Rattle.lib_os.proofs.SpawnedGoes.{HasOfImage, HereStill, born_named, child_apart, child_has, child_unborn, childs_alike, same_born, same_unborn, spawned_child}
+use Rattle.lib_os.proofs.SpawnedGoes.{HasOfImage, HereStill, born_named, child_apart, child_has, child_unborn, childs_alike, same_born, spawned_child}
 use Rattle.lib_os.proofs.SpawnedGoes.{unborn_named, went_place}
 use Rattle.lib_os.proofs.SpawnOwnPages.{spawn_there, spawn_words, spawns_at}
 use Rattle.lib_os.proofs.StatesStand.{CountsAlike, plain_alike, same_space, slot_becomes}

@@ -1,16 +1,18 @@
 //! What the library asks of the kernel for an environment.
 
-ghost use Rattle.std.specs.Prelude.{◌≡◌, ℕ, ◌+◌, ◌-◌, ◌%◌, ◌<◌, ◌^◌, [], true, OnErr};
+ghost use Rattle.std.specs.Prelude.{◌≡◌, ◌≢◌, ℕ, ◌+◌, ◌-◌, ◌%◌, ◌<◌, ◌^◌, [], true, OnErr};
 ghost use Rattle.jos_host.specs.declared.host.HostCall.TheVariants.{Read, Write};
 ghost use Rattle.jos_host.specs.Told.{HasCause};
 ghost use Rattle.jos_host.specs.Frames.{Unchanged, around, from_to};
+ghost use Rattle.jos_base.specs.declared.called.Called.TheVariants.{Ended};
+ghost use Rattle.jos_base.specs.declared.numbers.TheConstants.{SYS_CPUTS};
 ghost use Rattle.jos_base.specs.Environments.{is_live};
 ghost use Rattle.jos_base.specs.KernelState.{KernelState, slot_at, with_registers, with_extra};
 ghost use Rattle.jos_base.specs.SystemCalls.{is_page_address, may_print};
 ghost use Rattle.lib_os.specs.InOrder.{IsInOrder};
 ghost use Rattle.lib_os.specs.Disk.{DiskFile, HasBlocks};
 ghost use Rattle.lib_os.specs.UserCalls as call;
-ghost use Rattle.lib_os.specs.UserCalls.{IsStep, IsCallStep, HasStopCause, Prints, output};
+ghost use Rattle.lib_os.specs.UserCalls.{got, IsStep, IsCallStep, HasStopCause, Prints, output};
 ghost use Rattle.lib_os.specs.UserCalls.{block_call, may_read_block, may_write_block, asked_by, IsBlockRead, IsBlockWrite, FilesBehind};
 
 use jos_base::{Called, Extra, Regs};
@@ -106,6 +108,9 @@ pub trait UserOs {
 
     /// Makes the system call with a number, given these words. The environment's registers are as before, but where the call
     /// set them.
+    ///
+    /// # Errors
+    /// The host failed, in a call that prints (`fails`): in cputs, or else in the line of the environment's end (`ended`).
     fn system<H: Host>(
         &mut self,
         host: &mut H,
@@ -116,6 +121,7 @@ pub trait UserOs {
         requires few { calls self.old < 2 ^ 32 - 1 }
         ensures step { IsCallStep (call.system (state self.old) (slot self.old) number args) result (state self.new) (output H.console written (from_to host.old host.new) (from_to self.old self.new)) }
         ensures fails { OnErr result (may_print number ≡ true) }
+        ensures ended { OnErr result (number ≢ SYS_CPUTS → (call.system (state self.old) (slot self.old) number args).gives ≡ got Ended) }
         ensures in_order { IsInOrder (state self.new) }
         ensures slot { slot self.new ≡ slot self.old }
         ensures disk { disk self.new ≡ disk self.old }

@@ -179,7 +179,7 @@ module _ (s : KernelState) (n reading writing : ℕ) (live : is_live (slot_at s 
             subst (λ (z : CallStep Called). IsInOrder z.state → FollowsBy s n mapping a z) (sym maps.step)
             (λ in_order.
             made_goes h.1 n reading writing stands maps.entry maps.stands (maps.given in_order) in_order turn.last) order;
-        fails = λ may a h turn. absurd (let contradiction : false ≡ true = may in cc);
+        fails = λ may a h turn. absurd (let contradiction : false ≡ true = may.0 in cc);
         leaves = plain_leaves s n mapping refl;
         lowers = falling_lowers s n mapping asked service.Pipe (step.Piped (pipe.MappingPipe reading writing)) stands refl goes
             (λ a h turn is. system_never s n SYS_PAGE_MAP _ a h turn is) (λ called. tt);

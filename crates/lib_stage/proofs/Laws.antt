@@ -601,7 +601,7 @@ law_of_call s n plan service from at number args asks silent on keeps =
     (subst (λ (z : CallStep Called). GoesOn s n plan z) (sym is) (giving_goes s n plan (system s n number args) on))
     (subst (λ (z : CallStep Called). NeverFaults s n z) (sym is) (system_never s n number args))
     (subst (λ (z : CallStep Called). IsInOrder z.state → KeepsBy s n plan z) (sym is) keeps)
-    (λ may a h turn. absurd (let contradiction : true ≡ false = sym (subst (λ (x : Ask). MayFail x (performed s n plan.asks).gives) asks may) ∙ silent in cc))
+    (λ may a h turn. absurd (let contradiction : true ≡ false = sym (subst (λ (x : Ask). MayFail x (performed s n plan.asks).gives) asks may).0 ∙ silent in cc))
 
 -- a call that has answered, by its answer
 pub answered_keeps : (s : KernelState) (n : ℕ) (plan : Plan) (step : CallStep Called) (it : IsAnswered step n (slot_at s n).registers) →
@@ -645,7 +645,7 @@ module _ (s : KernelState) (n : ℕ) (service : Service) (from : Step) (stands :
       record {
         lives = λ called is stays. absurd (let contradiction : true ≡ false = stays in cc);
         keeps = keeps;
-        fails = λ may a h turn. absurd (let contradiction : true ≡ false = sym may ∙ silent in cc);
+        fails = λ may a h turn. absurd (let contradiction : true ≡ false = sym may.0 ∙ silent in cc);
         leaves = plain_leaves s n ending plain;
         lowers = gone_lowers s n number ending.asks (performed s n ending.asks) (performed s n ending.asks).gives (system_never s n call args);
         gives_up = gives_nothing_up (Ok did.progress) (slot_at s n) (slot_at did.state n) (ap is_pausing stands ∙ goes_on);
@@ -793,7 +793,7 @@ module _ (s : KernelState) (n : ℕ) (service : Service) (from to : Step) (numbe
       subst (λ (z : CallStep Called). PlanHolds s n pause z) (sym (yield_is s n live args)) (record {
         lives = λ called is stays. ap (λ (k : Slot). is_live k) slot_is;
         keeps = λ order. keeps;
-        fails = λ may a h turn. absurd (let contradiction : false ≡ true = may in cc);
+        fails = λ may a h turn. absurd (let contradiction : false ≡ true = may.0 in cc);
         leaves = record {
           rest = record { last = rest.last; turns = rest.turns; frames = rest.frames; refused = rest.refused; told = rest.told };
           turn = λ a stands_for running silent runs. ap is_pausing stands ∙ pausing;

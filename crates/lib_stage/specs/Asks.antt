@@ -1,8 +1,8 @@
 -- What an ask is: a call of the kernel, whose word is told as an answer.
-use Rattle.std.specs.Prelude.{◌≡◌, ℕ, ◌%◌, Bool, true, false, List, [], ◌∷◌, Result, Ok, Err}
+use Rattle.std.specs.Prelude.{◌≡◌, ◌≢◌, ℕ, ◌%◌, Bool, true, false, List, [], ◌∷◌, Result, Ok, Err}
 use Rattle.jos_base.specs.declared.called.Called.{Called}
-use Rattle.jos_base.specs.declared.called.Called.TheVariants.{Answered}
-use Rattle.jos_base.specs.declared.numbers.TheConstants.{SYS_EXOFORK}
+use Rattle.jos_base.specs.declared.called.Called.TheVariants.{Answered, Ended}
+use Rattle.jos_base.specs.declared.numbers.TheConstants.{SYS_CPUTS, SYS_EXOFORK}
 use Rattle.jos_base.specs.declared.registers.Regs.{Regs}
 use Rattle.jos_base.specs.KernelState.{KernelState, slot_at, with_registers}
 use Rattle.jos_base.specs.SystemCalls.{may_print}
@@ -67,9 +67,10 @@ IsAligned (ask.Store va word) = va % 4 ≡ 0
 IsAligned (ask.Exchange va word) = va % 4 ≡ 0
 IsAligned _ = Unit {0}
 
--- The host may fail in it: in a system call that prints, and where the environment is destroyed by its fault.
+-- The host may fail in it: in a system call that prints, which is cputs, or else destroys the environment with its line; and where the
+-- environment is destroyed by its fault.
 abbrev pub MayFail : Ask → Got Called → Type 0
-MayFail (ask.System number args) gives = may_print number ≡ true
+MayFail (ask.System number args) gives = (may_print number ≡ true) × (number ≢ SYS_CPUTS → gives ≡ got Ended)
 MayFail ask.Exofork gives = ⊥
 MayFail _ gives = gives ≡ gone
 

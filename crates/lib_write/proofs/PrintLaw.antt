@@ -119,7 +119,7 @@ module _ (s : KernelState) (n fd va len : ℕ) (live : is_live (slot_at s n) ≡
     unfolding performed
     releasing_holds =
         law_with s n releasing write step.Releasing there (λ called is stays. (give_lives s n live).live) given_keeps
-        (λ may a h turn. absurd (let contradiction : false ≡ true = may in cc)) given_lowers
+        (λ may a h turn. absurd (let contradiction : false ≡ true = may.0 in cc)) given_lowers
 
   -- ---- it gives back the page from which the bytes of a pipe were put
 
@@ -144,4 +144,4 @@ module _ (s : KernelState) (n fd va len : ℕ) (live : is_live (slot_at s n) ≡
     unfolding performed
     returning_holds =
         law_with s n returning write (step.Returning answer) back_there (λ called is stays. (give_lives s n live).live) back_keeps
-        (λ may a h turn. absurd (let contradiction : false ≡ true = may in cc)) back_lowers
+        (λ may a h turn. absurd (let contradiction : false ≡ true = may.0 in cc)) back_lowers

@@ -1,6 +1,6 @@
 /* Prints /motd by cputs, piece by piece, and then starts /init, with words; it does not wait for its end. (MIT 6.828, lab 5: user/icode.c) */
 #include "print.h"
-#include "spawn.h"
+#include "service.h"
 
 static char buffer[512];
 

@@ -2,7 +2,7 @@
    (MIT 6.828, lab 5: user/sh.c) */
 #include "output.h"
 #include "print.h"
-#include "spawn.h"
+#include "service.h"
 #include "string.h"
 
 #define LINE_MAX 1023

@@ -2,7 +2,7 @@
    `spawnhello /init one two` does what lab 5's user/spawninit.c does, and `spawnhello /faultio` what user/spawnfaultio.c does.
    (MIT 6.828, lab 5: user/spawnhello.c) */
 #include "print.h"
-#include "spawn.h"
+#include "service.h"
 
 void umain(int argc, char **argv)
 {

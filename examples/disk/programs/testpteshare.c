@@ -1,7 +1,7 @@
 /* A page that is shared is the same for a child, whether by fork or by spawn: what that writes there its parent reads. With the word `fork`
    only the first is tried; with `child` it is itself the child by spawn. (MIT 6.828, lab 5: user/testpteshare.c) */
 #include "print.h"
-#include "spawn.h"
+#include "service.h"
 #include "string.h"
 
 #define SHARED ((char *)0xA0000000)

@@ -6,7 +6,7 @@ use Rattle.jos_kernel.specs.Machine as kernel
 use Rattle.lib_os.specs.UserCalls.{sets_own, taken_back}
 use Rattle.lib_os.proofs.Slots.{slot_put}
 use Rattle.jos_run.specs.Served.{Parts, kernel_state}
-use Rattle.jos_run.proofs.Answers.{answered_step, failed_step, failed_prints}
+use Rattle.jos_run.proofs.Answers.{answered_step, failed_step, failed_prints, failed_ended}
 use Rattle.jos_run.proofs.served.ServedUserOs.system.Goals as goal
 
 pub call-requires : goal.call-requires
@@ -46,3 +46,12 @@ returns-in-Err-clause-fails g c =
     let kept_is = subst (λ (m : Parts). c.registers-registers.result ≡ (slot_at (kernel_state m) m.slot).registers) (sym c.self.view_is) c.registers-registers.ensures in
     failed_prints before (kernel.kernel_state c.set_registers.new.self) mid mid c.self.inside.slot c.args.number c.args.args (around g.H.Host.console c.args.host.now c.call.new.host)
     0 0 _ _ kept_is c.asking.ensures c.set_registers.ensures c.in-Err.ensures.fails
+
+pub returns-in-Err-clause-ended : goal.returns-in-Err-clause-ended
+returns-in-Err-clause-ended g c =
+    let before = kernel.kernel_state c.self.inside.machine in
+    let mid = kernel.kernel_state c.call.new.self in
+    let kept_is = subst (λ (m : Parts). c.registers-registers.result ≡ (slot_at (kernel_state m) m.slot).registers) (sym c.self.view_is) c.registers-registers.ensures in
+    rw (← c.self.view_is)
+    (failed_ended before (kernel.kernel_state c.set_registers.new.self) mid mid c.self.inside.slot c.args.number c.args.args (around g.H.Host.console c.args.host.now c.call.new.host)
+    0 0 _ _ kept_is c.asking.ensures c.set_registers.ensures c.in-Err.ensures.ended)

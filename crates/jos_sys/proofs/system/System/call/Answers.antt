@@ -7,7 +7,7 @@ use Rattle.jos_sys.specs.System.{state_of, left_of, Does}
 use Rattle.jos_sys.proofs.Answering.{call_does, none_is_few, cgetc_is}
 use Rattle.jos_sys.proofs.Dispatch.{is_cputs, is_cgetc, is_getenvid, is_env_destroy, is_exofork, is_env_set_status, is_yield, is_none}
 use Rattle.jos_sys.proofs.Dispatch.{is_page_alloc, is_page_map, is_page_unmap, is_env_set_trapframe, is_env_set_pgfault_upcall, is_ipc_try_send, is_ipc_recv}
-use Rattle.jos_sys.proofs.Dispatch.{cputs_fails, env_set_trapframe_fails}
+use Rattle.jos_sys.proofs.Dispatch.{cputs_fails, cputs_ended, env_set_trapframe_fails, env_set_trapframe_ended}
 use Rattle.jos_sys.proofs.system.System.call.Goals as goal
 
 pub environment-requires : goal.environment-requires
@@ -159,3 +159,14 @@ pub returns-in-9-clause-fails : goal.returns-in-9-clause-fails
 returns-in-9-clause-fails g c =
     let input = left_of c.args.input.now in
     env_set_trapframe_fails (state_of c.args.self.now input) c.args.current _ (c.registers-registers.ensures input) _ c.in-9.is
+
+pub returns-in-0-clause-ended : goal.returns-in-0-clause-ended
+returns-in-0-clause-ended g c =
+    let input = left_of c.args.input.now in
+    cputs_ended (state_of c.args.self.now input) c.args.current _ (c.registers-registers.ensures input) _ c.in-0.is
+
+pub returns-in-9-clause-ended : goal.returns-in-9-clause-ended
+returns-in-9-clause-ended g c =
+    let input = left_of c.args.input.now in
+    env_set_trapframe_ended (state_of c.args.self.now input) c.args.current _ (c.registers-registers.ensures input) _
+    (λ input. state_of c.args.self.now input) input refl c.in-9.is c.env_set_trapframe.ensures.ended

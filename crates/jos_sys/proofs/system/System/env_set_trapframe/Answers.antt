@@ -6,7 +6,7 @@ use Rattle.jos_base.specs.TrapFrames.{from_record, words_of_bytes}
 use Rattle.jos_host.specs.Frames.{around}
 use Rattle.jos_sys.specs.System.{state_of, Does}
 use Rattle.jos_sys.proofs.Answering.{found_live, done_does, none_is_few}
-use Rattle.jos_sys.proofs.Faulting.{no_trapframe, trapframe_set, trapframe_unread}
+use Rattle.jos_sys.proofs.Faulting.{no_trapframe, trapframe_set, trapframe_unread, unread_ended}
 use Rattle.jos_sys.proofs.system.System.env_set_trapframe.Goals as goal
 
 pub set_registers-requires : goal.set_registers-requires
@@ -37,3 +37,8 @@ returns-in-None-clause-told g c = λ input.
 
 pub returns-in-None-clause-small : goal.returns-in-None-clause-small
 returns-in-None-clause-small g c = none_is_few (c.refuse.ensures.state []).2
+
+pub returns-in-Err-clause-ended : goal.returns-in-Err-clause-ended
+returns-in-Err-clause-ended g c =
+    unread_ended c.kill.result (λ input. state_of c.args.self.now input) c.args.current c.args.id.0 c.in-Some.target c.args.va c.in-Err.fault
+    (λ input. c.in-Some.ensures) c.in-Err.ensures.err
