@@ -7,3 +7,7 @@ pub mod PassingSteps
 pub mod RightsWrites
 pub mod RightsApart
 pub mod RightsProgress
+pub mod RightsOn
+pub mod RightsHeaders
+pub mod RightsLoads
+pub mod SharedLoads

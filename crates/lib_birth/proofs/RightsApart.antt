@@ -68,9 +68,9 @@ later_apart total headers (suc n) passed m q less below first second =
         (omega (arith, less, here)) first)
     by_last false test last before = before (let other : q ≢ n = grind (arith, nat_tests, test) in omega (arith, below, other))
 
-turned : {a b : Segment} → Apart a b → Apart b a
-turned (inl before) = inr before
-turned (inr behind) = inl behind
+turned : (a b : Segment) → Apart a b → Apart b a
+turned a b (inl before) = inr before
+turned a b (inr behind) = inl behind
 
 -- two segments of an image whose tests pass
 pub image_apart : {v : View} {image : ImageRead} {headers : ℕ} (whole : HasImage v image headers) (header other : ℕ) → header < headers → other < headers →
@@ -84,7 +84,8 @@ image_apart {image = image} {headers = headers} whole header other below lower n
         later_apart whole.size (headers_in image.table) headers whole.passed header other less lower loaded other_loaded
     by_order false test =
         let most : other ≤ header = grind (arith, nat_tests, test) in
-        turned (later_apart whole.size (headers_in image.table) headers whole.passed other header (omega (arith, most, ne)) below other_loaded loaded)
+        turned (segment_of (headers_in image.table other)) (segment_of (headers_in image.table header))
+        (later_apart whole.size (headers_in image.table) headers whole.passed other header (omega (arith, most, ne)) below other_loaded loaded)
 
 -- ---- the pages of a segment
 

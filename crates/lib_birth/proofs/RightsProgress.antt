@@ -76,7 +76,7 @@ touched_so image p header is =
     (touches p (segment_of (headers_in image.table header))) is in
     let first = and_parts (nat_lt header (entry_count_of (slice_index image.header))) (is_loaded (headers_in image.table header)) parts.0 in
     let test = first.0 in
-    (grind (arith, nat_tests, test), (first.1, parts.1))
+    (grind (arith, nat_tests, test), first.1, parts.1)
 
 pub touched_is : (image : ImageRead) (p header : ℕ) → header < entry_count_of (slice_index image.header) → is_loaded (headers_in image.table header) ≡ true →
     touches p (segment_of (headers_in image.table header)) ≡ true → header_touches image p header ≡ true
@@ -96,8 +96,9 @@ rights_kept b image file headers header writable =
     by_touch p none true is =
         let it = touched_so image p header is in
         let loaded = it.1 in
+        let part = it.2 in
         absurd (let contradiction : true ≡ false = sym (writes_found (headers_in image.table) p (entry_count_of (slice_index image.header)) header it.0
-        (λ i. loaded.0 i && loaded.1 i && writable i)) ∙ none in cc)
+        (λ i. loaded i && (part i && writable i))) ∙ none in cc)
 
 -- ---- the pages of a segment that is only read
 

@@ -1,5 +1,5 @@
 -- In which pages a segment lies that may be written: by so many program headers, and whatever their segments' bytes are.
-use Rattle.std.proofs.Common.{◌≡◌, ◌∙◌, ◌+◌, ◌<◌, ◌==◌, ◌&&◌, ◌||◌, ℕ, zero, suc, Bool, true, false, [], ◌∷◌, refl, sym, ap, arith, if◌then◌else◌}
+use Rattle.std.proofs.Common.{◌≡◌, ◌∙◌, ◌+◌, ◌<◌, ◌≤◌, ◌==◌, ◌&&◌, ◌||◌, ℕ, zero, suc, Bool, true, false, [], ◌∷◌, refl, sym, ap, arith, if◌then◌else◌}
 use Rattle.std.specs.Prelude.{nat_lt, slice_index}
 use Rattle.std.proofs.lemmas.Bool.Decides.{nat_tests}
 use Rattle.std.proofs.lemmas.List.Folds.{list_any-append}
@@ -46,6 +46,25 @@ writes_more headers p n =
 pub writes_none : (headers : ℕ → ProgramHeader) (p : ℕ) → any_writes p (segments_of headers 0) ≡ false
 unfolding segments_of
 writes_none headers p = refl
+
+-- where so many say of none, fewer do
+pub writes_fewer : (headers : ℕ → ProgramHeader) (p fewer n : ℕ) → fewer ≤ n → any_writes p (segments_of headers n) ≡ false →
+    any_writes p (segments_of headers fewer) ≡ false
+writes_fewer headers p fewer zero most none = let same : fewer ≡ 0 = omega (arith, most) in ap (λ (m : ℕ). any_writes p (segments_of headers m)) same ∙ none
+writes_fewer headers p fewer (suc n) most none = by_last (fewer == suc n) refl (λ less. writes_fewer headers p fewer n less before)
+  where
+    first_off : (c d : Bool) → (c || d) ≡ false → c ≡ false
+    first_off true d off = off
+    first_off false d off = refl
+
+    before : any_writes p (segments_of headers n) ≡ false
+    before = first_off (any_writes p (segments_of headers n)) (header_writes p (headers n)) (sym (writes_next headers p n) ∙ none)
+
+    by_last : (c : Bool) → (fewer == suc n) ≡ c → (fewer ≤ n → any_writes p (segments_of headers fewer) ≡ false) →
+        any_writes p (segments_of headers fewer) ≡ false
+    by_last true test earlier =
+        let same : fewer ≡ suc n = grind (arith, nat_tests, test) in ap (λ (m : ℕ). any_writes p (segments_of headers m)) same ∙ none
+    by_last false test earlier = earlier (let other : (fewer ≡ suc n → ⊥) = grind (arith, nat_tests, test) in omega (arith, most, other))
 
 -- one of them says of one there
 pub writes_found : (headers : ℕ → ProgramHeader) (p n m : ℕ) → m < n → header_writes p (headers m) ≡ true → any_writes p (segments_of headers n) ≡ true
