@@ -11,3 +11,4 @@ pub mod RightsOn
 pub mod RightsHeaders
 pub mod RightsLoads
 pub mod SharedLoads
+pub mod HandingSteps

@@ -7,6 +7,7 @@ use Rattle.std.proofs.lemmas.Option.{none-some}
 use Rattle.jos_base.specs.declared.numbers.TheConstants.{NENV}
 use Rattle.jos_base.specs.Environments.{Slot}
 use Rattle.jos_base.specs.Words.{page_number}
+use Rattle.jos_elf.specs.Tests.{first_failed, table_tests}
 use Rattle.lib_os.specs.declared.numbers.TheConstants.{SPAWN_GIVEN, SPAWN_HERE, SPAWN_STACK}
 use Rattle.lib_os.specs.declared.place.Step.TheVariants as step
 use Rattle.lib_os.specs.declared.spawn_steps.BearingStep.TheVariants as bearing
@@ -98,6 +99,11 @@ module _ {v : View} {k : Slot} {b : Born} {path argv fd headers child header : �
     has = h.has;
     none_left = h.left ∙ after_last image header (last ∙ h.whole.many);
     of_file = h.of_file;
+    tested = record {
+      size = h.whole.size;
+      passed = ap (λ (n : ℕ). first_failed (table_tests h.whole.size (headers_in image.table) n)) (sym h.whole.many) ∙ h.whole.passed;
+      fits = h.whole.stack.fits;
+    };
   }
 
   abbrev Comes : SpawnStep → Type 0

@@ -210,7 +210,6 @@ pub mod SpawnRefuses
 pub mod BearsOn
 pub mod SpawnedGoes
 pub mod SpawnedMoves
-pub mod SpawnedTurns
 pub mod BorneCalls
 pub mod SpawnDestroys
 pub mod SpawnDrops
@@ -223,4 +222,6 @@ pub mod SpawnReadies
 pub mod SpawnPasses
 pub mod SpawnedProgress
 pub mod ChildPlaced
+pub mod SpawnHandsOn
+pub mod SpawnedImage
 pub mod SpawnBegun

@@ -214,6 +214,7 @@ module _ (s : KernelState) (n path argv fd child : ℕ)
         pieces = has.had;
         found = found_after (spawn_words to) found later refl refl refl refl has.found.is_in;
         none_left = has.none_left;
+        tested = has.tested;
       },
       omega arith,
     )

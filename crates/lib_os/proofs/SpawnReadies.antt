@@ -69,6 +69,7 @@ all_bytes_with words h = record {
   };
   has = h.has;
   none_left = h.none_left;
+  tested = h.tested;
   of_file = h.of_file;
 }
 

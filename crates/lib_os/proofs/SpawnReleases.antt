@@ -81,6 +81,7 @@ all_bytes_aside words it none h = record {
   };
   has = h.has;
   none_left = h.none_left;
+  tested = h.tested;
   of_file = file_aside it none h.of_file;
 }
 

@@ -737,6 +737,7 @@ module _ (v w : View) (row : w.row ≡ v.row) (told : SameTold v w) (given_own :
       has = h.has;
       none_left = h.none_left;
       of_file = of_file_kept v w row told fd h.of_file;
+      tested = h.tested;
     }
 
     abbrev settling_kept : (fd headers child header : ℕ) (known : ProgramHeader → Type 0) → IsSettling v k b path argv fd headers child header known →
@@ -759,7 +760,7 @@ module _ (v w : View) (row : w.row ≡ v.row) (told : SameTold v w) (given_own :
         record { has = all_bytes_kept fd child h.has; esp = h.esp; stack = stack_kept v w row stack_own h.has.image.words h.esp h.stack }
 
     closed_kept : (child : ℕ) → IsClosed k b path argv child → IsClosed slot_after born_after path argv child
-    closed_kept child h = record { image = h.image; pieces = h.pieces; found = found_kept _ _ h.found; none_left = h.none_left }
+    closed_kept child h = record { image = h.image; pieces = h.pieces; found = found_kept _ _ h.found; none_left = h.none_left; tested = h.tested }
 
     passing_kept : (page perm : ℕ) → IsPassing v page perm → IsPassing w page perm
     passing_kept page perm h =

@@ -167,6 +167,7 @@ filled_loaded image progress m = by_front (nat_lt m progress.filled)
 pub filled_behind : (image : ImageRead) (headers header done : ℕ) →
     (is_loaded (headers_in image.table header) ≡ true → done ≡ (headers_in image.table header).file_len) →
     segments_filled image (filling headers header done) ≡ segments_filled image (filling headers (header + 1) 0)
+unfolding is_loaded
 filled_behind image headers header done all =
     segments_alike (headers_filled image (filling headers header done)) (headers_filled image (filling headers (header + 1) 0))
     (entry_count_of (slice_index image.header))
@@ -177,7 +178,6 @@ filled_behind image headers header done all =
     one m = packed (headers_in image.table) m
 
     packed_loaded : (m : ℕ) → is_loaded (one m) ≡ true → is_loaded (headers_in image.table m) ≡ true
-    unfolding is_loaded
     packed_loaded m is = is
 
     len_same : (m len : ℕ) → len ≡ (one m).file_len → record (one m) { file_len = len } ≡ one m

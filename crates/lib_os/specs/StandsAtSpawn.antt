@@ -432,6 +432,12 @@ pub record HasImage (v : View) (image : ImageRead) (headers : ℕ) : Type 0 wher
   pub esp : ℕ
   pub stack : HasStack v image.words esp
 
+-- Its segments passed their tests, with a file of some size, and the words have room on its stack.
+pub record IsTested (image : ImageRead) : Type 0 where
+  pub size : ℕ
+  pub passed : first_failed (table_tests size (headers_in image.table) (entry_count_of (slice_index image.header))) ≡ None
+  pub fits : fits_stack image.words ≡ true
+
 -- Nothing is asked for; or the piece that was asked for has come whole, and the child has its bytes.
 pub data HasPieces (image : ImageRead) (pieces : List (List ℕ)) : List (List ℕ) → Stage → Type 0 where
   none_yet : HasPieces image pieces pieces (taking [])
@@ -810,6 +816,7 @@ pub record HasAllBytes (v : View) (k : Slot) (b : Born) (path argv fd child : �
   pub has : HasPieces image pieces had stage
   pub none_left : pieces_left image had ≡ []
   pub of_file : IsOfFile v fd
+  pub tested : IsTested image
 
 -- its page has the program headers, and the rights of the pages of those in front of this one are set, of which so much is known
 pub record IsSettling (v : View) (k : Slot) (b : Born) (path argv fd headers child header : ℕ) (known : ProgramHeader → Type 0) : Type 0 where
@@ -850,6 +857,7 @@ pub record IsClosed (k : Slot) (b : Born) (path argv child : ℕ) : Type 0 where
   pub pieces : List (List ℕ)
   pub found : Found k b path argv (taking []) (closed image (child % NENV) pieces)
   pub none_left : pieces_left image pieces ≡ []
+  pub tested : IsTested image
 
 -- a page of its own is shared, and has these bits
 pub record IsPassing (v : View) (page perm : ℕ) : Type 0 where
