@@ -227,3 +227,4 @@ pub mod SpawnBegun
 pub mod HereMoves
 pub mod BornOn
 pub mod SpawnBirths
+pub mod SpawnedTurns
