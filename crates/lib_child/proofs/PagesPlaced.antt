@@ -204,13 +204,17 @@ module _ {image : ImageRead} {header page : ℕ} (it : IsPageOf image header pag
   -- it is one of those that the image has
   pub page_among : (b : Born) (file : List ℕ) → is_some (child_page b image (passing (entry_count_of (slice_index image.header)) 0) file page) ≡ true
   page_among b file =
-      ap (λ (c : Bool). is_some (under_shared (b.memory page) (if c then Some (stack_of image.words)
+      ap (λ (c : Bool). is_some (if c then under_shared (b.memory page) (own_page image all file page) else own_page image all file page)) from_first
+      ∙ ap (λ (c : Bool). is_some (under_shared (b.memory page) (if c then Some (stack_of image.words)
       else (if placed then Some filled_page else None)))) no_stack
       ∙ ap (λ (c : Bool). is_some (under_shared (b.memory page) (if c then Some filled_page else None))) placed_there
       ∙ by_shared (b.memory page)
     where
       all : Progress
       all = passing (entry_count_of (slice_index image.header)) 0
+
+      from_first : nat_le 0 page ≡ true
+      from_first = grind (arith, nat_tests)
 
       placed : Bool
       placed = is_placed_page image all page
