@@ -5,3 +5,6 @@ pub mod ReleasingSteps
 pub mod ReadyingSteps
 pub mod PassingSteps
 pub mod HandingSteps
+pub mod RunsStep
+pub mod UndoingLaw
+pub mod GivingStep

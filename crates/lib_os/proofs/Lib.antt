@@ -227,3 +227,4 @@ pub mod SpawnedImage
 pub mod SpawnBegun
 pub mod BornOn
 pub mod SpawnBirths
+pub mod SpawnGivesStack
