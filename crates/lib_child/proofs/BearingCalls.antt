@@ -18,14 +18,14 @@ use Rattle.lib_os.proofs.Trying.{IsAnswered}
 use Rattle.lib_stage.specs.declared.ask.Ask.TheVariants as ask
 use Rattle.lib_stage.specs.Asks.{frames_of, performed}
 use Rattle.lib_stage.specs.ServiceSteps.{Plan, ServiceHolds}
-use Rattle.lib_stage.proofs.Laws.{FallsOrAsks, GoesOn, KeepsBy, asking_lowers, is_plain, law_with, plainly, system_never}
+use Rattle.lib_stage.proofs.Laws.{FallsOrAsks, GoesOn, IsPlain, KeepsBy, asking_lowers, law_with, system_never}
 use Rattle.lib_file.proofs.Finds.{staged}
 use Rattle.lib_child.specs.BearingStages.{next_of}
 use Rattle.lib_child.proofs.BearingFalls.{bearing_known}
 
 module _ (s : KernelState) (n path argv : ℕ) (live : is_live (slot_at s n) ≡ true) (at : BearingStep)
     (stands : place_of (slot_at s n) ≡ spawns_at path argv (spawn.Bearing at)) (number : ℕ) (args : List ℕ)
-    (plain : is_plain (ask.System number args) ≡ true) (few : frames_of (ask.System number args) ≤ frames_at (spawns_at path argv (spawn.Bearing at)))
+    (plain : IsPlain s n (ask.System number args)) (few : frames_of (ask.System number args) ≤ frames_at (spawns_at path argv (spawn.Bearing at)))
     (silent : may_print number ≡ false) where
   abbrev pub calling : Plan
   calling = staged (service.Spawn path argv) (ask.System number args) (next_of at)
@@ -42,7 +42,7 @@ module _ (s : KernelState) (n path argv : ℕ) (live : is_live (slot_at s n) ≡
   unfolding performed
   call_holds it keeps =
       law_with s n calling (service.Spawn path argv) (step.Spawning (spawn.Bearing at))
-      (record { stands = stands; plain = plainly plain; goes_on = refl; few = few }) (goes it).live keeps
-      (λ may a h turn. absurd (let contradiction : true ≡ false = sym may ∙ silent in cc))
+      (record { stands = stands; plain = plain; goes_on = refl; few = few }) (goes it).live keeps
+      (λ may a h turn. absurd (let contradiction : true ≡ false = sym may.0 ∙ silent in cc))
       (asking_lowers s n calling (system s n number args) (service.Spawn path argv) (step.Spawning (spawn.Bearing at)) stands refl (goes it)
       (system_never s n number args) known)

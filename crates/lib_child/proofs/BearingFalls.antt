@@ -163,10 +163,10 @@ loaded_low fd headers child header va done end word true = omega arith
 loaded_low fd headers child header va done end word false = omega arith
 
 module _ (path argv : ℕ) where
-  abbrev FallsAt : BearingStep → ℕ → Type 0
+  abbrev pub FallsAt : BearingStep → ℕ → Type 0
   FallsAt at word = Falls (service.Spawn path argv) (step.Spawning (spawn.Bearing at)) (next_of at word)
 
-  making_falls : (esp fd entry_point headers word : ℕ) → FallsAt (bearing.MakingChild esp fd entry_point headers) word
+  pub making_falls : (esp fd entry_point headers word : ℕ) → FallsAt (bearing.MakingChild esp fd entry_point headers) word
   making_falls esp fd entry_point headers word = by_test (is_error word)
     where
       by_test : (error : Bool) → Falls (service.Spawn path argv) (step.Spawning (spawn.Bearing (bearing.MakingChild esp fd entry_point headers)))

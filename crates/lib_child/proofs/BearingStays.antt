@@ -1,5 +1,6 @@
 -- What spawn knows as it makes its child stays so as its words tell another step, and as a page is another that has neither the program headers nor the stack.
 use Rattle.std.proofs.Common.{◌≡◌, ◌≢◌, ◌∙◌, ℕ, true, false, List, sym, ap}
+use Rattle.jos_base.specs.declared.numbers.TheConstants.{UTEMP}
 use Rattle.jos_base.specs.Environments.{Slot}
 use Rattle.jos_base.specs.Words.{page_number}
 use Rattle.lib_os.specs.declared.numbers.TheConstants.{SPAWN_GIVEN, SPAWN_STACK}
@@ -142,5 +143,28 @@ module _ {v w : View} {p : ℕ} (it : IsBesidePage v w p) (given : page_number S
     below = h.below;
     left = h.left;
     come = h.come;
+    sized = sized_aside h.sized;
+  }
+
+  abbrev pub putting_aside : {k : Slot} {b : Born} {path argv fd headers child header done end : ℕ} → page_number UTEMP ≢ p →
+      IsPutting v k b path argv fd headers child header done end → IsPutting w k b path argv fd headers child header done end
+  putting_aside working h = record {
+    image = h.image;
+    pieces = h.pieces;
+    bytes = h.bytes;
+    answer = h.answer;
+    found = h.found;
+    counts = h.counts;
+    of_file = file_aside h.of_file;
+    whole = image_aside h.whole;
+    below = h.below;
+    loaded = h.loaded;
+    within = h.within;
+    end_is = h.end_is;
+    left = h.left;
+    come = h.come;
+    long = h.long;
+    small = h.small;
+    kept = page_aside it working h.kept;
     sized = sized_aside h.sized;
   }

@@ -11,3 +11,7 @@ pub mod RegisterGoes
 pub mod PagesPlaced
 pub mod BearingCalls
 pub mod PlacingPage
+pub mod MakingChild
+pub mod PutsAt
+pub mod HereSteps
+pub mod PieceLoads

@@ -169,7 +169,7 @@ module _ {image : ImageRead} {header page : ℕ} (it : IsPageOf image header pag
       by_range (inl low) = let end = low.1 in let to = it.to in let some = it.lies.some in omega (arith, end, to, some)
       by_range (inr high) = let end = high.1 in let to = it.to in let some = it.lies.some in omega (arith, end, to, some)
 
-  no_stack : (page == stack_page) ≡ false
+  pub no_stack : (page == stack_page) ≡ false
   no_stack = let low = page_low in let ne : page ≢ stack_page = λ same. omega (arith, low, same) in grind (arith, nat_tests, ne)
 
   pub page_unpassed : nat_le no_page_passed page ≡ false

@@ -387,8 +387,11 @@ module _ (s : KernelState) (n path argv : ℕ) (live : is_live (slot_at s n) ≡
             goes = record {
               at = to;
               is = refl;
-              held = λ i. (true, (λ p. ((p == page_number SPAWN_GIVEN) && true) || ((p == page_number SPAWN_STACK) && true)
-                  || ((p == page_number SPAWN_HERE) && not (sym first i))));
+              held = λ i. (
+                true,
+                (λ p. ((p == page_number SPAWN_GIVEN) && true) || ((p == page_number SPAWN_STACK) && true)
+                    || ((p == page_number SPAWN_HERE) && not (sym first i))),
+              );
               bears = refl;
               childs = λ p i. ((p == page_number SPAWN_HERE) && not (sym first i)) || ((p == page_number SPAWN_STACK) && false);
               told = λ q is. is;

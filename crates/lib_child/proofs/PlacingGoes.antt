@@ -220,18 +220,18 @@ module _ (s : KernelState) (n path argv : ℕ) (live : is_live (slot_at s n) ≡
           next_is = refl;
           goes = comes_goes at_address refl (none_mine at_address refl refl) (λ progress is. is) h.has.found.is
               (first_placed b h.image (bytes_replied b.phase) header (page_number va) (ap page_number va_is)) (record {
-              held = refl;
-              bears = refl;
-              mine = none_mine to refl refl;
-              told = refl;
-              is_so = refl;
-              stands = record {
-                image = h.image;
-                has = child_told (spawn_words to) h.has;
-                below = h.below;
-                so = (h.so.0, omega (arith, va_is), first_low, last_is);
-              };
-            });
+                held = refl;
+                bears = refl;
+                mine = none_mine to refl refl;
+                told = refl;
+                is_so = refl;
+                stands = record {
+                  image = h.image;
+                  has = child_told (spawn_words to) h.has;
+                  below = h.below;
+                  so = (h.so.0, omega (arith, va_is), first_low, last_is);
+                };
+              });
         }
       where
         va : ℕ

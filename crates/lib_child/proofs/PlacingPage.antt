@@ -30,16 +30,19 @@ use Rattle.lib_os.specs.StandsFor.{StandsFor, borne_in, view_of}
 use Rattle.lib_os.specs.UserCalls.{CallStep, system}
 use Rattle.lib_os.proofs.Calls.{PageMade, PageRefused, refusal_is_seen}
 use Rattle.lib_os.proofs.CallersStay.{alloc_answers}
-use Rattle.lib_os.proofs.ChildPlaced.{Places, PlacesPage, borne_page_made_or_refused, page_placed_stands}
+use Rattle.lib_os.proofs.BorneCalls.{borne_page_made_or_refused}
+use Rattle.lib_os.proofs.ChildPlaced.{Places, PlacesPage, page_placed_stands}
 use Rattle.lib_os.proofs.Effects.{Made}
 use Rattle.lib_os.proofs.Placing.{allocated_made}
+use Rattle.lib_os.proofs.SpawnCopies.{spawn_allocs_copies}
 use Rattle.lib_os.proofs.SpawnedProgress.{loads_same}
 use Rattle.lib_os.proofs.SpawnOwnPages.{spawn_there, spawn_words, spawns_at}
 use Rattle.lib_stage.specs.declared.ask.Ask.TheVariants as ask
 use Rattle.lib_stage.specs.declared.ask.Next.TheVariants as next
+use Rattle.lib_stage.specs.Asks.{performed}
 use Rattle.lib_stage.specs.Nexts.{settled}
 use Rattle.lib_stage.specs.ServiceSteps.{Plan, ServiceHolds, upshot_by}
-use Rattle.lib_stage.proofs.Laws.{FollowsBy, is_plain}
+use Rattle.lib_stage.proofs.Laws.{FollowsBy, knowingly}
 use Rattle.lib_file.proofs.Finds.{staged}
 use Rattle.lib_child.specs.BearingStages.{bears, next_of, page_behind}
 use Rattle.lib_child.specs.ChildSegments.{pages_from, writable_perm}
@@ -197,13 +200,8 @@ module _ (s : KernelState) (n path argv : ℕ) (live : is_live (slot_at s n) ≡
             (subst (λ (z : CallStep Called). NothingRefused s (upshot_by plan n z z.gives).state) none.step quiet))
 
   pub placing_page_holds : ServiceHolds s n (bears (record { at = bearing.PlacingPage fd headers child header page last }))
+  unfolding performed
   placing_page_holds =
-      call_holds s n path argv live at stands SYS_PAGE_ALLOC args plain (omega arith) refl (alloc_answers s n live child (page_va page) writable_perm 0 0)
-      (λ order a h turn quiet. follows h.0 a h.1 turn.last order quiet)
-    where
-      or_true : (c : Bool) → (c || true) ≡ true
-      or_true true = refl
-      or_true false = refl
-
-      plain : is_plain (ask.System SYS_PAGE_ALLOC args) ≡ true
-      plain = ap (λ (t : Bool). t && true) (or_true (child == 0))
+      call_holds s n path argv live at stands SYS_PAGE_ALLOC args
+      (knowingly refl (spawn_allocs_copies s n path argv child from stands refl (page_va page) writable_perm) (λ a h. refl)) (omega arith) refl
+      (alloc_answers s n live child (page_va page) writable_perm 0 0) (λ order a h turn quiet. follows h.0 a h.1 turn.last order quiet)

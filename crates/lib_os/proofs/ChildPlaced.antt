@@ -1,27 +1,25 @@
 -- Spawn gives its child a page of zeros at a place where a program may have one. Nothing of it is seen: the state stands for the same abstract one as before, where
 -- the child is to have the page at the next step.
-use Rattle.std.proofs.Common.{◌≡◌, ◌≢◌, ◌∙◌, ◌==◌, ◌%◌, ◌+◌, ◌*◌, ◌-◌, ◌/◌, ◌<◌, ◌&&◌, ◌||◌, ◌⊎◌, inl, inr, ℕ, Bool, true, false, List, ◌∷◌, Option, Some, None, refl, sym, ap, subst, arith}
+use Rattle.std.proofs.Common.{◌≡◌, ◌≢◌, ◌∙◌, ◌==◌, ◌%◌, ◌+◌, ◌*◌, ◌-◌, ◌/◌, ◌<◌, ◌&&◌, ◌||◌, ◌⊎◌, ℕ, Bool, true, false, List, ◌∷◌, Some, None, refl, sym, ap, subst, arith}
 use Rattle.std.proofs.Common.{if◌then◌else◌}
 use Rattle.std.specs.Option.{option_map}
 use Rattle.std.specs.Prelude.{is_some, nat_le, slice_index}
 use Rattle.std.proofs.lemmas.Bool.{eqb-false, eqb-true}
 use Rattle.std.proofs.lemmas.Bool.Decides.{nat_tests}
 use Rattle.std.proofs.lemmas.Option.{same_Some}
-use Rattle.jos_base.specs.declared.called.Called.{Called}
-use Rattle.jos_base.specs.declared.numbers.TheConstants.{NENV, NPTENTRIES, SYS_PAGE_ALLOC}
-use Rattle.jos_base.specs.declared.registers.Regs.{Regs}
+use Rattle.jos_base.specs.declared.numbers.TheConstants.{NENV, NPTENTRIES}
 use Rattle.jos_base.specs.Environments.{Slot}
-use Rattle.jos_base.specs.KernelState.{KernelState, slot_at, with_extra, with_registers, with_spaces}
+use Rattle.jos_base.specs.KernelState.{KernelState, slot_at, with_extra, with_spaces}
 use Rattle.jos_base.specs.Reach.{Entry}
-use Rattle.jos_base.specs.SpacesState.{SpacesState, allocated, put, zero_page}
-use Rattle.jos_base.specs.SystemCalls.{answered_with, call_of, has_write, is_page_address, is_page_perm, second_of}
+use Rattle.jos_base.specs.SpacesState.{SpacesState, put, zero_page}
+use Rattle.jos_base.specs.SystemCalls.{has_write}
 use Rattle.jos_base.specs.Words.{page_number, upd}
 use Rattle.jos_base.proofs.Below.{some_below-at}
 use Rattle.jos_elf.specs.Headers.{entry_count_of}
 use Rattle.lib_os.specs.declared.numbers.TheConstants.{UXSTACK}
 use Rattle.lib_os.specs.declared.spawn_steps.SpawnStep.{SpawnStep}
 use Rattle.lib_os.specs.AbstractMemory.{has_page_in}
-use Rattle.lib_os.specs.AbstractState.{AbstractState, Born, ImageRead, born, named, own}
+use Rattle.lib_os.specs.AbstractState.{AbstractState, Born, ImageRead, named, own}
 use Rattle.lib_os.specs.DescriptorPages.{lasting_words}
 use Rattle.lib_os.specs.InOrder.{IsInOrder}
 use Rattle.lib_os.specs.LibraryPages.{is_library_region}
@@ -31,64 +29,21 @@ use Rattle.lib_os.specs.Rows.{may_write, own_perm, rows_of, seen_where, shown_at
 use Rattle.lib_os.specs.SpawnedChild.{IsProgress, Loads, Progress, bytes_replied, child_page, handler_of, passing, registers_of, spawning_child}
 use Rattle.lib_os.specs.SpawnPages.{is_childs}
 use Rattle.lib_os.specs.StandsAtSpawn.{StandsAtSpawn}
-use Rattle.lib_os.specs.StandsFor.{StandsFor, StandsForBorn, StandsAt, borne_in, things_in, view_of}
+use Rattle.lib_os.specs.StandsFor.{StandsFor, StandsForBorn, StandsAt, things_in, view_of}
 use Rattle.lib_os.specs.LibraryPages.{View}
-use Rattle.lib_os.specs.UserCalls.{CallStep, asking, system}
 use Rattle.lib_os.proofs.Bearing.{of_slots}
-use Rattle.lib_os.proofs.BorneCalls.{borne_found}
-use Rattle.lib_os.proofs.BearsOn.{borne_apart}
-use Rattle.lib_os.proofs.Calls.{PageMade, PageRefused, made_is, made_step, system_is}
 use Rattle.lib_os.proofs.Effects.{Made}
 use Rattle.lib_os.proofs.EntriesStand.{PutsRow, named_bytes, put_is, rows_put, rows_same, rows_stand, seen_at}
 use Rattle.lib_os.proofs.Logical.{logical_some, programs_beside, programs_no_descriptor}
 use Rattle.lib_os.proofs.PageBytes.{zero_page_whole}
 use Rattle.lib_os.proofs.PagesStand.{other_regions, row_elsewhere, row_placed}
-use Rattle.lib_os.proofs.Slots.{slot_kept}
-use Rattle.lib_os.proofs.SlotsStand.{SeenAlike, born_at, born_live, born_stands, counts_unpiped, is_piped}
+use Rattle.lib_os.proofs.SlotsStand.{SeenAlike, born_stands, counts_unpiped, is_piped}
 use Rattle.lib_os.proofs.SpawnedGoes.{HasOfImage, IsSpawner, spawner, went_own}
 use Rattle.lib_os.proofs.SpawnedMoves.{others_spawning, spawned_counted, spawned_counts, spawned_lives, spawner_apart, spawner_counted, spawner_counts, spawning_moves}
 use Rattle.lib_os.proofs.Serving.{holds_page}
 use Rattle.lib_os.proofs.SpawnOwnPages.{spawn_there, spawn_words, spawns_at}
 use Rattle.lib_os.proofs.StatesStand.{others_counts}
 use Rattle.jos_base.proofs.Puts.{Elsewhere}
-
--- ---- the call
-
-module _ {names : Names} {s : KernelState} {a : AbstractState} (h : StandsFor names s a) (n id : ℕ) (b : Born) (is : a.slots n ≡ born b)
-    (bears : borne_in (place_of (slot_at s n)) ≡ Some id) (va perm : ℕ) (rest : List ℕ) (address : is_page_address va ≡ true)
-    (permitted : is_page_perm perm ≡ true) where
-  abbrev m : ℕ
-  m = id % NENV
-
-  abbrev borne_page_asked : CallStep Called
-  borne_page_asked = system s n SYS_PAGE_ALLOC (id ∷ va ∷ perm ∷ rest)
-
-  -- page_alloc(id, va, perm)
-  borne_page_is : borne_page_asked ≡ made_step s (second_of (allocated s.spaces (slot_at s m).directory (page_number va) perm))
-  unfolding call_of
-  borne_page_is =
-      let q : Regs = asking (slot_at s n).registers SYS_PAGE_ALLOC (id ∷ va ∷ perm ∷ rest) in
-      let k : KernelState = with_registers s n q in
-      let kept : slot_at k m ≡ slot_at s m = slot_kept s n (record (slot_at s n) { registers = q }) m (borne_apart h n id b is bears) in
-      system_is s n SYS_PAGE_ALLOC (id ∷ va ∷ perm ∷ rest)
-      (answered_with k n (second_of (allocated k.spaces (slot_at k m).directory (page_number va) perm))) refl
-      (rw (borne_found h n id b is bears q, address, permitted) refl)
-      ∙ made_is s n (born_live (born_at h n b is)) q (second_of (allocated k.spaces (slot_at k m).directory (page_number va) perm))
-      ∙ ap (λ (x : Slot). made_step s (second_of (allocated s.spaces x.directory (page_number va) perm))) kept
-
-  pub borne_page_made_or_refused : PageMade s (id % NENV) va perm (system s n SYS_PAGE_ALLOC (id ∷ va ∷ perm ∷ rest))
-      ⊎ PageRefused s (id % NENV) va perm (system s n SYS_PAGE_ALLOC (id ∷ va ∷ perm ∷ rest))
-  borne_page_made_or_refused = by_found (allocated s.spaces (slot_at s m).directory (page_number va) perm) refl
-    where
-      by_found : (o : Option (ℕ × SpacesState)) → allocated s.spaces (slot_at s m).directory (page_number va) perm ≡ o →
-          PageMade s m va perm borne_page_asked ⊎ PageRefused s m va perm borne_page_asked
-      by_found None e = inr (record { is = e; step = borne_page_is ∙ ap (λ f. made_step s (second_of f)) e })
-      by_found (Some f) e = inl (record {
-        frame = f.0;
-        spaces = f.1;
-        is = e;
-        step = borne_page_is ∙ ap (λ f. made_step s (second_of f)) e;
-      })
 
 -- ---- the child, with the page
 

@@ -107,6 +107,7 @@ spawn_stays {names = names} {after = after} {s = s} {t = t} {k = k} parent_after
         here_is = kept p ∙ it.here_is;
         there_is = row it.place ∙ it.there_is;
         own_page = it.own_page;
+        user = it.user;
         same = it.same;
       };
 }

@@ -228,3 +228,4 @@ pub mod SpawnBegun
 pub mod BornOn
 pub mod SpawnBirths
 pub mod SpawnGivesStack
+pub mod HereMoves

@@ -64,9 +64,9 @@ use Rattle.lib_os.proofs.SpawnOwnPages.{spawn_there, spawn_words, spawns_at}
 -- ---- a child that has nothing yet
 
 -- entries count as they stand
-uncounted : {path argv : ℕ} (at : SpawnStep) → ((p : ℕ) → is_childs at p ≡ false) → (row : EntryRow) (p : ℕ) → counted (spawns_at path argv at) row p ≡ row p
+uncounted : (path argv : ℕ) (at : SpawnStep) → ((p : ℕ) → is_childs at p ≡ false) → (row : EntryRow) (p : ℕ) → counted (spawns_at path argv at) row p ≡ row p
 unfolding counted
-uncounted at off row p = ap (λ (c : Bool). if c then None else row p) (off p)
+uncounted path argv at off row p = ap (λ (c : Bool). if c then None else row p) (off p)
 
 guest_counts : (row : EntryRow) (p : ℕ) → counted place.Guest row p ≡ row p
 unfolding counted
@@ -282,7 +282,9 @@ module _ {names : Names} {s : KernelState} {a : AbstractState} (h : StandsFor na
   }
 
   abbrev SoAfter : Type 0
-  SoAfter = (w : View) → StandsAtSpawn w (slot_at s n) b path argv from → StandsAtSpawn w parent bearer path argv to
+  SoAfter =
+      (w : View) → w.row ≡ rows_of s.spaces (slot_at s n).directory → StandsAtSpawn w (slot_at s n) b path argv from →
+      StandsAtSpawn w parent bearer path argv to
 
   module _ (fresh_so : IsProgress (entry_count_of (slice_index image.header)) to fresh) (so : SoAfter) where
     mine : StandsForBorn names sp parent bearer
@@ -309,7 +311,7 @@ module _ {names : Names} {s : KernelState} {a : AbstractState} (h : StandsFor na
           stack = own.stack;
           flags = own.flags;
           at = subst (λ (p : Place). StandsAt p (view_of sp (slot_at s n).directory) parent bearer) (sym there)
-              (so (view_of sp (slot_at s n).directory) (subst (λ (p : Place). StandsAt p (view_of sp (slot_at s n).directory) (slot_at s n) b) stands own.at));
+              (so (view_of sp (slot_at s n).directory) (rows_kept (slot_at s n).directory) (subst (λ (p : Place). StandsAt p (view_of sp (slot_at s n).directory) (slot_at s n) b) stands own.at));
         }
 
     slots_stand : (j : ℕ) → StandsForSlot names sp (slots_after j) (abstract_after j)
@@ -339,9 +341,9 @@ module _ {names : Names} {s : KernelState} {a : AbstractState} (h : StandsFor na
             logical_live sp slots_after n (ap (λ (x : Slot). is_clients n x) parent_here ∙ clients_live h n b v.is) p
             ∙ (λ i. counted (place_of (parent_here i)) (rows_of sp (parent_here i).directory) p)
             ∙ ap (λ (at : Place). counted at (rows_of sp d) p) there
-            ∙ uncounted to none (rows_of sp d) p
+            ∙ uncounted path argv to none (rows_of sp d) p
             ∙ ap (λ (row : EntryRow). row p) (rows_kept d)
-            ∙ sym (uncounted from (λ q. unborne_childs from unborne q) (rows_of s.spaces d) p)
+            ∙ sym (uncounted path argv from (λ q. unborne_childs from unborne q) (rows_of s.spaces d) p)
             ∙ sym (ap (λ (at : Place). counted at (rows_of s.spaces d) p) stands)
             ∙ sym (logical_live s.spaces s.environments.slots n (clients_live h n b v.is) p)
 
@@ -557,7 +559,7 @@ module _ {names : Names} {s : KernelState} {a : AbstractState} (h : StandsFor na
       stands_with = record {
         slots = slots_stand;
         children = record { borne = borne_still; have = have_still };
-        maker_apart = rows.maker_apart;
+        apart = rows.apart;
         named = turned.named;
         users = rows.users;
         whole = rows.whole;

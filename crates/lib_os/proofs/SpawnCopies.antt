@@ -1,7 +1,7 @@
--- A call by which spawn maps a page into the child that it bears, or destroys that, leaves no more pages to be copied to any other environment, and leaves each the
+-- A call by which spawn makes a page for the child that it bears, or maps one into it, or destroys that, leaves no more pages to be copied to any other environment, and leaves each the
 -- page in which its services keep what they move.
 use Rattle.std.proofs.Common.{◌≡◌, ◌≢◌, ◌∙◌, ◌%◌, inl, inr, ℕ, true, false, List, [], ◌∷◌, Some, refl, sym, ap}
-use Rattle.jos_base.specs.declared.numbers.TheConstants.{NENV, SYS_ENV_DESTROY, SYS_PAGE_MAP}
+use Rattle.jos_base.specs.declared.numbers.TheConstants.{NENV, SYS_ENV_DESTROY, SYS_PAGE_ALLOC, SYS_PAGE_MAP}
 use Rattle.jos_base.specs.Environments.{is_live}
 use Rattle.jos_base.specs.KernelState.{KernelState, slot_at}
 use Rattle.lib_os.specs.declared.place.Step.TheVariants as step
@@ -49,6 +49,19 @@ module _ (s : KernelState) (n path argv id : ℕ) (at : SpawnStep) (stands : pla
       (system_wait (IsApart s n (id % NENV)) s n SYS_PAGE_MAP args (λ here. here.0 refl) (record {
         alloc = λ it q named here. absurd (let contradiction : false ≡ true = it in cc);
         map = λ it q named here. absurd (nowhere q named here);
+        unmap = λ it q named here. absurd (let contradiction : false ≡ true = it in cc);
+        destroy = λ it q named here. absurd (let contradiction : false ≡ true = it in cc);
+        send = λ it low q receives here. absurd (let contradiction : false ≡ true = it in cc);
+      }))
+
+  -- page_alloc(the child, ..)
+  pub spawn_allocs_copies : (va bits : ℕ) → KeepsCopies n s (system s n SYS_PAGE_ALLOC (id ∷ va ∷ bits ∷ 0 ∷ 0 ∷ [])).state
+  spawn_allocs_copies va bits live a h m b ne is =
+      let args : List ℕ = id ∷ va ∷ bits ∷ 0 ∷ 0 ∷ [] in
+      kept_in (IsApart s n (id % NENV)) s.spaces (system s n SYS_PAGE_ALLOC args).state.spaces (slot_at s m).directory (apart_so a h m b ne is)
+      (system_wait (IsApart s n (id % NENV)) s n SYS_PAGE_ALLOC args (λ here. here.0 refl) (record {
+        alloc = λ it q named here. absurd (nowhere q named here);
+        map = λ it q named here. absurd (let contradiction : false ≡ true = it in cc);
         unmap = λ it q named here. absurd (let contradiction : false ≡ true = it in cc);
         destroy = λ it q named here. absurd (let contradiction : false ≡ true = it in cc);
         send = λ it low q receives here. absurd (let contradiction : false ≡ true = it in cc);

@@ -53,7 +53,7 @@ module _ {names : Names} {s t : SpacesState} {d p : ℕ} {v : Option Entry} (asi
   pub aside_here : rows_of t d p ≡ v
   aside_here = ap (λ (rows : Rows). rows d p) puts.rows ∙ put-at (rows_of s) d p v
 
-  shown_kept : (q : ℕ) → q ≢ p → shown_at names t d q ≡ shown_at names s d q
+  pub shown_kept : (q : ℕ) → q ≢ p → shown_at names t d q ≡ shown_at names s d q
   shown_kept q other =
       shown_same names names s t d q (aside_beside q other) (λ x hx own_page. puts.bytes d q x (λ same. other) hx) (λ x hx shared_page. refl)
 
@@ -61,7 +61,7 @@ module _ {names : Names} {s t : SpacesState} {d p : ℕ} {v : Option Entry} (asi
   unseen r = ap (λ (c : Bool). seen_where c (shown_at names r d p)) aside.outside
 
   -- so that the memory and the descriptors are seen as they were
-  memory_kept : (q : ℕ) → page_seen names t d q ≡ page_seen names s d q
+  pub memory_kept : (q : ℕ) → page_seen names t d q ≡ page_seen names s d q
   memory_kept q = by_page (q == p) refl
     where
       by_page : (c : Bool) → (q == p) ≡ c → page_seen names t d q ≡ page_seen names s d q
@@ -71,14 +71,14 @@ module _ {names : Names} {s t : SpacesState} {d p : ℕ} {v : Option Entry} (asi
       by_page false test =
           let other : q ≢ p = grind (arith, nat_tests, test) in ap (seen_where (is_programs q)) (shown_kept q other)
 
-  descriptors_kept : (fd : ℕ) → descriptor_seen names t d fd ≡ descriptor_seen names s d fd
+  pub descriptors_kept : (fd : ℕ) → descriptor_seen names t d fd ≡ descriptor_seen names s d fd
   descriptors_kept = descriptors_off names names s t d p aside.no_descriptor shown_kept
 
   own_kept : (q : ℕ) → q ≢ p → IsOwnWritable (rows_of s d) q → IsOwnWritable (rows_of t d) q
   own_kept q other h = record { entry = h.entry; stands = aside_beside q other ∙ h.stands; own_page = h.own_page; writes = h.writes }
 
   -- the library's other pages are what they were
-  pages_kept_aside : (at after : Place) (words words_after : List ℕ) → is_in_handler at ≡ false → is_in_handler after ≡ false →
+  pub pages_kept_aside : (at after : Place) (words words_after : List ℕ) → is_in_handler at ≡ false → is_in_handler after ≡ false →
       has_working at words ≡ has_working after words_after → ((q : ℕ) → q ≢ p → has_spawns at words q ≡ has_spawns after words_after q) →
       (has_spawns after words_after p ≡ true → IsOwnWritable (rows_of t d) p) → (has_spawns after words_after p ≡ false → v ≡ None) →
       LibraryPages at words (rows_of s d) → LibraryPages after words_after (rows_of t d)

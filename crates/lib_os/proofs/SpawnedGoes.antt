@@ -199,6 +199,7 @@ module _ {names : Names} {s : SpacesState} {parent : Slot} {b : Born} {k : Slot}
           here_is = it.here_is;
           there_is = it.there_is;
           own_page = it.own_page;
+          user = it.user;
           same = it.same;
         };
   }

@@ -163,11 +163,15 @@ filled_loaded image progress m = by_front (nat_lt m progress.filled)
     by_front true = refl
     by_front false = loaded_whatever one (if m == progress.filled then progress.bytes else 0)
 
+-- nor does it matter where the bytes stand
+packed_loaded : (image : ImageRead) (m : ℕ) → is_loaded (packed (headers_in image.table) m) ≡ true → is_loaded (headers_in image.table m) ≡ true
+unfolding is_loaded
+packed_loaded image m is = is
+
 -- The bytes of the next program header's segment come where there are all of this one's, or it says of none.
 pub filled_behind : (image : ImageRead) (headers header done : ℕ) →
     (is_loaded (headers_in image.table header) ≡ true → done ≡ (headers_in image.table header).file_len) →
     segments_filled image (filling headers header done) ≡ segments_filled image (filling headers (header + 1) 0)
-unfolding is_loaded
 filled_behind image headers header done all =
     segments_alike (headers_filled image (filling headers header done)) (headers_filled image (filling headers (header + 1) 0))
     (entry_count_of (slice_index image.header))
@@ -176,9 +180,6 @@ filled_behind image headers header done all =
   where
     one : ℕ → ProgramHeader
     one m = packed (headers_in image.table) m
-
-    packed_loaded : (m : ℕ) → is_loaded (one m) ≡ true → is_loaded (headers_in image.table m) ≡ true
-    packed_loaded m is = is
 
     len_same : (m len : ℕ) → len ≡ (one m).file_len → record (one m) { file_len = len } ≡ one m
     len_same m len same = λ i. record (one m) { file_len = same i }
@@ -192,7 +193,7 @@ filled_behind image headers header done all =
         let here : m ≡ header = grind (arith, nat_tests, test, after) in
         let it : (m == header) ≡ true = grind (arith, nat_tests, here) in
         len_same m (if m == header then done else 0)
-        (ap (λ (c : Bool). if c then done else 0) it ∙ all (ap (λ (q : ℕ). is_loaded (headers_in image.table q)) (sym here) ∙ packed_loaded m loaded)
+        (ap (λ (c : Bool). if c then done else 0) it ∙ all (ap (λ (q : ℕ). is_loaded (headers_in image.table q)) (sym here) ∙ packed_loaded image m loaded)
         ∙ ap (λ (q : ℕ). (headers_in image.table q).file_len) (sym here))
     by_front m loaded false test false after =
         let there : (m == header) ≡ false = grind (arith, nat_tests, after) in

@@ -69,6 +69,7 @@ has_turned {s = s} from to childs told still after registers directory phase fou
         here_is = ap (λ (d : ℕ). rows_of s d p) directory ∙ it.here_is;
         there_is = it.there_is;
         own_page = it.own_page;
+        user = it.user;
         same = it.same;
       };
 }

@@ -7,6 +7,7 @@ use Rattle.jos_base.specs.declared.registers.Regs.{Regs}
 use Rattle.jos_base.specs.Environments.{Slot}
 use Rattle.jos_base.specs.Reach.{Entry}
 use Rattle.jos_base.specs.SpacesState.{SpacesState}
+use Rattle.jos_base.specs.SystemCalls.{is_page_perm}
 use Rattle.jos_base.specs.Below.{some_below}
 use Rattle.jos_base.specs.Words.{page_number}
 use Rattle.jos_elf.specs.declared.header.ProgramHeader.{ProgramHeader}
@@ -279,7 +280,7 @@ page_here (spawn.Bearing at) = page_filled at
 page_here (spawn.Finishing (finishing.ReleasingStack fd child)) = Some stack_page
 page_here _ = None
 
--- A page of the child's own that stands in its parent's space, too, has one frame in both. It is this one, where that is told.
+-- A page of the child's own that stands in its parent's space, too, has one frame in both, and its parent may read it. It is this one, where that is told.
 pub record IsHere (parent child : EntryRow) (p : ℕ) (told : Option ℕ) : Type 0 where
   pub place : ℕ
   pub is_told : (q : ℕ) → told ≡ Some q → place ≡ q
@@ -289,6 +290,7 @@ pub record IsHere (parent child : EntryRow) (p : ℕ) (told : Option ℕ) : Type
   pub here_is : parent p ≡ Some here
   pub there_is : child place ≡ Some there
   pub own_page : is_shared there.perm ≡ false
+  pub user : is_page_perm here.perm ≡ true
   pub same : here.frame ≡ there.frame
 
 -- Its parent stands in spawn, and bears it. It has what spawn has given it so far of its image, each page as it is to be; of the pages of the
