@@ -12,3 +12,6 @@ pub mod RightsHeaders
 pub mod RightsLoads
 pub mod SharedLoads
 pub mod HandingSteps
+pub mod RunsStep
+pub mod UndoingLaw
+pub mod GivingStep

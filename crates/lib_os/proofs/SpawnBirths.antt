@@ -118,7 +118,7 @@ module _ {names : Names} {s : KernelState} {a : AbstractState} (h : StandsFor na
   v : IsSpawner names s a n path argv from id b
   v = spawner h n path argv id from stands refl
 
-  has : IsClosed k b path argv id
+  abbrev has : IsClosed k b path argv id
   has = it.at
 
   abbrev count : ℕ

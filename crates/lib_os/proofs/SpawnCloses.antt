@@ -233,7 +233,7 @@ module _ (s : KernelState) (n path argv fd child : ℕ)
             names,
             drops_file_bearing h n path argv from to stands fd has.of_file.below removed (no_pipe_there h n path argv from stands fd has.of_file) found
                 (taking []) refl (λ p. none_childs (p == page_number SPAWN_HERE) (p == page_number SPAWN_STACK))
-                (λ p. none_childs (p == page_number SPAWN_HERE) (p == page_number SPAWN_STACK)) last order (closed_then _) child refl refl
+                (λ p. none_childs (p == page_number SPAWN_HERE) (p == page_number SPAWN_STACK)) last order (closed_then (view_of (dropped s n fd) home)) child refl refl
                 (has_then (others (slot_at s m).directory apart)),
           ),
         )

@@ -172,7 +172,6 @@ packed_loaded image m is = is
 pub filled_behind : (image : ImageRead) (headers header done : ℕ) →
     (is_loaded (headers_in image.table header) ≡ true → done ≡ (headers_in image.table header).file_len) →
     segments_filled image (filling headers header done) ≡ segments_filled image (filling headers (header + 1) 0)
-unfolding is_loaded
 filled_behind image headers header done all =
     segments_alike (headers_filled image (filling headers header done)) (headers_filled image (filling headers (header + 1) 0))
     (entry_count_of (slice_index image.header))
