@@ -11,4 +11,7 @@ pub mod RightsOn
 pub mod RightsHeaders
 pub mod RightsLoads
 pub mod SharedLoads
+pub mod RightsPuts
+pub mod RightsPages
+pub mod RightsLaw
 pub mod HandingSteps
