@@ -11,6 +11,9 @@ pub mod RightsOn
 pub mod RightsHeaders
 pub mod RightsLoads
 pub mod SharedLoads
+pub mod RightsPuts
+pub mod RightsPages
+pub mod RightsLaw
 pub mod HandingSteps
 pub mod RunsStep
 pub mod UndoingLaw

@@ -45,6 +45,7 @@ bytes_told words h = record {
   found = found_told words h.found;
   has = h.has;
   none_left = h.none_left;
+  tested = h.tested;
   of_file = h.of_file;
 }
 
