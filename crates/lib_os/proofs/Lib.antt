@@ -228,3 +228,4 @@ pub mod HereMoves
 pub mod BornOn
 pub mod SpawnBirths
 pub mod SpawnedTurns
+pub mod HereStores
