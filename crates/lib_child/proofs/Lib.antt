@@ -15,3 +15,5 @@ pub mod MakingChild
 pub mod PutsAt
 pub mod HereSteps
 pub mod PieceLoads
+pub mod LaidMore
+pub mod PieceGoesOn

@@ -229,3 +229,4 @@ pub mod BornOn
 pub mod SpawnBirths
 pub mod SpawnedTurns
 pub mod SpawnGivesStack
+pub mod HereStores
