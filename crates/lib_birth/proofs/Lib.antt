@@ -4,6 +4,16 @@ pub mod DroppingSteps
 pub mod ReleasingSteps
 pub mod ReadyingSteps
 pub mod PassingSteps
+pub mod RightsWrites
+pub mod RightsApart
+pub mod RightsProgress
+pub mod RightsOn
+pub mod RightsHeaders
+pub mod RightsLoads
+pub mod SharedLoads
+pub mod RightsPuts
+pub mod RightsPages
+pub mod RightsLaw
 pub mod HandingSteps
 pub mod RunsStep
 pub mod UndoingLaw
