@@ -114,7 +114,7 @@ module _ (s : KernelState) (n path argv : ℕ) (live : is_live (slot_at s n) ≡
   pub rights_kind_holds : place_of (slot_at s n) ≡ spawns_at path argv (spawn.Finishing (finishing.RightsKind fd headers child header)) →
       ServiceHolds s n (births (stage.Finishing (finishing.RightsKind fd headers child header)))
   rights_kind_holds stands =
-      header_load_holds s n path argv live kind_step stands kind_next
+      header_load_holds s n path argv live kind_step stands refl kind_next
       (λ word. choice_is (word == PT_LOAD) (spawn.Finishing (finishing.RightsFlags fd headers child header)) behind) header P_TYPE (omega arith) refl kind_loads
 
   -- ---- whether it may be written
@@ -168,7 +168,7 @@ module _ (s : KernelState) (n path argv : ℕ) (live : is_live (slot_at s n) ≡
   pub rights_flags_holds : place_of (slot_at s n) ≡ spawns_at path argv (spawn.Finishing (finishing.RightsFlags fd headers child header)) →
       ServiceHolds s n (births (stage.Finishing (finishing.RightsFlags fd headers child header)))
   rights_flags_holds stands =
-      header_load_holds s n path argv live flags_step stands flags_next
+      header_load_holds s n path argv live flags_step stands refl flags_next
       (λ flags. choice_is (bit_and flags PF_W == 0) (spawn.Finishing (finishing.RightsMemory fd headers child header)) behind) header P_FLAGS (omega arith) refl
       flags_loads
 
@@ -231,7 +231,7 @@ module _ (s : KernelState) (n path argv : ℕ) (live : is_live (slot_at s n) ≡
   pub rights_memory_holds : place_of (slot_at s n) ≡ spawns_at path argv (spawn.Finishing (finishing.RightsMemory fd headers child header)) →
       ServiceHolds s n (births (stage.Finishing (finishing.RightsMemory fd headers child header)))
   rights_memory_holds stands =
-      header_load_holds s n path argv live memory_step stands memory_next
+      header_load_holds s n path argv live memory_step stands refl memory_next
       (λ memory. choice_is (memory == 0) behind (spawn.Finishing (finishing.RightsAddress fd headers child header memory))) header P_MEMSZ (omega arith) refl
       memory_loads
 
@@ -290,4 +290,4 @@ module _ (s : KernelState) (n path argv : ℕ) (live : is_live (slot_at s n) ≡
     pub rights_address_holds : place_of (slot_at s n) ≡ spawns_at path argv (spawn.Finishing (finishing.RightsAddress fd headers child header memory)) →
         ServiceHolds s n (births (stage.Finishing (finishing.RightsAddress fd headers child header memory)))
     rights_address_holds stands =
-        header_load_holds s n path argv live address_step stands address_next (λ va. refl) header P_VADDR (omega arith) refl address_loads
+        header_load_holds s n path argv live address_step stands refl address_next (λ va. refl) header P_VADDR (omega arith) refl address_loads

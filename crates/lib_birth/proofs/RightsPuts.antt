@@ -12,7 +12,7 @@ use Rattle.jos_base.specs.Environments.{Slot}
 use Rattle.jos_base.specs.KernelState.{KernelState, slot_at, with_extra, with_spaces}
 use Rattle.jos_base.specs.Reach.{Entry}
 use Rattle.jos_base.specs.SpacesState.{SpacesState, inserted}
-use Rattle.jos_base.specs.SystemCalls.{is_page_address, shared_entry}
+use Rattle.jos_base.specs.SystemCalls.{has_write, is_page_address, shared_entry}
 use Rattle.jos_base.specs.Words.{page_number}
 use Rattle.jos_base.proofs.Below.{some_below-at}
 use Rattle.jos_base.proofs.Puts.{Elsewhere}
@@ -34,7 +34,7 @@ use Rattle.lib_os.specs.InOrder.{IsInOrder}
 use Rattle.lib_os.specs.LibraryPages.{View, is_library_region}
 use Rattle.lib_os.specs.Places.{place_of}
 use Rattle.lib_os.specs.Rows.{Agree, IsPage, IsUsers, MayBeHad, Names, is_cow, is_of_descriptor, is_programs, is_shared, lasting, logical, page_seen, rows_of}
-use Rattle.lib_os.specs.Rows.{has_write, may_write}
+use Rattle.lib_os.specs.Rows.{may_write}
 use Rattle.lib_os.specs.SpawnedChild.{IsProgress, Progress, bytes_replied, child_page, handler_of, header_touches, image_page, is_placed_page, is_settled_page}
 use Rattle.lib_os.specs.SpawnedChild.{no_page_passed, own_page, passing, registers_of, segments_filled, settling}
 use Rattle.lib_os.specs.SpawnPages.{is_childs}

@@ -122,7 +122,7 @@ module _ (s : KernelState) (n path argv : ℕ) (live : is_live (slot_at s n) ≡
       record {
         lives = goes.live;
         keeps = λ order. keeps;
-        fails = λ may a h turn. absurd (let contradiction : false ≡ true = may in cc);
+        fails = λ may a h turn. absurd (let contradiction : false ≡ true = may.0 in cc);
         leaves = subst (λ (g : Got Called). let did = upshot_by plan n call g in Leaves (Ok did.progress) n s did.state) (sym gives.1) leaves_so;
         lowers = falling_lowers s n plan call (service.Spawn path argv) (step.Spawning from) stands refl goes (system_never s n SYS_ENV_SET_STATUS args) (λ called. tt);
         gives_up = gives_nothing_up (Ok did.progress) (slot_at s n) (slot_at did.state n) (ap is_pausing stands);

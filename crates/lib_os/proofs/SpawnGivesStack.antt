@@ -30,6 +30,7 @@ use Rattle.lib_os.specs.declared.spawn_steps.SpawnStep.TheVariants as spawn
 use Rattle.lib_os.specs.AbstractMemory.{has_page_in}
 use Rattle.lib_os.specs.AbstractSpawn.{under_shared}
 use Rattle.lib_os.specs.AbstractState.{AbstractState, Born, ImageRead, Page, own}
+use Rattle.lib_os.specs.Fence.{in_fence}
 use Rattle.lib_os.specs.InOrder.{IsInOrder}
 use Rattle.lib_os.specs.LibraryPages.{IsOwnWritable, has_spawns, is_library_region}
 use Rattle.lib_os.specs.Places.{place_of}
@@ -116,6 +117,11 @@ given_number = page_number SPAWN_STACK
 working_user : IsUsers working_perm
 working_user = record { page = refl; copied = λ is. absurd (let contradiction : false ≡ true = is in cc) }
 
+-- a program may have the page of its stack
+stack_inside : is_programs stack_page ≡ true
+unfolding in_fence
+stack_inside = refl
+
 -- no page of the server's is had there
 never_had : (c : Bool) (x : Entry) → MayBeHad c given_number x → ⊥
 never_had true x had = let same : given_number ≡ page_number UTEMP = had.0 in omega (arith, same)
@@ -188,10 +194,10 @@ module _ {names : Names} {s : KernelState} {a : AbstractState} (h : StandsFor na
 
   -- the child had none there
   had_none : page_seen names s.spaces d stack_page ≡ None
-  had_none = v.child.memory stack_page refl ∙ ap (λ (before : Progress). child_page b v.child.image before v.child.file stack_page) v.child.is_so
+  had_none = v.child.memory stack_page stack_inside ∙ ap (λ (before : Progress). child_page b v.child.image before v.child.file stack_page) v.child.is_so
 
   own_there : (x : Entry) → rows_of s.spaces d stack_page ≡ Some x → is_shared x.perm ≡ false
-  own_there x is = absurd (none-some _ (sym had_none ∙ seen_by names s.spaces d stack_page x refl is))
+  own_there x is = absurd (none-some _ (sym had_none ∙ seen_by names s.spaces d stack_page x stack_inside is))
 
   -- the bytes are those of the stack
   bytes_are : s.spaces.pages page.entry.frame ≡ page_bytes (stack_segment stood.has.image.words ∷ []) (stack_contents stood.has.image.words) stack_page
@@ -201,7 +207,13 @@ module _ {names : Names} {s : KernelState} {a : AbstractState} (h : StandsFor na
       let same : stood.stack.kept.entry ≡ page.entry = same_Some stood.stack.kept.entry page.entry (sym stood.stack.kept.stands ∙ page.stands) in
       ext_get_or 0 (s.spaces.pages page.entry.frame) (page_bytes (stack_segment stood.has.image.words ∷ []) (stack_contents stood.has.image.words) stack_page)
       (whole ∙ sym long)
-      (λ i lt. ap (λ (e : Entry). slice_index (s.spaces.pages e.frame) i) (sym same) ∙ stood.stack.kept.same i (omega (arith, lt, whole, long)))
+      (λ i lt.
+      let first : slice_index (s.spaces.pages page.entry.frame) i ≡ slice_index (s.spaces.pages stood.stack.kept.entry.frame) i =
+      ap (λ (e : Entry). slice_index (s.spaces.pages e.frame) i) (sym same) in
+      let from : i ≡ 0 + i = omega arith in
+      let start : slice_index (s.spaces.pages stood.stack.kept.entry.frame) i ≡ slice_index (s.spaces.pages stood.stack.kept.entry.frame) (0 + i) =
+      ap (slice_index (s.spaces.pages stood.stack.kept.entry.frame)) from in
+      first ∙ start ∙ stood.stack.kept.same i (omega (arith, lt, whole, long)))
 
   module _ {sp : SpacesState} (in_order : IsInOrder (with_spaces s sp))
       (is : inserted s.spaces (slot_at s (child % NENV)).directory stack_page given_entry ≡ Some sp) (last : s.last ≡ Some n) where
@@ -232,7 +244,7 @@ module _ {names : Names} {s : KernelState} {a : AbstractState} (h : StandsFor na
     seen_there : page_seen names sp d stack_page ≡ Some (stack_of v.child.image.words)
     unfolding given_entry
     seen_there =
-        seen_own names sp d stack_page given_entry refl puts.there refl
+        seen_own names sp d stack_page given_entry stack_inside puts.there refl
         ∙ ap (λ (l : List ℕ). Some (own l true)) (given.same ∙ bytes_are)
         ∙ ap (λ (words : List (List ℕ)). Some (stack_of words)) (sym same_image)
 
@@ -331,7 +343,7 @@ module _ {names : Names} {s : KernelState} {a : AbstractState} (h : StandsFor na
             record {
               place = stack_page;
               is_told = λ q told. same_Some stack_page q told;
-              programs = refl;
+              programs = stack_inside;
               here = page.entry;
               there = given_entry;
               here_is = ap (rows_of sp home) same ∙ parent_row given_number ∙ page.stands;

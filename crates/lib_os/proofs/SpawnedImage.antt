@@ -22,7 +22,7 @@ use Rattle.lib_os.specs.AbstractState.{ImageRead, Page, own}
 use Rattle.lib_os.specs.Fence.{in_fence}
 use Rattle.lib_os.specs.ProgramMemory.{page_of, program_memory, stack_of}
 use Rattle.lib_os.specs.Rows.{is_programs}
-use Rattle.lib_os.specs.SpawnedChild.{headers_filled, header_touches, is_placed_page, is_settled_page, own_page, passing, segments_filled}
+use Rattle.lib_os.specs.SpawnedChild.{Progress, headers_filled, header_touches, is_placed_page, is_settled_page, own_page, passing, segments_filled}
 
 or_none : (c : Bool) → (c || false) ≡ c
 or_none true = refl
@@ -100,11 +100,16 @@ module _ (image : ImageRead) (file : List ℕ) where
   settled_all p =
       ap (λ (c : Bool). some_below n (header_touches image p) || c) (none_behind p) ∙ or_none (some_below n (header_touches image p)) ∙ all_below p
 
+  -- all bytes are there
+  pub filled_whole : (progress : Progress) → progress.filled ≡ entry_count_of (slice_index image.header) →
+      segments_filled image progress ≡ segments_of (packed (headers_in image.table)) (entry_count_of (slice_index image.header))
+  filled_whole progress all =
+      same_segments (headers_filled image progress) (packed headers) n
+      (λ m below. let on : nat_lt m progress.filled ≡ true = grind (arith, nat_tests, below, all) in
+      ap (λ (c : Bool). if c then packed headers m else record (packed headers m) { file_len = if m == progress.filled then progress.bytes else 0 }) on)
+
   filled_all : segments_filled image (passing n 0) ≡ segments
-  filled_all =
-      same_segments (headers_filled image (passing n 0)) (packed headers) n
-      (λ m below. let on : nat_lt m n ≡ true = grind (arith, nat_tests, below) in
-      ap (λ (c : Bool). if c then packed headers m else record (packed headers m) { file_len = if m == n then 0 else 0 }) on)
+  filled_all = filled_whole (passing n 0) refl
 
   -- so the child's own are those of the program
   pub whole_page : (p : ℕ) → own_page image (passing (entry_count_of (slice_index image.header)) 0) file p
