@@ -17,3 +17,4 @@ pub mod HereSteps
 pub mod PieceLoads
 pub mod LaidMore
 pub mod PieceGoesOn
+pub mod PiecePuts

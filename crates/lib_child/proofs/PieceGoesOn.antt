@@ -97,21 +97,22 @@ behind_next image header start end piece rest loaded some most whole begins is =
 
 -- ---- what is so behind them
 
-module _ {v w : View} {k : Slot} {b : Born} {path argv fd headers child header done end : ℕ} (so : IsPutting v k b path argv fd headers child header done end)
-    (m : ℕ) (some : 0 < m) (few : done + m ≤ end) (beside : IsBesidePage v w (page_number SPAWN_HERE)) where
+module _ {v : View} {k : Slot} {b : Born} {path argv fd headers child header done end : ℕ} (so : IsPutting v k b path argv fd headers child header done end) where
   pub piece_most : end ≤ piece_start done + TRANSFER_MAX
   piece_most =
       let most = min-le_left (piece_start done + TRANSFER_MAX) (headers_in so.image.table header).file_len in
       let is = so.end_is in
       omega (arith, most, is)
 
-  now : IsPutting w k b path argv fd headers child header done end
+module _ {v w : View} {k : Slot} {b : Born} {path argv fd headers child header done end : ℕ} (so : IsPutting v k b path argv fd headers child header done end)
+    (m : ℕ) (beside : IsBesidePage v w (page_number SPAWN_HERE)) where
+  abbrev now : IsPutting w k b path argv fd headers child header done end
   now = putting_aside beside (λ same. omega (arith, same)) (λ same. omega (arith, same)) refl (λ same. omega (arith, same)) so
 
   -- more bytes of it are to be put
   pub still_putting : done + m < end → IsPutting w k b path argv fd headers child header (done + m) end
   still_putting more =
-      let most = piece_most in
+      let most = piece_most so in
       let start : piece_start done ≡ piece_start (done + m) = omega (arith, more, most) in
       record {
         image = now.image;
@@ -137,7 +138,7 @@ module _ {v w : View} {k : Slot} {b : Born} {path argv fd headers child header d
   -- or none
   pub all_put : HasPut w k b path argv fd headers child header end
   all_put =
-      let most = piece_most in
+      let most = piece_most so in
       let last = put_end so in
       let within = so.within in
       let next : IsNextPiece now.image header (piece_start done) end =
@@ -187,17 +188,16 @@ module _ {v w : View} {k : Slot} {b : Born} {path argv fd headers child header d
 
 -- ---- where it goes on
 
-pub record PutGoes (w : View) (k : Slot) (b : Born) (path argv child count : ℕ) (from : SpawnStep) (progress : Progress) (to : SpawnStep) : Type 0 where
+pub record PutGoes (v : View) (k : Slot) (b : Born) (path argv child count : ℕ) (from : SpawnStep) (progress : Progress) (to : SpawnStep) : Type 0 where
   pub held : holds_page (spawns_at path argv from) ≡ holds_page (spawns_at path argv to)
   pub bears : spawning_child to ≡ Some child
   pub childs : (p : ℕ) → is_childs from p ≡ is_childs to p
   pub told : HereStill from to
   pub is_so : IsProgress count to progress
-  pub stands : StandsAtSpawn w (record k { extra = spawn_words to }) b path argv to
+  pub stands : (w : View) → IsBesidePage v w (page_number SPAWN_HERE) → StandsAtSpawn w (record k { extra = spawn_words to }) b path argv to
 
-module _ {v w : View} {k : Slot} {b : Born} {path argv fd headers child header va done end : ℕ} (word : ℕ)
-    (so : IsPuttingAt v k b path argv fd headers child header va done end) (m : ℕ) (moves : Moves (va + done) (end - done) m)
-    (beside : IsBesidePage v w (page_number SPAWN_HERE)) where
+module _ {v : View} {k : Slot} {b : Born} {path argv fd headers child header va done end : ℕ} (word : ℕ)
+    (so : IsPuttingAt v k b path argv fd headers child header va done end) (m : ℕ) (moves : Moves (va + done) (end - done) m) where
   abbrev from : SpawnStep
   from = spawn.Bearing (bearing.PiecePutting fd headers child header va done end word)
 
@@ -205,7 +205,7 @@ module _ {v w : View} {k : Slot} {b : Born} {path argv fd headers child header v
   few = let most = moves.few in let within = so.putting.within in omega (arith, most, within)
 
   abbrev Goes : SpawnStep → Type 0
-  Goes to = PutGoes w k b path argv child (count_of so.putting.image) from (filling headers header (done + m)) to
+  Goes to = PutGoes v k b path argv child (count_of so.putting.image) from (filling headers header (done + m)) to
 
   put_all : end ≤ done + m → Goes (spawn.Bearing (bearing.UnmappingHere fd headers child header end))
   put_all past =
@@ -218,12 +218,12 @@ module _ {v w : View} {k : Slot} {b : Born} {path argv fd headers child header v
         childs = λ p. refl;
         told = λ q is. absurd (none-some q is);
         is_so = ap (filling headers header) all;
-        stands = all_put_told (all_put so.putting m moves.some few beside);
+        stands = λ w beside. all_put_told w (all_put so.putting m beside);
       }
     where
-      all_put_told : HasPut w k b path argv fd headers child header end →
+      all_put_told : (w : View) → HasPut w k b path argv fd headers child header end →
           HasPut w (record k { extra = spawn_words (spawn.Bearing (bearing.UnmappingHere fd headers child header end)) }) b path argv fd headers child header end
-      all_put_told h = record {
+      all_put_told w h = record {
         filled = filled_told (spawn_words (spawn.Bearing (bearing.UnmappingHere fd headers child header end))) h.filled;
         some = h.some;
         loaded = h.loaded;
@@ -239,7 +239,7 @@ module _ {v w : View} {k : Slot} {b : Born} {path argv fd headers child header v
         childs = λ p. refl;
         told = λ q is. ap Some same_page ∙ is;
         is_so = refl;
-        stands = record { putting = putting_told (spawn_words to) (still_putting so.putting m moves.some few beside more); va_is = so.va_is };
+        stands = λ w beside. record { putting = putting_told (spawn_words to) (still_putting so.putting m beside more); va_is = so.va_is };
       }
     where
       same_page : page_number (va + done) ≡ page_number (va + (done + m))
@@ -257,7 +257,7 @@ module _ {v w : View} {k : Slot} {b : Born} {path argv fd headers child header v
   put_page_end more =
       let to : SpawnStep = spawn.Bearing (bearing.MappingHere fd headers child header va (done + m) end) in
       let some = moves.some in
-      let most = piece_most so.putting m moves.some few beside in
+      let most = piece_most so.putting in
       let inner : (done + m) % TRANSFER_MAX ≢ 0 = (λ none. omega (arith, none, more, most, some)) in
       let kept : true ≡ not ((done + m) % TRANSFER_MAX == 0) = sym (ap not (off ((done + m) % TRANSFER_MAX) inner)) in
       record {
@@ -266,7 +266,7 @@ module _ {v w : View} {k : Slot} {b : Born} {path argv fd headers child header v
         childs = λ p i. ((p == page_number SPAWN_HERE) && kept i) || ((p == page_number SPAWN_STACK) && false);
         told = λ q is. absurd (none-some q is);
         is_so = refl;
-        stands = record { putting = putting_told (spawn_words to) (still_putting so.putting m moves.some few beside more); va_is = so.va_is };
+        stands = λ w beside. record { putting = putting_told (spawn_words to) (still_putting so.putting m beside more); va_is = so.va_is };
       }
     where
       off : (q : ℕ) → q ≢ 0 → (q == 0) ≡ false

@@ -230,3 +230,4 @@ pub mod SpawnBirths
 pub mod SpawnedTurns
 pub mod SpawnGivesStack
 pub mod HereStores
+pub mod RegistersSet
