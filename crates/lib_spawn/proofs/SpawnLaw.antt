@@ -27,7 +27,7 @@ module _ (s : KernelState) (n path argv : ℕ) (live : is_live (slot_at s n) ≡
   -- behind its path
   behind_holds : (to : SpawnStep) → place_of (slot_at s n) ≡ spawns_at path argv to → ServiceHolds s n (or_nowhere spawning (spawn_at path argv (step.Spawning to)))
   behind_holds (spawn.Given at) stands = given_holds s n path argv live small at stands
-  behind_holds (spawn.Opening at) stands = opening_holds s n path argv live awake at stands
+  behind_holds (spawn.Opening at) stands = opening_holds s n path argv live at awake stands
   behind_holds (spawn.Reading wanted at) stands = reading_holds s n path argv live awake wanted at stands
   behind_holds (spawn.Testing at) stands = testing_holds s n path argv live at stands
   behind_holds (spawn.Bearing at) stands = bearing_holds s n path argv live at stands
