@@ -399,7 +399,7 @@ left_least service at copies = by_counting (counts_copies at)
     by_counting false = omega (arith)
 
 -- a service that goes on at a step has a lower number, whatever pages wait to be copied
-service_lowers : (s after : KernelState) (n : ℕ) (service : Service) (from to : Step) → place_of (slot_at s n) ≡ place.InService service from →
+pub service_lowers : (s after : KernelState) (n : ℕ) (service : Service) (from to : Step) → place_of (slot_at s n) ≡ place.InService service from →
     place_of (slot_at after n) ≡ place.InService service to → most_left to < steps_left from → LowersOrAsksAgain n s after
 service_lowers s after n service from to was is less =
     let most = left_most service to (rows_of after.spaces (slot_at after n).directory) in
