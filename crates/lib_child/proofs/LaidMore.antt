@@ -189,7 +189,7 @@ record Split (f : ℕ → ProgramHeader) (header n : ℕ) : Type 0 where
 split : (f : ℕ → ProgramHeader) (header n : ℕ) → header < n → is_loaded (f header) ≡ true → ((m : ℕ) → header < m → (f m).file_len ≡ 0) → Split f header n
 unfolding segments_of
 split f header zero below loaded none = absurd (omega (arith, below))
-split f header (suc n) below loaded none = by_last (n == header) refl
+split f header (suc n) below loaded none = by_last (n == header) refl (λ more. split f header n more loaded none)
   where
     by_loaded : header < n → (c : Bool) → NoneFilled (if c then segment_of (f n) ∷ [] else [])
     by_loaded more true = (none n more, tt)
@@ -198,8 +198,8 @@ split f header (suc n) below loaded none = by_last (n == header) refl
     last : List Segment
     last = if is_loaded (f n) then segment_of (f n) ∷ [] else []
 
-    by_last : (c : Bool) → (n == header) ≡ c → Split f header (suc n)
-    by_last true test =
+    by_last : (c : Bool) → (n == header) ≡ c → (header < n → Split f header n) → Split f header (suc n)
+    by_last true test before =
         let same : header ≡ n = sym (eqb-true n header test) in
         record {
           after = [];
@@ -208,9 +208,9 @@ split f header (suc n) below loaded none = by_last (n == header) refl
               (ap (λ (c : Bool). segments_of f n ++ (if c then segment_of (f n) ∷ [] else [])) (ap (λ (q : ℕ). is_loaded (f q)) (sym same) ∙ loaded));
           none = tt;
         }
-    by_last false test =
+    by_last false test before =
         let more : header < n = (let ne = eqb-false n header test in omega (arith, below, ne)) in
-        let it = split f header n more loaded none in
+        let it = before more in
         record {
           after = it.after ++ last;
           is = ap (λ (l : List Segment). l ++ last) it.is ∙ append_assoc (segments_of f header) (segment_of (f header) ∷ it.after) last;
@@ -268,7 +268,7 @@ module _ (image : ImageRead) (headers header : ℕ) (below : header < count_of i
   unfolding is_loaded
   loaded_there done = ap (λ (h : ProgramHeader). is_loaded h) (here_is done) ∙ loaded
 
-  pub front_page : List ℕ → ℕ → List ℕ
+  abbrev pub front_page : List ℕ → ℕ → List ℕ
   front_page file p = laid_all (segments_of (packed (headers_in image.table)) header) file p zero_page
 
   front_long : (file : List ℕ) (p : ℕ) → length (front_page file p) ≡ PGSIZE

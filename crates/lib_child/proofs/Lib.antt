@@ -18,3 +18,5 @@ pub mod PieceLoads
 pub mod LaidMore
 pub mod PieceGoesOn
 pub mod PiecePuts
+pub mod SettingRegisters
+pub mod BearingLaw

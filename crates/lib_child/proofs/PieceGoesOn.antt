@@ -231,6 +231,7 @@ module _ {v : View} {k : Slot} {b : Born} {path argv fd headers child header va 
       }
 
   put_more : done + m < end → next_va va (done + m) % PGSIZE ≢ 0 → Goes (spawn.Bearing (bearing.PieceLoading fd headers child header va (done + m) end))
+  unfolding still_putting
   put_more more inner =
       let to : SpawnStep = spawn.Bearing (bearing.PieceLoading fd headers child header va (done + m) end) in
       record {
@@ -254,6 +255,7 @@ module _ {v : View} {k : Slot} {b : Born} {path argv fd headers child header va 
           omega (arith, fits, other)
 
   put_page_end : done + m < end → Goes (spawn.Bearing (bearing.MappingHere fd headers child header va (done + m) end))
+  unfolding still_putting
   put_page_end more =
       let to : SpawnStep = spawn.Bearing (bearing.MappingHere fd headers child header va (done + m) end) in
       let some = moves.some in

@@ -86,7 +86,7 @@ only_there q ne =
 four_aligned : (at wanted : ℕ) → put_at_once at wanted ≡ 4 → at % 4 ≡ 0
 four_aligned at wanted four = by_tests (at % 4 == 0) refl (nat_le 4 wanted) four
   where
-    by_tests : (aligned : Bool) → (at % 4 == 0) ≡ aligned → (many : Bool) → (if aligned && many then 4 else 1) ≡ 4 → at % 4 ≡ 0
+    by_tests : (aligned : Bool) → (at % 4 == 0) ≡ aligned → (many : Bool) → ◌≡◌ {A = ℕ} (if aligned && many then 4 else 1) 4 → at % 4 ≡ 0
     by_tests true test many is = eqb-true (at % 4) 0 test
     by_tests false test many is = absurd (omega (arith, is))
 

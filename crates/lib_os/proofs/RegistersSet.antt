@@ -1,20 +1,22 @@
 -- Spawn sets its child's registers by a record that stands in its own page: what the call comes to, and that the kernel's state goes on standing for the same
 -- abstract one, where the child is to have its registers at the next step.
-use Rattle.std.proofs.Common.{◌≡◌, ◌≢◌, ◌∙◌, ◌+◌, ◌<◌, ◌≤◌, ◌==◌, ◌%◌, ◌&&◌, ◌||◌, ◌^◌, ℕ, Bool, true, false, List, [], ◌∷◌, Option, Some, None, length, Ok}
+use Rattle.std.proofs.Common.{◌≡◌, ◌≢◌, ◌∙◌, ◌+◌, ◌<◌, ◌≤◌, ◌==◌, ◌%◌, ◌&&◌, ◌||◌, ◌^◌, ℕ, Bool, true, false, List, [], ◌∷◌, Option, Some, None, length, not, ◌⊎◌, inl, inr, Result, Err, Ok}
 use Rattle.std.proofs.Common.{refl, sym, ap, subst, arith, if◌then◌else◌}
 use Rattle.std.specs.Prelude.{nat_le, slice_index}
 use Rattle.std.proofs.lemmas.Bool.{false≢true}
 use Rattle.std.proofs.lemmas.Bool.Decides.{nat_tests}
 use Rattle.std.proofs.lemmas.Option.{same_Some}
-use Rattle.jos_base.specs.declared.called.Called.TheVariants.{Answered}
+use Rattle.jos_base.specs.declared.called.Called.TheVariants.{Answered, Ended}
+use Rattle.jos_base.specs.declared.memory.PageFault.{PageFault}
 use Rattle.jos_base.specs.declared.numbers.TheConstants.{NENV, PGSIZE, SYS_ENV_SET_TRAPFRAME}
 use Rattle.jos_base.specs.declared.registers.Regs.{Regs}
 use Rattle.jos_base.specs.Counting.{page_limit}
-use Rattle.jos_base.specs.Environments.{Slot, found, is_live as is_live_slot, records_of}
+use Rattle.jos_base.specs.Environments.{Slot, found, is_live as is_live_slot, records_of, with_answer}
 use Rattle.jos_base.specs.KernelState.{KernelState, slot_at, with_extra, with_registers, with_slot_at, with_spaces}
 use Rattle.jos_base.specs.Reach.{Entry}
 use Rattle.jos_base.specs.SpacesState.{SpacesState}
-use Rattle.jos_base.specs.SystemCalls.{answered, call_of, is_page_perm, record_size, user_bytes, with_bytes_reached}
+use Rattle.jos_base.specs.SystemCalls.{Did, answered, call_of, env_set_trapframe_by, env_set_trapframe_of, is_page_perm, killed, record_size, user_bytes}
+use Rattle.jos_base.specs.SystemCalls.{with_bytes_reached}
 use Rattle.jos_base.specs.TrapFrames.{from_record, words_of_bytes}
 use Rattle.jos_base.specs.UserMemory.{all_touched, read_byte}
 use Rattle.jos_base.specs.Words.{is_exactly, page_number, page_offset, upd}
@@ -36,7 +38,7 @@ use Rattle.lib_os.specs.SpawnedChild.{IsProgress, Loads, Progress, bytes_replied
 use Rattle.lib_os.specs.SpawnPages.{is_childs}
 use Rattle.lib_os.specs.StandsAtSpawn.{PageHas, StandsAtSpawn}
 use Rattle.lib_os.specs.StandsFor.{StandsAt, StandsFor, StandsForBorn, StandsForUnborn, borne_in, things_in, view_of}
-use Rattle.lib_os.specs.UserCalls.{asking, called_by, giving, system}
+use Rattle.lib_os.specs.UserCalls.{asking, called_by, giving, got, sets_own, system, taken_back}
 use Rattle.lib_os.proofs.Bearing.{of_slots}
 use Rattle.lib_os.proofs.BearingCounts.{live_counts}
 use Rattle.lib_os.proofs.BearsOn.{borne_apart, borne_lives, borne_own}
@@ -50,12 +52,67 @@ use Rattle.lib_os.proofs.FrameRead.{bytes_read_is}
 use Rattle.lib_os.proofs.Logical.{counted_plain, logical_alike}
 use Rattle.lib_os.proofs.Sends.{other_is}
 use Rattle.lib_os.proofs.Serving.{IsServed, holds_page, words_of_none}
-use Rattle.lib_os.proofs.Slots.{slot_kept}
+use Rattle.lib_os.proofs.Slots.{slot_kept, slots_alike}
 use Rattle.lib_os.proofs.SlotsStand.{SeenAlike, born_at, born_live, born_stands, but_pipes, counts_unpiped, is_piped, seen_but_pipes}
 use Rattle.lib_os.proofs.SpawnedGoes.{HasOfImage, IsSpawner, spawner, went_own, went_place}
 use Rattle.lib_os.proofs.SpawnedMoves.{spawned_counted, spawned_lives, spawned_not_first, spawner_counted, spawner_lives, spawner_not_first, spawning_stands}
 use Rattle.lib_os.proofs.SpawnOwnPages.{IsSpawnsOwn, spawn_there, spawn_words, spawns_at}
+use Rattle.lib_os.proofs.Trying.{live_after}
 use Rattle.lib_os.proofs.StatesStand.{Settles, others_counts, slot_in_order}
+
+-- ---- whoever makes the call
+
+-- it lives on, or is ended by it
+module _ (k : KernelState) (n : ℕ) (live : is_live_slot (slot_at k n) ≡ true) where
+  abbrev EndsOrLives : Did → Type 0
+  EndsOrLives did = (did.called ≡ Ended) ⊎ (is_live_slot (slot_at did.state n) ≡ true)
+
+  set_by : (target va : ℕ) (bytes : Result (List ℕ) PageFault) → EndsOrLives (env_set_trapframe_by k n target va bytes)
+  unfolding killed
+  set_by target va (Ok bytes) =
+      let t : KernelState = with_bytes_reached k n va record_size in
+      let u : KernelState = with_registers t target (from_record (words_of_bytes bytes)) in
+      let lives : is_live_slot (slot_at u n) ≡ true =
+      slots_alike t target (λ (x : Slot). is_live_slot x) (record (slot_at t target) { registers = from_record (words_of_bytes bytes) }) refl n ∙ live in
+      inr (live_after u n n (with_answer (slot_at u n) 0) lives lives)
+  set_by target va (Err fault) = inl refl
+
+  set_of : (target : Option ℕ) (va : ℕ) → EndsOrLives (env_set_trapframe_of k n target va)
+  set_of None va = inr (live_after k n n (with_answer (slot_at k n) _) live live)
+  set_of (Some target) va = set_by target va (user_bytes k n va record_size)
+
+  called_lives : (regs : Regs) (own : Bool) (did : Did) → EndsOrLives did →
+      (got did.called ≡ got Ended) ⊎ (is_live_slot (slot_at (taken_back did.state n own regs) n) ≡ true)
+  called_lives regs own did (inl ends) = inl (ap got ends)
+  called_lives regs own did (inr lives) = inr (by_test (is_live_slot (slot_at did.state n) && not own))
+    where
+      by_test : (c : Bool) → is_live_slot (slot_at (if c then with_registers did.state n regs else did.state) n) ≡ true
+      by_test true = live_after did.state n n (record (slot_at did.state n) { registers = regs }) lives lives
+      by_test false = lives
+
+module _ (s : KernelState) (n : ℕ) (live : is_live_slot (slot_at s n) ≡ true) (args : List ℕ) where
+  abbrev asked_regs : Regs
+  asked_regs = asking (slot_at s n).registers SYS_ENV_SET_TRAPFRAME args
+
+  abbrev asked_state : KernelState
+  asked_state = with_registers s n asked_regs
+
+  asked_lives : is_live_slot (slot_at asked_state n) ≡ true
+  asked_lives = live_after s n n (record (slot_at s n) { registers = asked_regs }) live live
+
+  done_lives : EndsOrLives asked_state n asked_lives (call_of asked_state n asked_regs)
+  unfolding call_of
+  done_lives = set_of asked_state n asked_lives (found asked_state.environments asked_regs.edx n true) asked_regs.ecx
+
+  pub trapframe_lives : ((system s n SYS_ENV_SET_TRAPFRAME args).gives ≡ got Ended)
+      ⊎ (is_live_slot (slot_at (system s n SYS_ENV_SET_TRAPFRAME args).state n) ≡ true)
+  unfolding system
+  trapframe_lives =
+      let own : Bool = sets_own s n SYS_ENV_SET_TRAPFRAME args in
+      let same : asked_regs ≡ (slot_at asked_state n).registers = sym (ap (λ (x : Slot). x.registers) (caller_is s n asked_regs)) in
+      subst (λ (r : Regs). (got (call_of asked_state n r).called ≡ got Ended)
+      ⊎ (is_live_slot (slot_at (taken_back (call_of asked_state n r).state n own (slot_at s n).registers) n) ≡ true)) same
+      (called_lives asked_state n asked_lives (slot_at s n).registers own (call_of asked_state n asked_regs) done_lives)
 
 -- ---- the call
 
