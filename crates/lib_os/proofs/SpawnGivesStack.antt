@@ -292,7 +292,7 @@ module _ {names : Names} {s : KernelState} {a : AbstractState} (h : StandsFor na
           handler_stack = λ on. stack_still (x.handler_stack (ap (λ (before : Progress). before.handler_stack) x.is_so));
           no_handler_stack = λ off. absurd (false≢true (sym off));
           none = λ p outside no_desc other.
-              child_row p (λ same. absurd (false≢true (sym outside ∙ ap is_programs same))) ∙ x.none p outside no_desc other;
+              child_row p (λ same. absurd (false≢true (sym outside ∙ ap is_programs same ∙ stack_inside))) ∙ x.none p outside no_desc other;
           tables = tables_so;
           here = λ p childs. here_so p (sym (its_own p) ∙ childs);
         }
