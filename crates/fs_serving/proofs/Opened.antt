@@ -534,7 +534,7 @@ storing_opened acts_are_done count a it before files table small so v seen word 
       small = omega arith;
       sized =
           let short = opened-short count a it before files table small so.path so.mode so.home opened in
-          subst (λ (s : FileSystem). file_size s opened.way < 2 ^ 31) (sym done.files.are) (omega (arith, short));
+          subst (λ (s : FileSystem). file_size s opened.way < 2 ^ 31) done.files.are (omega (arith, short));
     } in
     subst (λ (u : View). Follows count a next.seen (gone_on it next u)) (sym seen) (
       b,

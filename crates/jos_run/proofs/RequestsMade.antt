@@ -180,10 +180,10 @@ spawn_word (spawn.Reading wanted (read.Asking id)) word asks = sym (same_Some FS
 spawn_word _ word asks = absurd (none-some word asks)
 
 -- and what it has found out then
-abbrev pub found_at : {v : View} {k : Slot} {b : Born} {path argv : ℕ} (from : SpawnStep) → StandsAtSpawn v k b path argv from → Spawning
-found_at (spawn.Opening (opening_step.OpenAsking esp fd id)) there = opening there.1.ready.words
-found_at (spawn.Reading wanted (read.Asking id)) there = found_before there.1.so.so.asks.before
-found_at _ there = opening []
+abbrev pub found_at : (v : View) (k : Slot) (b : Born) (path argv : ℕ) (from : SpawnStep) → StandsAtSpawn v k b path argv from → Spawning
+found_at v k b path argv (spawn.Opening (opening_step.OpenAsking esp fd id)) there = opening there.1.ready.words
+found_at v k b path argv (spawn.Reading wanted (read.Asking id)) there = found_before there.1.so.so.asks.before
+found_at v k b path argv _ there = opening []
 
 -- none of the bytes of a path is an end
 no_end_within : (name : List ℕ) → HasNoEnd name → list_any is_nul name ≡ false
@@ -201,7 +201,8 @@ segment_within : (total : ℕ) (headers : ℕ → ProgramHeader) (n m : ℕ) →
     is_loaded (headers m) ≡ true → (headers m).file_at + (headers m).file_len ≤ total
 unfolding table_tests segment_tests
 segment_within total headers zero m below passed loaded = absurd (omega (arith, below))
-segment_within total headers (suc n) m below passed loaded = by_last (nat_lt m n) refl
+segment_within total headers (suc n) m below passed loaded =
+    by_last (nat_lt m n) refl (λ lower. segment_within total headers n m lower both.0 loaded)
   where
     parts : (xs ys : List FaultTest) → first_failed (xs ++ ys) ≡ None → (first_failed xs ≡ None) × (first_failed ys ≡ None)
     parts [] ys is = (refl, is)
@@ -218,9 +219,10 @@ segment_within total headers (suc n) m below passed loaded = by_last (nat_lt m n
         let test = one_passed (nat_le ((headers n).file_at + (headers n).file_len) total) _ _ own in
         grind (arith, nat_tests, test)
 
-    by_last : (c : Bool) → nat_lt m n ≡ c → (headers m).file_at + (headers m).file_len ≤ total
-    by_last true lower = segment_within total headers n m (grind (arith, nat_tests, lower)) both.0 loaded
-    by_last false last =
+    by_last : (c : Bool) → nat_lt m n ≡ c → (m < n → (headers m).file_at + (headers m).file_len ≤ total) →
+        (headers m).file_at + (headers m).file_len ≤ total
+    by_last true lower before = before (grind (arith, nat_tests, lower))
+    by_last false last before =
         let past : n ≤ m = grind (arith, nat_tests, last) in
         let same : n ≡ m = omega (arith, past, below) in
         subst (λ (k : ℕ). (headers k).file_at + (headers k).file_len ≤ total) same (its_own (ap (λ (k : ℕ). is_loaded (headers k)) same ∙ loaded))
@@ -271,16 +273,20 @@ module _ {names : Names} {s : KernelState} {a : AbstractState} (h : StandsFor na
     spawn_path : {name : List ℕ} → SpawnHasPath v name → HasPath page name
     spawn_path {name = name} it =
         let few = it.few in
-        let many = length-append name (0 ∷ []) in
         record {
           short = omega (arith, few);
-          bytes = λ k below.
-              byte_told it.kept.entry it.kept.stands k (omega (arith, below, few)) ∙ it.kept.same k (omega (arith, below, many))
-              ∙ get_or_append_left name (0 ∷ []) 0 k below;
-          ends = byte_told it.kept.entry it.kept.stands (length name) (omega (arith, few)) ∙ it.kept.same (length name) (omega (arith, many))
-              ∙ get_or_at name 0 [] 0 (length name) refl;
+          bytes = λ k below. told k (omega (arith, below)) ∙ get_or_append_left name (0 ∷ []) 0 k below;
+          ends = told (length name) (omega arith) ∙ get_or_at name 0 [] 0 (length name) refl;
           no_nul = no_end_within name it.no_end;
         }
+      where
+        told : (k : ℕ) → k ≤ length name → page k ≡ slice_index (name ++ 0 ∷ []) k
+        told k within =
+            let few = it.few in
+            let many = length-append name (0 ∷ []) in
+            let first : 0 + k ≡ k = omega arith in
+            byte_told it.kept.entry it.kept.stands k (omega (arith, within, few)) ∙ sym (ap (slice_index (v.bytes it.kept.entry.frame)) first)
+            ∙ it.kept.same k (omega (arith, within, many))
 
     file_made : {esp fd : ℕ} → (it : TellsFile v (slot_at s n) b path argv esp fd) →
         Asks a n (with_spawning b (opening it.ready.words)) spawns kind.Open page
@@ -393,7 +399,7 @@ module _ {names : Names} {s : KernelState} {a : AbstractState} (h : StandsFor na
 
     -- So it is where spawn asks.
     pub spawn_made : (from : SpawnStep) (word : ℕ) → spawn_asks_by from ≡ Some word → place_of (slot_at s n) ≡ spawns_at path argv from →
-        (there : StandsAtSpawn v (slot_at s n) b path argv from) → Asks a n (with_spawning b (found_at from there)) spawns (spawn_kind from) page
+        (there : StandsAtSpawn v (slot_at s n) b path argv from) → Asks a n (with_spawning b (found_at v (slot_at s n) b path argv from there)) spawns (spawn_kind from) page
     spawn_made (spawn.Opening (opening_step.OpenAsking esp fd id)) word asks is there = file_made there.1
     spawn_made (spawn.Reading wanted (read.Asking id)) word asks is there = part_made (read.Asking id) is there.1
     spawn_made _ word asks is there = absurd (none-some word asks)

@@ -735,7 +735,7 @@ module _ (d : Disk) (n : ℕ) (s after : KernelState) (other : n ≢ 0) (live : 
     asked_by_spawn : (path argv : ℕ) (from : SpawnStep) (word : ℕ) → spawn_asks_by from ≡ Some word →
         place_of (slot_at s n) ≡ spawns_at path argv from → BringsWithPage word n s after → ServerStands d after c
     asked_by_spawn path argv from word asks_so place_is brings =
-        asked_with (with_spawning b (found_at from there)) refl (service.Spawn path argv) (spawn_kind from) word (spawn_word from word asks_so)
+        asked_with (with_spawning b (found_at (view_of s.spaces (slot_at s n).directory) (slot_at s n) b path argv from there)) refl (service.Spawn path argv) (spawn_kind from) word (spawn_word from word asks_so)
         (ap asks_by_page place_is ∙ spawn_asks_page from word asks_so)
         (λ page kept bytes.
         spawn_made h.1 n below b at idle_so page kept (request_bytes after 0) bytes path argv short_file from word asks_so place_is there)

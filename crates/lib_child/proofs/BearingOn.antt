@@ -180,6 +180,7 @@ module _ {v : View} {k : Slot} {b : Born} {path argv fd headers child header : â
 module _ {v : View} {k : Slot} {b : Born} {path argv fd headers child : â„•} {image : ImageRead} (h : HasChild v k b path argv fd headers child image) where
   -- none is asked for, and nothing put
   has_none : HasUpTo v k b path argv fd headers child 0 image
+  unfolding all_of
   has_none = record {
     pieces = [];
     had = [];

@@ -15,3 +15,6 @@ pub mod MakingChild
 pub mod PutsAt
 pub mod HereSteps
 pub mod PieceLoads
+pub mod LaidMore
+pub mod PieceGoesOn
+pub mod PiecePuts

@@ -72,11 +72,11 @@ replied_same : {path argv answer answer_too : ℕ} {table table_too : List ℕ} 
 replied_same same = cc
 
 -- what it has found out tells the image
-images_same : {b : Born} {path argv fd fd_too answer answer_too : ℕ} {words words_too : List (List ℕ)} {header header_too table table_too : List ℕ} →
+images_same : (b : Born) {path argv fd fd_too answer answer_too : ℕ} {words words_too : List (List ℕ)} {header header_too table table_too : List ℕ} →
     b.phase ≡ in_service (service.Spawn path argv) (replied table answer) → b.phase ≡ in_service (service.Spawn path argv) (replied table_too answer_too) →
     b.spawning ≡ Some (tabling fd words header) → b.spawning ≡ Some (tabling fd_too words_too header_too) →
     ◌≡◌ {A = ImageRead} (record { words = words; header = header; table = table }) (record { words = words_too; header = header_too; table = table_too })
-images_same first second found found_too =
+images_same b first second found found_too =
     let same_table = replied_same (sym first ∙ second) in
     let these = tabling_same (sym found ∙ found_too) in
     λ i. record { words = these.0 i; header = these.1 i; table = same_table i }
@@ -133,7 +133,7 @@ module _ {names : Names} {s : KernelState} {a : AbstractState} (h : StandsFor na
     bearer = spawn_found b path argv (loading fd (image_of it) m []) (taking [])
 
     same_image : image_of is ≡ image_of it
-    same_image = images_same (is.so.found.is_in.phase) (it.so.found.is_in.phase) (is.so.found.is) (it.so.found.is)
+    same_image = images_same b (is.so.found.is_in.phase) (it.so.found.is_in.phase) (is.so.found.is) (it.so.found.is)
 
     has_child : HasChild w parent bearer path argv fd headers id (image_of is)
     has_child = record {

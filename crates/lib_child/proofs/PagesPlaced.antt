@@ -45,17 +45,17 @@ none_laid segment file number bytes none =
         let past : to ≤ from = omega (arith, first, last, none) in
         grind (arith, nat_tests, past)
 
-abbrev NoneFilled : List Segment → Type 0
+abbrev pub NoneFilled : List Segment → Type 0
 NoneFilled [] = Unit {0}
 NoneFilled (segment ∷ rest) = (segment.file_len ≡ 0) × NoneFilled rest
 
-all_none : (segments : List Segment) (file : List ℕ) (number : ℕ) (bytes : List ℕ) → NoneFilled segments → laid_all segments file number bytes ≡ bytes
+pub all_none : (segments : List Segment) (file : List ℕ) (number : ℕ) (bytes : List ℕ) → NoneFilled segments → laid_all segments file number bytes ≡ bytes
 unfolding laid_all
 all_none [] file number bytes each = refl
 all_none (segment ∷ rest) file number bytes each =
     ap (λ (page : List ℕ). laid_all rest file number page) (none_laid segment file number bytes each.0) ∙ all_none rest file number bytes each.1
 
-none_append : (first second : List Segment) → NoneFilled first → NoneFilled second → NoneFilled (first ++ second)
+pub none_append : (first second : List Segment) → NoneFilled first → NoneFilled second → NoneFilled (first ++ second)
 none_append [] second each more = more
 none_append (segment ∷ rest) second each more = (each.0, none_append rest second each.1 more)
 
@@ -204,13 +204,17 @@ module _ {image : ImageRead} {header page : ℕ} (it : IsPageOf image header pag
   -- it is one of those that the image has
   pub page_among : (b : Born) (file : List ℕ) → is_some (child_page b image (passing (entry_count_of (slice_index image.header)) 0) file page) ≡ true
   page_among b file =
-      ap (λ (c : Bool). is_some (under_shared (b.memory page) (if c then Some (stack_of image.words)
+      ap (λ (c : Bool). is_some (if c then under_shared (b.memory page) (own_page image all file page) else own_page image all file page)) from_first
+      ∙ ap (λ (c : Bool). is_some (under_shared (b.memory page) (if c then Some (stack_of image.words)
       else (if placed then Some filled_page else None)))) no_stack
       ∙ ap (λ (c : Bool). is_some (under_shared (b.memory page) (if c then Some filled_page else None))) placed_there
       ∙ by_shared (b.memory page)
     where
       all : Progress
       all = passing (entry_count_of (slice_index image.header)) 0
+
+      from_first : nat_le 0 page ≡ true
+      from_first = grind (arith, nat_tests)
 
       placed : Bool
       placed = is_placed_page image all page

@@ -1,6 +1,6 @@
 -- The laws of spawn as it looks at the program headers for the pages of its child's segments.
 use Rattle.std.proofs.Common.{◌≡◌, ◌≢◌, ◌∙◌, ◌+◌, ◌-◌, ◌*◌, ◌/◌, ◌%◌, ◌^◌, ◌<◌, ◌≤◌, ◌==◌, ◌&&◌, ◌||◌, ◌⊎◌, ℕ, Bool, true, false, refl, sym, ap, arith}
-use Rattle.std.proofs.Common.{if◌then◌else◌, List, ◌++◌}
+use Rattle.std.proofs.Common.{if◌then◌else◌, List, [], ◌++◌}
 use Rattle.std.specs.Prelude.{nat_lt, slice_index}
 use Rattle.std.proofs.lemmas.Bool.{and_parts}
 use Rattle.std.proofs.lemmas.Bool.Decides.{nat_tests}
@@ -19,7 +19,7 @@ use Rattle.lib_os.specs.declared.place.Step.TheVariants as step
 use Rattle.lib_os.specs.declared.spawn_steps.BearingStep.TheVariants as bearing
 use Rattle.lib_os.specs.declared.spawn_steps.SpawnStep.{SpawnStep}
 use Rattle.lib_os.specs.declared.spawn_steps.SpawnStep.TheVariants as spawn
-use Rattle.lib_os.specs.AbstractSpawn.{headers_in}
+use Rattle.lib_os.specs.AbstractSpawn.{all_of, headers_in}
 use Rattle.lib_os.specs.AbstractState.{Born, ImageRead}
 use Rattle.lib_os.specs.LibraryPages.{View}
 use Rattle.lib_os.specs.Places.{place_of}
@@ -125,7 +125,7 @@ module _ (s : KernelState) (n path argv : ℕ) (live : is_live (slot_at s n) ≡
         next_is = ap (λ (c : Bool). if c then next.GoOn (step.Spawning (spawn.Bearing (bearing.PlacingMemory fd headers child header)))
             else next.GoOn (step.Spawning (pages_from fd headers child (header + 1)))) test;
         goes = comes_goes at_kind refl (none_mine at_kind refl refl) (λ progress is. is) h.has.found.is
-            (placed_over b h.image (bytes_replied b.phase) header
+            (placed_over b h.image (all_of [] ++ bytes_replied b.phase) header
             (other_kind (headers_in h.image.table header) (ap (λ (m : ℕ). m == PT_LOAD) (sym (says_kind h.image.table header)) ∙ test)))
             (pages_come h.has (header + 1) (let below = h.below in omega (arith, below)));
       }
@@ -161,7 +161,7 @@ module _ (s : KernelState) (n path argv : ℕ) (live : is_live (slot_at s n) ≡
         to = step.Spawning (pages_from fd headers child (header + 1));
         next_is = ap (λ (c : Bool). if c then next.GoOn (step.Spawning (pages_from fd headers child (header + 1))) else next.GoOn (step.Spawning some)) test;
         goes = comes_goes at_memory refl (none_mine at_memory refl refl) (λ progress is. is) h.has.found.is
-            (placed_over b h.image (bytes_replied b.phase) header
+            (placed_over b h.image (all_of [] ++ bytes_replied b.phase) header
             (no_memory (headers_in h.image.table header) (sym (says_mem_len h.image.table header) ∙ grind (arith, nat_tests, test))))
             (pages_come h.has (header + 1) (let below = h.below in omega (arith, below)));
       }
@@ -219,7 +219,7 @@ module _ (s : KernelState) (n path argv : ℕ) (live : is_live (slot_at s n) ≡
           to = step.Spawning to;
           next_is = refl;
           goes = comes_goes at_address refl (none_mine at_address refl refl) (λ progress is. is) h.has.found.is
-              (first_placed b h.image (bytes_replied b.phase) header (page_number va) (ap page_number va_is)) (record {
+              (first_placed b h.image (all_of [] ++ bytes_replied b.phase) header (page_number va) (ap page_number va_is)) (record {
                 held = refl;
                 bears = refl;
                 mine = none_mine to refl refl;

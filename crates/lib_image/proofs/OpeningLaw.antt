@@ -1,8 +1,8 @@
 -- The law of spawn where it has its file opened: it finds the lowest descriptor that is free, puts the mode into its page, asks the file server to open the file, waits for
 -- the reply, and loads the size of the file that is open.
-use Rattle.std.proofs.Common.{◌≡◌, ◌≢◌, ◌∙◌, ◌+◌, ◌*◌, ◌<◌, ◌≤◌, ◌==◌, ◌++◌, ◌||◌, ℕ, Bool, true, false, not, List, [], ◌∷◌, length, refl, sym, ap, subst}
+use Rattle.std.proofs.Common.{◌≡◌, ◌≢◌, ◌∙◌, ◌+◌, ◌*◌, ◌<◌, ◌≤◌, ◌==◌, ◌||◌, ℕ, Bool, true, false, not, List, [], ◌∷◌, refl, sym, ap, subst}
 use Rattle.std.proofs.Common.{arith, if◌then◌else◌}
-use Rattle.std.specs.Prelude.{nat_lt, slice_index}
+use Rattle.std.specs.Prelude.{nat_lt}
 use Rattle.std.proofs.lemmas.Bool.Decides.{nat_tests}
 use Rattle.std.proofs.lemmas.List.{length-append}
 use Rattle.std.proofs.lemmas.Option.{none-some}
@@ -12,10 +12,9 @@ use Rattle.jos_base.specs.declared.numbers.TheConstants.{E_MAX_OPEN, FDTABLE, PG
 use Rattle.jos_base.specs.Environments.{Slot, is_live, is_runnable, is_running}
 use Rattle.jos_base.specs.KernelState.{KernelState, slot_at}
 use Rattle.jos_base.specs.Words.{negated, page_number}
-use Rattle.jos_elf.specs.declared.numbers.TheConstants.{E_NOT_EXEC, EHDR_LEN}
+use Rattle.jos_elf.specs.declared.numbers.TheConstants.{EHDR_LEN}
 use Rattle.lib_os.specs.declared.numbers.TheConstants.{DESCRIPTORS, FD_SIZE, FSREQ_OPEN, REQUEST_MODE, SPAWN_STACK}
 use Rattle.lib_os.specs.declared.place.Step.TheVariants as step
-use Rattle.lib_os.specs.declared.service.Service.{Service}
 use Rattle.lib_os.specs.declared.service.Service.TheVariants as service
 use Rattle.lib_os.specs.declared.spawn_steps.FilePart.TheVariants as part
 use Rattle.lib_os.specs.declared.spawn_steps.OpeningStep.{OpeningStep}
@@ -26,12 +25,11 @@ use Rattle.lib_os.specs.declared.spawn_steps.SpawnStep.TheVariants as spawn
 use Rattle.lib_os.specs.declared.spawn_steps.UndoingStep.TheVariants as undoing
 use Rattle.lib_os.specs.AbstractState.{AbstractState, Born, opening as opens, replied}
 use Rattle.lib_os.specs.DescriptorPages.{size_of}
-use Rattle.lib_os.specs.InOrder.{IsInOrder}
 use Rattle.lib_os.specs.InService.{EachIsOpenBelow, HasTable, IsLowestFree}
 use Rattle.lib_os.specs.LibraryPages.{View}
 use Rattle.lib_os.specs.Places.{place_of}
 use Rattle.lib_os.specs.Rows.{EntryRow, Names, descriptor_page, rows_of}
-use Rattle.lib_os.specs.StandsAtSpawn.{AwaitsFile, Found, HasFile, HasPath, HasStack, HasWords, IsFreeOrNone, IsOpeningFile, IsReady, StandsAtSpawn, TellsFile}
+use Rattle.lib_os.specs.StandsAtSpawn.{AwaitsFile, Found, HasFile, HasPath, HasStack, IsFreeOrNone, IsOpeningFile, IsReady, TellsFile}
 use Rattle.lib_os.specs.StandsAtSpawn.{awaits_file, before_header, by_file, has_file, is_free, none_is, opened_word, too_short}
 use Rattle.lib_os.specs.StandsFor.{IsStatusFor, StandsFor, borne_in, view_of}
 use Rattle.lib_os.specs.UserCalls.{load, store}
@@ -55,14 +53,14 @@ use Rattle.lib_stage.specs.ServiceSteps.{ServiceHolds}
 use Rattle.lib_fd.specs.DescriptorStages.{is_there}
 use Rattle.lib_request.specs.Replies.{reply_place}
 use Rattle.lib_request.proofs.OwnPageLaws.{IsLoadedSo, IsStoredSo, own_load_holds, own_store_holds}
-use Rattle.lib_request.proofs.SpawnGoes.{GoesTo, loaded_so, stored_so}
+use Rattle.lib_request.proofs.SpawnGoes.{loaded_so, stored_so}
 use Rattle.lib_image.specs.declared.stage.ImageStage.TheVariants as stage
 use Rattle.lib_image.specs.ImageStages.{imaging}
-use Rattle.lib_image.specs.OpeningStages.{free_from, not_opened, opened_va, opening_next}
+use Rattle.lib_image.specs.OpeningStages.{not_opened, opened_va, opening_next}
 use Rattle.lib_image.specs.SpawnNexts.{goes_on, no_image}
 use Rattle.lib_image.proofs.ImageFalls.{opening_falls}
 use Rattle.lib_image.proofs.OpeningAsks.{spawn_asking_holds, spawn_awaiting_holds, spawn_identifying_holds, spawn_pausing_holds}
-use Rattle.lib_image.proofs.OpeningStays.{found_moved, has_file_moved, ready_moved, tells_file_moved, words_moved}
+use Rattle.lib_image.proofs.OpeningStays.{found_moved, has_file_moved, ready_moved, tells_file_moved}
 
 -- One that may run does not wait.
 pub awake_runs : {X : Type 0} (status : Status) (blocked : Bool) → IsStatusFor status blocked → (is_runnable status || is_running status) ≡ true →

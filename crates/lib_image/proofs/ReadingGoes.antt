@@ -1,6 +1,5 @@
 -- Where spawn goes on as it reads a part of its file: at another step of the same part, or where the part is read, and its child with it where it bears one.
-use Rattle.std.proofs.Common.{◌≡◌, ◌+◌, ◌-◌, ◌*◌, ◌≤◌, ℕ, List, None, Some, refl, ap, arith}
-use Rattle.std.specs.Prelude.{min}
+use Rattle.std.proofs.Common.{◌≡◌, ◌*◌, ◌≤◌, ℕ, List, refl, ap}
 use Rattle.std.proofs.Math.Nat.{min-eq_left}
 use Rattle.jos_base.specs.declared.numbers.TheConstants.{SEGMENT_MAX}
 use Rattle.jos_base.specs.Environments.{Slot}
@@ -18,7 +17,6 @@ use Rattle.lib_os.specs.InOrder.{IsInOrder}
 use Rattle.lib_os.specs.LibraryPages.{View}
 use Rattle.lib_os.specs.Places.{place_of}
 use Rattle.lib_os.specs.Rows.{Names}
-use Rattle.lib_os.specs.SpawnedChild.{Progress, spawning_child}
 use Rattle.lib_os.specs.StandsAtSpawn.{IsBefore, StandsAtSpawn, before_header, before_piece, before_table}
 use Rattle.lib_os.specs.StandsFor.{StandsFor, view_of}
 use Rattle.lib_os.specs.UserCalls.{CallStep}

@@ -1,9 +1,9 @@
 -- The law of spawn where it reads a part of its file: its page tells the number of the file, how many bytes are wanted and the place of the first; it asks with that page, waits for
 -- the reply, and goes on by the word of that.
-use Rattle.std.proofs.Common.{◌≡◌, ◌∙◌, ◌+◌, ◌^◌, ◌<◌, ◌≤◌, ◌||◌, ℕ, Bool, true, false, not, List, [], length, refl, sym, ap, subst, arith, if◌then◌else◌}
+use Rattle.std.proofs.Common.{◌≡◌, ◌∙◌, ◌+◌, ◌^◌, ◌<◌, ◌||◌, ℕ, Bool, true, false, not, [], length, refl, sym, ap, subst, arith, if◌then◌else◌}
 use Rattle.jos_base.specs.declared.environment.Status.TheVariants.{Runnable}
 use Rattle.jos_base.specs.declared.numbers.TheConstants.{UTEMP, UTOP}
-use Rattle.jos_base.specs.Environments.{Slot, is_live, is_runnable, is_running}
+use Rattle.jos_base.specs.Environments.{is_live, is_runnable, is_running}
 use Rattle.jos_base.specs.KernelState.{KernelState, slot_at}
 use Rattle.jos_base.specs.Words.{negated, page_number}
 use Rattle.jos_elf.specs.declared.numbers.TheConstants.{E_NOT_EXEC}
@@ -33,7 +33,6 @@ use Rattle.lib_os.proofs.SpawnGathers.{spawn_found}
 use Rattle.lib_os.proofs.SpawnOwnPages.{own_word_stored, spawn_there, spawn_words, spawns_at, spawns_own}
 use Rattle.lib_os.proofs.SpawnRequests.{found_before, part_asking}
 use Rattle.lib_os.proofs.SpawnWaits.{asks_part}
-use Rattle.lib_os.proofs.WindowWords.{read_at}
 use Rattle.lib_stage.specs.declared.ask.Next.{Next}
 use Rattle.lib_stage.specs.ServiceSteps.{ServiceHolds}
 use Rattle.lib_request.specs.Replies.{reply_place}
@@ -48,7 +47,7 @@ use Rattle.lib_image.proofs.OpeningLaw.{awake_runs}
 use Rattle.lib_image.proofs.ReadingGoes.{count_is, fd_is, loaded_bearing, place_is, reading_bears, stored_bearing}
 use Rattle.lib_image.proofs.ReadingParts.{ReadsOn, asked_in, before_in, before_loads, for_before, for_count, short_goes, short_long, unread_goes, whole_goes}
 use Rattle.lib_image.proofs.ReadingParts.{whole_long}
-use Rattle.lib_image.proofs.ReadingStays.{asks_moved, asks_put, number_put, tells_all_moved, tells_count_moved, tells_number_moved}
+use Rattle.lib_image.proofs.ReadingStays.{asks_moved, asks_put, number_put, tells_all_moved}
 
 module _ (s : KernelState) (n path argv : ℕ) (live : is_live (slot_at s n) ≡ true) (wants : FilePart) where
   abbrev seen : View
@@ -281,16 +280,18 @@ module _ (s : KernelState) (n path argv : ℕ) (live : is_live (slot_at s n) ≡
         own_load_holds s n (service.Spawn path argv) (step.Spawning (spawn.Reading wants (read.ReadingReply id))) live refl stands
         (reading_next wants (read.ReadingReply id)) (reading_falls path argv wants (read.ReadingReply id)) (reply_place id) (λ names a h. reply_gives h)
 
-  -- ---- each
+-- ---- each
 
-  pub reading_holds : (at : ReadStep) → (is_runnable (slot_at s n).status || is_running (slot_at s n).status) ≡ true →
-      place_of (slot_at s n) ≡ spawns_at path argv (spawn.Reading wants at) → ServiceHolds s n (imaging (stage.Reading wants at))
-  reading_holds read.LoadingNumber awake stands = loading_number_holds stands
-  reading_holds (read.StoringNumber number) awake stands = storing_number_holds number stands
-  reading_holds read.StoringCount awake stands = storing_count_holds stands
-  reading_holds read.StoringPlace awake stands = storing_place_holds stands
-  reading_holds read.Identifying awake stands = read_identifying_holds stands
-  reading_holds (read.Asking id) awake stands = read_asking_holds id stands
-  reading_holds (read.Pausing id) awake stands = read_pausing_holds id stands
-  reading_holds (read.Awaiting id) awake stands = read_awaiting_holds id stands
-  reading_holds (read.ReadingReply id) awake stands = reading_reply_holds id awake stands
+module _ (s : KernelState) (n path argv : ℕ) (live : is_live (slot_at s n) ≡ true)
+    (awake : (is_runnable (slot_at s n).status || is_running (slot_at s n).status) ≡ true) where
+  pub reading_holds : (wants : FilePart) (at : ReadStep) → place_of (slot_at s n) ≡ spawns_at path argv (spawn.Reading wants at) →
+      ServiceHolds s n (imaging (stage.Reading wants at))
+  reading_holds wants read.LoadingNumber stands = loading_number_holds s n path argv live wants stands
+  reading_holds wants (read.StoringNumber number) stands = storing_number_holds s n path argv live wants number stands
+  reading_holds wants read.StoringCount stands = storing_count_holds s n path argv live wants stands
+  reading_holds wants read.StoringPlace stands = storing_place_holds s n path argv live wants stands
+  reading_holds wants read.Identifying stands = read_identifying_holds s n path argv live wants stands
+  reading_holds wants (read.Asking id) stands = read_asking_holds s n path argv live wants id stands
+  reading_holds wants (read.Pausing id) stands = read_pausing_holds s n path argv live wants id stands
+  reading_holds wants (read.Awaiting id) stands = read_awaiting_holds s n path argv live wants id stands
+  reading_holds wants (read.ReadingReply id) stands = reading_reply_holds s n path argv live wants id awake stands

@@ -1,6 +1,6 @@
 -- What spawn has asked for as it reads a part of its file, and where it goes on behind the reply: where the part has come whole, it tests it or puts it into its child; and else it
 -- drops its file, or gives back its child.
-use Rattle.std.proofs.Common.{◌≡◌, ◌≢◌, ◌∙◌, inl, ◌+◌, ◌-◌, ◌*◌, ◌%◌, ◌^◌, ◌<◌, ◌≤◌, ◌==◌, ◌||◌, ◌++◌, ℕ, Bool, true, false, not, List, [], ◌∷◌, length, Option}
+use Rattle.std.proofs.Common.{◌≡◌, ◌≢◌, ◌∙◌, inl, ◌+◌, ◌-◌, ◌*◌, ◌%◌, ◌<◌, ◌≤◌, ◌==◌, ◌||◌, ◌++◌, ℕ, Bool, true, false, List, [], ◌∷◌, length, Option}
 use Rattle.std.proofs.Common.{None, Some, append-nil, append_assoc, refl, sym, ap, subst, arith, if◌then◌else◌}
 use Rattle.std.specs.Prelude.{min, nat_le, nat_lt, slice_index, take}
 use Rattle.std.proofs.Math.Nat.{min-eq_left}
@@ -10,7 +10,6 @@ use Rattle.jos_base.specs.declared.numbers.TheConstants.{NENV, SEGMENT_MAX, UTEM
 use Rattle.jos_base.specs.Environments.{Slot}
 use Rattle.jos_base.specs.Words.{negated, page_number}
 use Rattle.jos_elf.specs.declared.numbers.TheConstants.{E_NOT_EXEC, EHDR_LEN, PHDR_LEN}
-use Rattle.jos_elf.specs.Headers.{entry_count_of}
 use Rattle.jos_elf.specs.Tests.{first_failed, header_tests, table_tests}
 use Rattle.jos_elf.proofs.Tests.{table-none}
 use Rattle.lib_os.specs.declared.numbers.TheConstants.{TRANSFER_MAX}
@@ -30,7 +29,7 @@ use Rattle.lib_os.specs.FileServer.{is_count}
 use Rattle.lib_os.specs.LibraryPages.{View}
 use Rattle.lib_os.specs.Rows.{AreBytes}
 use Rattle.lib_os.specs.SpawnedChild.{Loads, bytes_replied, is_closed, is_loading, spawning_child}
-use Rattle.lib_os.specs.StandsAtSpawn.{Found, GivenHas, HasHeaders, HasPieces, IsBefore, IsFor, IsIn, IsNextPiece, PageHas, StandsAtSpawn, and_last, before_header}
+use Rattle.lib_os.specs.StandsAtSpawn.{Found, GivenHas, HasHeaders, HasPieces, IsBefore, IsFor, IsIn, PageHas, StandsAtSpawn, and_last, before_header}
 use Rattle.lib_os.specs.StandsAtSpawn.{before_piece, before_table, for_header, for_piece, for_table, header_unread, is_error, is_short, no_header, no_table, none_yet}
 use Rattle.lib_os.specs.StandsAtSpawn.{piece_start, pieces_behind, table_unread}
 use Rattle.lib_os.proofs.Serving.{holds_page}
@@ -38,9 +37,8 @@ use Rattle.lib_os.proofs.SpawnedTurns.{KeepsBearing, LoadsOn, bears_none, bears_
 use Rattle.lib_os.proofs.SpawnOwnPages.{spawn_words, spawns_at}
 use Rattle.lib_os.proofs.SpawnReplies.{next_piece}
 use Rattle.lib_os.proofs.SpawnRequests.{found_before}
-use Rattle.lib_image.specs.ReadingStages.{is_whole, not_read, once_read, read_by, wanted}
+use Rattle.lib_image.specs.ReadingStages.{is_whole, not_read, once_read, wanted}
 use Rattle.lib_image.specs.SpawnNexts.{no_image}
-use Rattle.lib_image.specs.TestingStages.{segments_from, words_from}
 use Rattle.lib_image.proofs.OpeningStays.{in_moved}
 
 -- ---- what it asks for
@@ -62,18 +60,18 @@ module _ {v : View} {k : Slot} {b : Born} {path argv : ℕ} where
   for_before c (before_piece fd headers child header done end place so next at) is =
       for_piece fd headers child header done end place so.image so.had is so.of_file so.whole so.below so.left so.come next so.sized
 
-  -- it has asked at this stage
-  pub asked_in : (stage : Stage) (found : Spawning) (words : List ℕ) → IsIn k b path argv stage →
-      IsIn (record k { extra = words }) (record b { phase = in_service (service.Spawn path argv) asked; spawning = Some found }) path argv asked
-  asked_in stage found words h = record {
-    regs = h.regs;
-    program = h.program;
-    eax = h.eax;
-    registers = h.registers;
-    phase = refl;
-    silent = h.silent;
-    awake = h.awake;
-  }
+-- it has asked at this stage
+pub asked_in : {k : Slot} {b : Born} {path argv : ℕ} (stage : Stage) (found : Spawning) (words : List ℕ) → IsIn k b path argv stage →
+    IsIn (record k { extra = words }) (record b { phase = in_service (service.Spawn path argv) asked; spawning = Some found }) path argv asked
+asked_in stage found words h = record {
+  regs = h.regs;
+  program = h.program;
+  eax = h.eax;
+  registers = h.registers;
+  phase = refl;
+  silent = h.silent;
+  awake = h.awake;
+}
 
 -- ---- the pieces that have come
 
@@ -83,35 +81,37 @@ all_end [] bytes = append-nil (bytes ++ []) ∙ append-nil bytes
 all_end (piece ∷ rest) bytes =
     append_assoc piece (all_of (rest ++ bytes ∷ [])) [] ∙ ap (λ (l : List ℕ). piece ++ l) (all_end rest bytes) ∙ sym (append_assoc piece (all_of rest) bytes)
 
-module _ {slot : ℕ} {image : ImageRead} {file : List ℕ} (fd of_slot : ℕ) (of_image : ImageRead) where
-  -- the bytes that came last are one piece more
-  loads_last : {o : Option Spawning} {more : List ℕ} {pieces : List (List ℕ)} → Loads slot image o more file → o ≡ Some (loading fd of_image of_slot pieces) →
-      Loads slot image (Some (loading fd of_image of_slot (pieces ++ more ∷ []))) [] file
-  loads_last {pieces = pieces} (is_loading had_fd had more) same =
-      let image_is : image ≡ of_image = cc in
-      let slot_is : slot ≡ of_slot = cc in
-      let had_is : had ≡ pieces = cc in
-      subst (λ (l : List ℕ). Loads slot image (Some (loading fd of_image of_slot (pieces ++ more ∷ []))) [] l)
-      (all_end pieces more ∙ ap (λ (l : List (List ℕ)). all_of l ++ more) (sym had_is))
-      (subst (λ (o : Option Spawning). Loads slot image o [] (all_of (pieces ++ more ∷ []) ++ []))
-      (λ i. Some (loading fd (image_is i) (slot_is i) (pieces ++ more ∷ []))) (is_loading fd (pieces ++ more ∷ []) []))
-  loads_last (is_closed had more) same = absurd cc
+-- the bytes that came last are one piece more
+loads_last : (fd of_slot : ℕ) (of_image : ImageRead) {slot : ℕ} {image : ImageRead} {o : Option Spawning} {more file : List ℕ} {pieces : List (List ℕ)} →
+    Loads slot image o more file → o ≡ Some (loading fd of_image of_slot pieces) →
+    Loads slot image (Some (loading fd of_image of_slot (pieces ++ more ∷ []))) [] file
+loads_last fd of_slot of_image {slot = slot} {image = image} {pieces = pieces} (is_loading had_fd had more) same =
+    let image_is : image ≡ of_image = cc in
+    let slot_is : slot ≡ of_slot = cc in
+    let had_is : had ≡ pieces = cc in
+    subst (λ (l : List ℕ). Loads slot image (Some (loading fd of_image of_slot (pieces ++ more ∷ []))) [] l)
+    (all_end pieces more ∙ ap (λ (l : List (List ℕ)). all_of l ++ more) (sym had_is))
+    (subst (λ (o : Option Spawning). Loads slot image o [] (all_of (pieces ++ more ∷ []) ++ []))
+    (λ i. Some (loading fd (image_is i) (slot_is i) (pieces ++ more ∷ []))) (is_loading fd (pieces ++ more ∷ []) []))
+loads_last fd of_slot of_image {slot = slot} {image = image} {pieces = pieces} (is_closed had more) same = absurd cc
 
-  pieces_on : {path argv : ℕ} {pieces had : List (List ℕ)} {stage : Stage} → HasPieces of_image pieces had stage →
-      Loads slot image (Some (loading fd of_image of_slot pieces)) (bytes_replied (in_service (service.Spawn path argv) stage)) file →
-      Loads slot image (Some (loading fd of_image of_slot had)) [] file
-  pieces_on none_yet loads = loads
-  pieces_on (and_last bytes answer piece rest next long come) loads = loads_last loads refl
+pieces_on : (path argv fd of_slot : ℕ) (of_image : ImageRead) {slot : ℕ} {image : ImageRead} {file : List ℕ} {pieces had : List (List ℕ)} {stage : Stage} →
+    HasPieces of_image pieces had stage →
+    Loads slot image (Some (loading fd of_image of_slot pieces)) (bytes_replied (in_service (service.Spawn path argv) stage)) file →
+    Loads slot image (Some (loading fd of_image of_slot had)) [] file
+pieces_on path argv fd of_slot of_image none_yet loads = loads
+pieces_on path argv fd of_slot of_image (and_last bytes answer piece rest next long come) loads = loads_last fd of_slot of_image loads refl
 
 -- where it bears a child, it goes on loading the same image
 pub before_loads : {v : View} {k : Slot} {b : Born} {path argv : ℕ} {wants : FilePart} {fd count place : ℕ} (at : ReadStep) →
     (before : IsBefore v k b path argv wants fd count place) → (id : ℕ) → spawning_child (spawn.Reading wants at) ≡ Some id →
     LoadsOn b (Some (found_before before)) (in_service (service.Spawn path argv) asked)
-before_loads at (before_header esp fd size so sized long) id is = absurd (none-some id is)
-before_loads at (before_table esp fd size entry_point headers place words header answer found sized stack begins many from few inside long passed come) id is =
+before_loads {b = b} {path = path} {argv = argv} at (before_header esp fd size so sized long) id is = absurd (none-some id is)
+before_loads {b = b} {path = path} {argv = argv} at
+    (before_table esp fd size entry_point headers place words header answer found sized stack begins many from few inside long passed come) id is =
     absurd (none-some id is)
-before_loads {b = b} {path = path} {argv = argv} at (before_piece fd headers child header done end place so next from) id is slot image file loads =
-    pieces_on fd (child % NENV) so.image {path = path} {argv = argv} so.has
+before_loads {b = b} {path = path} {argv = argv} at (before_piece fd headers child header done end place so next from) id is =
+    λ slot image file loads. pieces_on path argv fd (child % NENV) so.image so.has
     (subst (λ (o : Option Spawning). Loads slot image o (bytes_replied (in_service (service.Spawn path argv) so.stage)) file) so.found.is
     (subst (λ (p : Phase). Loads slot image b.spawning (bytes_replied p) file) so.found.is_in.phase loads))
 

@@ -24,11 +24,12 @@ use Rattle.lib_os.proofs.Serving.{words_of_none}
 use Rattle.lib_os.proofs.SlotsStand.{born_at, born_live}
 
 -- one that is not born has a page of its own with the frame of an entry, which counts
-pub record CountsForChild (s : KernelState) (a : AbstractState) (y : Entry) : Type 0 where
+pub record CountsForChild (s : KernelState) (a : AbstractState) (bearer : ℕ) (y : Entry) : Type 0 where
   pub child : ℕ
   pub id : ℕ
   pub parent : ℕ
   pub unborn_is : a.slots child ≡ unborn id parent
+  pub borne : parent % NENV ≡ bearer
   pub not_first : 0 ≢ child
   pub live : is_live (slot_at s child) ≡ true
   pub page : ℕ
@@ -64,7 +65,7 @@ module _ {names : Names} {s : KernelState} {a : AbstractState} (h : StandsFor na
     guest : place_of (slot_at s c) ≡ place.Guest
     guest = words_of_none (slot_at s c).registers (slot_at s c).extra own.stack own.words
 
-    by_way : IsBorneBy names s.spaces (slot_at s m) (a.slots m) (slot_at s c) id b.id → CountsForChild s a y
+    by_way : IsBorneBy names s.spaces (slot_at s m) (a.slots m) (slot_at s c) id b.id → CountsForChild s a m y
     by_way (by_fork w) =
         let contradiction : place.InService (service.Spawn path argv) (step.Spawning at_step) ≡ place.InService service.Fork w.step = sym there ∙ w.at in
         absurd cc
@@ -76,6 +77,7 @@ module _ {names : Names} {s : KernelState} {a : AbstractState} (h : StandsFor na
           id = id;
           parent = b.id;
           unborn_is = child_is;
+          borne = named;
           not_first = other;
           live = lives;
           page = here.place;
@@ -86,21 +88,21 @@ module _ {names : Names} {s : KernelState} {a : AbstractState} (h : StandsFor na
           frame = sym here.same ∙ ap (λ (e : Entry). e.frame) (same_Some here.here y (sym here.here_is ∙ is));
         }
 
-    of_child : CountsForChild s a y
+    of_child : CountsForChild s a m y
     of_child =
         by_way
         (subst (λ (p : ℕ). IsBorneBy names s.spaces (slot_at s p) (a.slots p) (slot_at s c) id b.id) named (h.children.borne c id b.id child_is))
 
-  pub childs_page : is_childs_page (place_of (slot_at s m)) q ≡ true → CountsForChild s a y
+  pub childs_page : is_childs_page (place_of (slot_at s m)) q ≡ true → CountsForChild s a m y
   childs_page childs = by_place (place_of (slot_at s m)) refl childs
     where
       by_child : (path argv : ℕ) (at_step : SpawnStep) → place_of (slot_at s m) ≡ place.InService (service.Spawn path argv) (step.Spawning at_step) →
-          is_childs at_step q ≡ true → (o : Option ℕ) → spawning_child at_step ≡ o → CountsForChild s a y
+          is_childs at_step q ≡ true → (o : Option ℕ) → spawning_child at_step ≡ o → CountsForChild s a m y
       by_child path argv at_step there childs None none = absurd (false≢true (sym (unborne_childs at_step none q) ∙ childs))
       by_child path argv at_step there childs (Some id) bears =
           of_child path argv at_step there childs id (h.children.have m id b at (ap borne_in there ∙ bears))
 
-      by_place : (p : Place) → place_of (slot_at s m) ≡ p → is_childs_page p q ≡ true → CountsForChild s a y
+      by_place : (p : Place) → place_of (slot_at s m) ≡ p → is_childs_page p q ≡ true → CountsForChild s a m y
       by_place (place.InService (service.Spawn path argv) (step.Spawning at_step)) there childs =
           by_child path argv at_step there childs (spawning_child at_step) refl
       by_place _ there childs = absurd (false≢true childs)

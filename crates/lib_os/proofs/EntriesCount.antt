@@ -31,6 +31,13 @@ use Rattle.lib_os.proofs.ChildsPages.{childs_page}
 use Rattle.lib_os.proofs.KeptPages.{childs_kept}
 use Rattle.std.specs.Prelude.{List}
 
+-- The slot is that of a child that is not born, and the space that of its parent.
+pub record IsOfBearer (s : KernelState) (a : AbstractState) (slot d : ℕ) : Type 0 where
+  pub id : ℕ
+  pub parent : ℕ
+  pub unborn_is : a.slots slot ≡ unborn id parent
+  pub parents : (slot_at s (parent % NENV)).directory ≡ d
+
 -- A slot, a page of it that counts, and where that is not the page itself, a copy is mapped over its page, or the slot is that of a child that
 -- is not born.
 pub record Counts (s : KernelState) (a : AbstractState) (d p : ℕ) (x : Entry) : Type 0 where
@@ -38,6 +45,7 @@ pub record Counts (s : KernelState) (a : AbstractState) (d p : ℕ) (x : Entry) 
   pub live : is_live_slot (slot_at s slot) ≡ true
   pub client : is_clients slot (slot_at s slot) ≡ true
   pub home : (n : ℕ) (b : Born) → a.slots n ≡ born b → slot ≡ n → (slot_at s n).directory ≡ d
+  pub owner : ((slot_at s slot).directory ≡ d) ⊎ IsOfBearer s a slot d
   pub page : ℕ
   pub entry : Entry
   pub shared_home : is_shared entry.perm ≡ true → (slot_at s slot).directory ≡ d
@@ -76,6 +84,7 @@ born_counts {names = names} {s = s} {a = a} {b = b} m not_first own p x is mine 
       live = live;
       client = client;
       home = λ n c at same. ap (λ (k : ℕ). (slot_at s k).directory) (sym same);
+      owner = inl refl;
       shared_home = λ shared_entry. refl;
       page = p;
       entry = x;
@@ -102,6 +111,7 @@ born_counts {names = names} {s = s} {a = a} {b = b} m not_first own p x is mine 
           live = live;
           client = client;
           home = λ n c at same. ap (λ (k : ℕ). (slot_at s k).directory) (sym same);
+          owner = inl refl;
           shared_home = λ shared_entry. refl;
           page = page_number found.0;
           entry = twice.here;
@@ -125,6 +135,7 @@ born_counts {names = names} {s = s} {a = a} {b = b} m not_first own p x is mine 
           live = live;
           client = client;
           home = λ n c at same. ap (λ (k : ℕ). (slot_at s k).directory) (sym same);
+          owner = inl refl;
           shared_home = λ shared_entry. refl;
           page = p;
           entry = as_cow x;
@@ -145,6 +156,7 @@ born_counts {names = names} {s = s} {a = a} {b = b} m not_first own p x is mine 
       live = live;
       client = client;
       home = λ n c at same. ap (λ (k : ℕ). (slot_at s k).directory) (sym same);
+      owner = inl refl;
       shared_home = λ shared_entry. refl;
       page = p;
       entry = as_own x;
@@ -197,6 +209,12 @@ born_entry {s = s} {a = a} h m b at p x is = by_child (is_childs_page (place_of 
           live = c.live;
           client = clients_so c.child (slot_at s c.child) c.not_first c.live;
           home = λ n o its same. let contradiction : born o ≡ unborn c.id c.parent = sym its ∙ ap a.slots (sym same) ∙ c.unborn_is in absurd cc;
+          owner = inr (record {
+            id = c.id;
+            parent = c.parent;
+            unborn_is = c.unborn_is;
+            parents = ap (λ (j : ℕ). (slot_at s j).directory) c.borne;
+          });
           shared_home = λ shared_entry. absurd (let contradiction : false ≡ true = sym c.own_page ∙ shared_entry in cc);
           page = c.page;
           entry = c.entry;
@@ -230,6 +248,7 @@ entry_counts {names = names} {s = s} {a = a} h d p x other is = by_entry (s.spac
           live = live;
           client = client;
           home = λ n c at same. ap (λ (k : ℕ). (slot_at s k).directory) (sym same) ∙ home;
+          owner = inl home;
           shared_home = λ shared_entry. home;
           page = p;
           entry = x;

@@ -202,7 +202,6 @@ pub mod SpawnOwnPages
 pub mod SpawnTakesPages
 pub mod SpawnPagesTaken
 pub mod SpawnGathers
-pub mod SpawnedTurns
 pub mod SpawnAsks
 pub mod SpawnAwaits
 pub mod SpawnGivesBack
@@ -225,7 +224,10 @@ pub mod ChildPlaced
 pub mod SpawnHandsOn
 pub mod SpawnedImage
 pub mod SpawnBegun
+pub mod HereMoves
 pub mod BornOn
 pub mod SpawnBirths
+pub mod SpawnedTurns
 pub mod SpawnGivesStack
-pub mod HereMoves
+pub mod HereStores
+pub mod RegistersSet

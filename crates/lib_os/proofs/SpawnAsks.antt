@@ -8,7 +8,6 @@ use Rattle.jos_base.specs.declared.environment.Status.TheVariants.{Runnable}
 use Rattle.jos_base.specs.declared.numbers.TheConstants.{E_IPC_NOT_RECV, E_NO_MEM, FIRST_ENV_ID, UTEMP}
 use Rattle.jos_base.specs.Environments.{Slot}
 use Rattle.jos_base.specs.KernelState.{KernelState, slot_at, with_extra, with_refusal, with_status}
-use Rattle.jos_base.specs.Reach.{Entry}
 use Rattle.jos_base.specs.SpacesState.{SpacesState}
 use Rattle.jos_base.specs.Words.{negated, page_number}
 use Rattle.lib_os.specs.declared.numbers.TheConstants.{SERVICE_SPAWN, SHORT_QUANTUM}
@@ -18,14 +17,14 @@ use Rattle.lib_os.specs.declared.service.Service.TheVariants as service
 use Rattle.lib_os.specs.declared.spawn_steps.SpawnStep.{SpawnStep}
 use Rattle.lib_os.specs.AbstractRun.{may_wait, phase_may_wait, pipe_at, pipe_may_wait, slot_may_wait}
 use Rattle.lib_os.specs.AbstractSpawn.{with_spawning}
-use Rattle.lib_os.specs.AbstractState.{AbstractSlot, AbstractState, Born, Phase, Request, Spawning, Stage, asked, born, in_service, is_idle, with_born}
+use Rattle.lib_os.specs.AbstractState.{AbstractSlot, AbstractState, Born, Phase, Spawning, Stage, asked, born, in_service, is_idle, with_born}
 use Rattle.lib_os.specs.Answers.{at_stage}
 use Rattle.lib_os.specs.DescriptorPages.{lasting_words}
 use Rattle.lib_os.specs.InOrder.{IsInOrder}
 use Rattle.lib_os.specs.LibraryPages.{View}
 use Rattle.lib_os.specs.LibrarySteps.{AbstractFollows, KeepsServer, KeepsStanding, LeavesOrAsks, NothingRefused, left_alone, request_perm, spawn_asked, spawn_asks_by}
 use Rattle.lib_os.specs.Places.{place_of}
-use Rattle.lib_os.specs.Rows.{Names, descriptor_page, logical}
+use Rattle.lib_os.specs.Rows.{Names, descriptor_page}
 use Rattle.lib_os.specs.SpawnedChild.{spawning_child}
 use Rattle.lib_os.specs.StandsAtSpawn.{StandsAtSpawn}
 use Rattle.lib_os.specs.StandsFor.{StandsFor, borne_in, view_of}
@@ -201,8 +200,8 @@ module _ (s : KernelState) (n path argv : ℕ) (from pausing awaiting : SpawnSte
     pub spawn_asked_stands : StandsFor names (with_extra (page_asked s sp n word) n (spawn_words awaiting))
         (at_stage (with_request_of a n asks_now.does.request) n (with_spawning b asks_now.found) (service.Spawn path argv) asked)
     spawn_asked_stands =
-        goes.shown names (page_asked s sp n word) (with_request_of a n asks_now.does.request) comes_there (ap (λ (k : Slot). place_of k) kept ∙ stands) b (spawn_there h n path argv from stands).is asks_now.found asked asks_now.loads_on
-        has_asked_there
+        goes.shown names (page_asked s sp n word) (with_request_of a n asks_now.does.request) comes_there
+        (ap (λ (k : Slot). place_of k) kept ∙ stands) b (spawn_there h n path argv from stands).is asks_now.found asked asks_now.loads_on has_asked_there
 
   pub spawn_asked_keeps : IsInOrder mid → (page_ask_call s n word).gives ≡ got (Answered 0) →
       KeepsStanding progress.Visible n s (with_extra mid n (spawn_words awaiting)) []

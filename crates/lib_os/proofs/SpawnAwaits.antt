@@ -1,6 +1,6 @@
 -- Spawn, which has asked the file server, begins to wait for the reply: for its file, whose page is put where that of its descriptor is, or for a part of that, with which
 -- no page comes.
-use Rattle.std.proofs.Common.{◌≡◌, ◌∙◌, ◌+◌, ◌*◌, ◌%◌, ◌==◌, ◌&&◌, ℕ, Bool, true, false, not, List, [], ◌∷◌, Some, None, refl, sym, ap, subst, arith}
+use Rattle.std.proofs.Common.{◌≡◌, ◌∙◌, ◌+◌, ◌*◌, ◌%◌, ◌==◌, ◌&&◌, ℕ, Bool, true, false, not, List, [], ◌∷◌, Some, refl, sym, ap, subst, arith}
 use Rattle.std.proofs.Common.{if◌then◌else◌}
 use Rattle.std.specs.Prelude.{nat_lt}
 use Rattle.jos_base.specs.declared.called.Called.{Called}
@@ -25,7 +25,7 @@ use Rattle.lib_os.specs.declared.spawn_steps.SpawnStep.{SpawnStep}
 use Rattle.lib_os.specs.declared.spawn_steps.SpawnStep.TheVariants as spawn
 use Rattle.lib_os.specs.AbstractRun.{abs_step}
 use Rattle.lib_os.specs.AbstractSpawn.{spawn_step}
-use Rattle.lib_os.specs.AbstractState.{AbstractState, Born, Phase, Spawning, asked, awaiting, heading, in_service, loading, opening, tabling}
+use Rattle.lib_os.specs.AbstractState.{AbstractState, Born, Phase, Spawning, asked, awaiting, heading, in_service, opening, tabling}
 use Rattle.lib_os.specs.FileServer.{await_reply}
 use Rattle.lib_os.specs.LibraryCall.{library_step}
 use Rattle.lib_os.specs.LibraryPages.{View, has_copy}
@@ -34,7 +34,7 @@ use Rattle.lib_os.specs.Places.{place_of}
 use Rattle.lib_os.specs.Rows.{Names, rows_of}
 use Rattle.lib_os.specs.SpawnedChild.{Loads, bytes_replied, spawning_child}
 use Rattle.lib_os.specs.StandsAtSpawn.{IsFor, StandsAtSpawn, awaits_bytes, awaits_file, destination_at, for_header, for_piece, for_table}
-use Rattle.lib_os.specs.StandsFor.{StandsAt, StandsFor, StandsForBorn, borne_in, upcall_at, view_of}
+use Rattle.lib_os.specs.StandsFor.{StandsAt, StandsFor, StandsForBorn, upcall_at, view_of}
 use Rattle.lib_os.specs.UserCalls.{CallStep, got, system}
 use Rattle.lib_os.proofs.Calls.{ipc_recv_is, receives_at, waits_is}
 use Rattle.lib_os.proofs.Numbered.{named_at}

@@ -45,7 +45,6 @@ use Rattle.lib_os.proofs.Numbered.{named_at}
 use Rattle.lib_os.proofs.PathGathered.{word_inside}
 use Rattle.lib_os.proofs.PipesStand.{calm_places, descriptors_turned, is_calm}
 use Rattle.lib_os.proofs.Serving.{IsServed, holds_page, library_moved, plain_copy, plain_upcall, plain_working}
-use Rattle.lib_os.proofs.SlotsStand.{born_at}
 use Rattle.lib_os.proofs.SpawnOwnPages.{spawn_there, spawn_words, spawns_at}
 use Rattle.lib_os.proofs.StatesStand.{quiet_stands, slot_changed}
 use Rattle.lib_os.proofs.Touching.{touched_quiet}

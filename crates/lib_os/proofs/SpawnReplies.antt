@@ -178,7 +178,7 @@ none_long (byte ∷ rest) none = absurd (omega (arith, none))
 abbrev pub spawn_replied_born : Born → ℕ → ℕ → List ℕ → ℕ → Born
 spawn_replied_born b path argv bytes answer = record b { phase = in_service (service.Spawn path argv) (replied bytes answer); blocked = false }
 
-for_again : {v : View} {b : Born} (after : Born) → after.spawning ≡ b.spawning → (wanted : FilePart) (count : ℕ) → IsFor v b wanted count →
+pub for_again : {v : View} {b : Born} (after : Born) → after.spawning ≡ b.spawning → (wanted : FilePart) (count : ℕ) → IsFor v b wanted count →
     IsFor v after wanted count
 for_again after same _ _ (for_header esp fd size words found sized stack long) = for_header esp fd size words (same ∙ found) sized stack long
 for_again after same _ _ (for_table esp fd size entry_point headers place words header found sized stack begins many few) =

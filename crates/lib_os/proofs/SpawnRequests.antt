@@ -99,10 +99,9 @@ behind_one zero (x ∷ pieces) piece rest is = ap behind_first is
     behind_first : List Piece → List Piece
     behind_first [] = []
     behind_first (y ∷ more) = more
-behind_one (suc n) (x ∷ pieces) piece rest is =
-    let next : suc n + 1 ≡ suc (n + 1) = omega arith in ap (λ (m : ℕ). drop m (x ∷ pieces)) next ∙ behind_one n pieces piece rest is
+behind_one (suc n) (x ∷ pieces) piece rest is = behind_one n pieces piece rest is
 
-left_behind : (n m : ℕ) (pieces : List Piece) (piece : Piece) (rest : List Piece) → m ≡ n + 1 → drop n pieces ≡ piece ∷ rest → drop m pieces ≡ rest
+pub left_behind : (n m : ℕ) (pieces : List Piece) (piece : Piece) (rest : List Piece) → m ≡ n + 1 → drop n pieces ≡ piece ∷ rest → drop m pieces ≡ rest
 left_behind n m pieces piece rest more is =
     let one : m ≡ suc n = omega (arith, more) in ap (λ (j : ℕ). drop j pieces) one ∙ behind_one n pieces piece rest is
 
@@ -192,7 +191,7 @@ module _ (c : AbstractState) (n : ℕ) (b : Born) (k : Slot) (v : View) (path ar
 -- ---- where it stands
 
 -- where it reads its file no page of its own is the child's
-pub reading_apart : (wanted : FilePart) (at : ReadStep) (p : ℕ) → is_childs (spawn.Reading wanted at) p ≡ false
+reading_apart : (wanted : FilePart) (at : ReadStep) (p : ℕ) → is_childs (spawn.Reading wanted at) p ≡ false
 reading_apart wanted at p = none_of (p == page_number SPAWN_HERE) (p == page_number SPAWN_STACK)
   where
     none_of : (t u : Bool) → (t && false) || (u && false) ≡ false
