@@ -198,6 +198,7 @@ pub mod PipeOwners
 pub mod PipeFalls
 pub mod UnseenMoved
 pub mod PagesPut
+pub mod SpawnKeeps
 pub mod SpawnOwnPages
 pub mod SpawnTakesPages
 pub mod SpawnPagesTaken
