@@ -1,5 +1,5 @@
 -- The law of spawn as it loads a word of a program header while it sets the rights of its child's pages: by that word it goes on to another of its steps.
-use Rattle.std.proofs.Common.{◌≡◌, ◌∙◌, ◌+◌, ◌*◌, ◌%◌, ◌<◌, ◌≤◌, inl, ℕ, Bool, true, false, Some, refl, sym, subst, arith, if◌then◌else◌}
+use Rattle.std.proofs.Common.{◌≡◌, ◌+◌, ◌*◌, ◌%◌, ◌<◌, ◌≤◌, inl, ℕ, Bool, true, false, refl, sym, subst, arith, if◌then◌else◌}
 use Rattle.std.specs.Prelude.{slice_index}
 use Rattle.jos_base.specs.declared.numbers.TheConstants.{PGSIZE, SEGMENT_MAX}
 use Rattle.jos_base.specs.Environments.{Slot, is_live}
@@ -22,7 +22,7 @@ use Rattle.lib_os.specs.StandsFor.{StandsFor, view_of}
 use Rattle.lib_os.specs.UserCalls.{answer_of, load}
 use Rattle.lib_os.proofs.SpawnOwnPages.{keeps_own, own_word_loaded, spawn_there, spawns_at}
 use Rattle.lib_stage.specs.declared.ask.Next.{Next}
-use Rattle.lib_stage.specs.ServiceSteps.{Plan, ServiceHolds}
+use Rattle.lib_stage.specs.ServiceSteps.{ServiceHolds}
 use Rattle.lib_stage.proofs.Laws.{Falls, FallsOrAsks}
 use Rattle.lib_image.specs.SpawnNexts.{goes_on}
 use Rattle.lib_image.specs.TestingStages.{segment_asked}
