@@ -117,10 +117,10 @@ module _ (s : KernelState) (n path argv : ℕ) (live : is_live (slot_at s n) ≡
     abbrev b : Born
     b = (spawn_there h n path argv from stands).b
 
-    stands_so : BearingStands (view_of s.spaces home) (slot_at s n) b path argv at
+    abbrev stands_so : BearingStands (view_of s.spaces home) (slot_at s n) b path argv at
     stands_so = (spawn_there h n path argv from stands).at
 
-    so : IsPuttingAt (view_of s.spaces home) (slot_at s n) b path argv fd headers child header va done end
+    abbrev so : IsPuttingAt (view_of s.spaces home) (slot_at s n) b path argv fd headers child header va done end
     so = stands_so.0
 
     u : IsSpawner names s a n path argv from child b
@@ -279,7 +279,7 @@ module _ (s : KernelState) (n path argv : ℕ) (live : is_live (slot_at s n) ≡
           let same : (done + m) % 2 ^ 32 ≡ done + m = omega (arith, few, within, low) in
           ap (λ (q : ℕ). next.GoOn (step.Spawning (put_behind fd headers child header va q end))) same
 
-      pub stored_so : IsStoredSo s n (service.Spawn path argv) a (next_of at) call
+      stored_so : IsStoredSo s n (service.Spawn path argv) a (next_of at) call
       stored_so = record {
         spaces = puts.spaces;
         step_is = puts.step_is;

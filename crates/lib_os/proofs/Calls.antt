@@ -125,7 +125,7 @@ module _ (s : KernelState) (n : ℕ) where
   unfolding records_of record_words
   records_alike q = λ i m. if nat_lt m NENV then slots_alike s n record_words (record (slot_at s n) { registers = q }) refl m i else []
 
-  bytes_alike : (q : Regs) (va len : ℕ) → user_bytes (with_registers s n q) n va len ≡ user_bytes s n va len
+  pub bytes_alike : (q : Regs) (va len : ℕ) → user_bytes (with_registers s n q) n va len ≡ user_bytes s n va len
   bytes_alike q va len = λ i. bytes_read (read_byte (records_alike q i) s.spaces (caller_is q i).directory) va len
 
   -- a caller that is gone has no registers

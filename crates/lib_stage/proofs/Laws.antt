@@ -272,7 +272,7 @@ kept_behind : (s : KernelState) (n : ℕ) (a : Ask) → is_calm a ≡ true → K
 unfolding performed
 kept_behind s n (ask.System number args) calm copies server =
     let both = neither (wakes number) (sets_others number) calm in
-    behind s n number args both.0 (λ before after live. system_stay s n number args both.1) copies server
+    behind s n number args both.0 (λ before after live a h. system_stay s n number args both.1) copies server
 kept_behind s n ask.Exofork calm copies server = plain_behind s n ask.Exofork refl
 kept_behind s n (ask.Load va) calm copies server = plain_behind s n (ask.Load va) refl
 kept_behind s n (ask.LoadByte va) calm copies server = plain_behind s n (ask.LoadByte va) refl
