@@ -318,7 +318,7 @@ module _ (s : KernelState) (n id : ℕ) (stands : place_of (slot_at s n) ≡ pla
   pub asking_behind : Behind s n mid
   asking_behind =
       behind s n SYS_IPC_TRY_SEND (FIRST_ENV_ID ∷ FSREQ_SYNC ∷ UTOP ∷ 0 ∷ 0 ∷ []) refl
-      (λ before after live. system_stay s n SYS_IPC_TRY_SEND (FIRST_ENV_ID ∷ FSREQ_SYNC ∷ UTOP ∷ 0 ∷ 0 ∷ []) refl) asking_copies asking_server
+      (λ before after live a h. system_stay s n SYS_IPC_TRY_SEND (FIRST_ENV_ID ∷ FSREQ_SYNC ∷ UTOP ∷ 0 ∷ 0 ∷ []) refl) asking_copies asking_server
 
   -- with the words that tell how far it is
   pub asking_leaves : (words : List ℕ) (done : Progress) → Leaves (Ok done) n s (with_extra mid n words)
