@@ -221,7 +221,7 @@ others_stay s after n h = record {
 pub guest_leaves : (s after : KernelState) (n : ℕ) (done : Progress) → after ≡ (guest_instruction s n).state → Leaves (Ok done) n s after
 guest_leaves s after n done is =
     let h = subst (λ (t : KernelState). GuestLeaves s n t) (sym is) (instruction_left s n) in
-    let others : KeepsOthers n s after = λ before then_so live. others_stay s after n h in
+    let others : KeepsOthers n s after = λ before then_so live a stands. others_stay s after n h in
     record {
       rest = record { last = h.last; turns = h.turns; frames = h.frames; refused = λ two some. h.refusals; told = λ some. subst (λ (k : ℕ). 0 < k) (sym h.refusals) some };
       turn = λ a stands running silent runs. absurd (

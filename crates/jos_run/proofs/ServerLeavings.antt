@@ -45,10 +45,10 @@ pub record CallLeft (s : KernelState) (n : ℕ) (after : KernelState) : Type 0 w
 
 -- so the places and the numbers of the others are kept
 pub places_left : {s : KernelState} {n : ℕ} {after : KernelState} → CallLeft s n after → KeepsPlaces n s after
-places_left {s = s} {n = n} {after = after} h = places_kept s after n (λ before then_so live. h.others)
+places_left {s = s} {n = n} {after = after} h = places_kept s after n (λ before then_so live a stands. h.others)
 
 pub numbers_left : {s : KernelState} {n : ℕ} {after : KernelState} → CallLeft s n after → KeepsNumbers n s after
-numbers_left {s = s} {n = n} {after = after} h = numbers_kept s after n (λ before then_so live. h.others) h.copies
+numbers_left {s = s} {n = n} {after = after} h = numbers_kept s after n (λ before then_so live a stands. h.others) h.copies
 
 -- its own slot is another behind it
 pub own_left : (s : KernelState) (n : ℕ) (mid : KernelState) (slot : Slot) → CallLeft s n mid → CallLeft s n (with_slot_at mid n slot)

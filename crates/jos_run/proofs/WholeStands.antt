@@ -571,7 +571,7 @@ module _ (d : Disk) (n : ℕ) (s after : KernelState) (other : n ≢ 0) (live : 
       by_slot true test = itself stood (grind (arith, nat_tests))
       by_slot false test =
           let ne : client ≢ n = grind (arith, nat_tests) in
-          let same_place = places h.1.in_order stands.1.in_order live client ne (born_live own) (born_live then_own) in
+          let same_place = places h.1.in_order stands.1.in_order live a h client ne (born_live own) (born_live then_own) in
           by_id (sym then_own.id ∙ sym (id_told stands_so) ∙ ap request_id same_place ∙ id_told stood ∙ own.id)
 
   -- ---- it is asked

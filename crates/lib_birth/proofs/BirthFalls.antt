@@ -1,5 +1,5 @@
 -- Spawn comes to an end behind the bytes of its segments, and where it is refused: each of its hidden steps there lowers the number of those that may still come.
-use Rattle.std.proofs.Common.{◌≡◌, ◌≢◌, ◌⊎◌, inl, ◌<◌, ◌≤◌, ◌+◌, ◌-◌, ◌*◌, ◌/◌, ◌%◌, ◌^◌, ◌==◌, ◌&&◌, ◌||◌, ℕ, Bool, true, false, not, nat_le, refl, arith, if◌then◌else◌}
+use Rattle.std.proofs.Common.{◌≡◌, ◌≢◌, ◌<◌, ◌≤◌, ◌+◌, ◌-◌, ◌*◌, ◌/◌, ◌%◌, ◌==◌, ◌&&◌, ℕ, Bool, true, false, not, refl, arith, if◌then◌else◌}
 use Rattle.std.specs.Prelude.{bit_and, nat_lt}
 use Rattle.std.proofs.lemmas.Bool.{eqb-false, eqb-true}
 use Rattle.std.proofs.lemmas.Bool.Decides.{nat_tests}
@@ -10,28 +10,24 @@ use Rattle.jos_base.specs.Counting.{page_limit}
 use Rattle.jos_base.specs.Words.{page_number}
 use Rattle.jos_elf.specs.declared.numbers.TheConstants.{PF_W, PT_LOAD}
 use Rattle.lib_os.specs.declared.numbers.TheConstants.{DESCRIPTORS}
-use Rattle.lib_os.specs.declared.place.Step.{Step}
 use Rattle.lib_os.specs.declared.place.Step.TheVariants as step
 use Rattle.lib_os.specs.declared.service.Service.TheVariants as service
-use Rattle.lib_os.specs.declared.spawn_steps.FinishingStep.{FinishingStep}
 use Rattle.lib_os.specs.declared.spawn_steps.FinishingStep.TheVariants as finishing
 use Rattle.lib_os.specs.declared.spawn_steps.SpawnStep.{SpawnStep}
 use Rattle.lib_os.specs.declared.spawn_steps.SpawnStep.TheVariants as spawn
 use Rattle.lib_os.specs.declared.spawn_steps.UndoingStep.{UndoingStep}
 use Rattle.lib_os.specs.declared.spawn_steps.UndoingStep.TheVariants as undoing
-use Rattle.lib_os.specs.LibraryPages.{region_index}
 use Rattle.lib_os.specs.LibrarySteps.{finishing_steps_left, rights_left, steps_left}
 use Rattle.lib_os.specs.Rows.{is_shared}
 use Rattle.lib_stage.specs.declared.ask.Next.{Next}
-use Rattle.lib_stage.specs.declared.ask.Next.TheVariants as next
 use Rattle.lib_stage.proofs.Laws.{Falls, most_left}
 use Rattle.lib_fd.specs.DescriptorStages.{is_there}
 use Rattle.lib_fork.specs.ForkStages.{first_page, region_of}
 use Rattle.lib_image.specs.SpawnNexts.{goes_on}
 use Rattle.lib_child.specs.ChildSegments.{last_page, rights_from}
 use Rattle.lib_child.specs.ChildNexts.{unless_refused}
-use Rattle.lib_birth.specs.FinishingStages.{end_without, entry_passed, finishing_next, others_from, page_without, passed_below, region_passed, rights_behind, touches}
-use Rattle.lib_birth.specs.UndoingStages.{closed_next, undoing_next}
+use Rattle.lib_birth.specs.FinishingStages.{finishing_next, others_from, passed_below, rights_behind, touches}
+use Rattle.lib_birth.specs.UndoingStages.{undoing_next}
 
 abbrev pub Spawns : ℕ → ℕ → SpawnStep → Next → Type 0
 Spawns path argv from x = Falls (service.Spawn path argv) (step.Spawning from) x

@@ -1,9 +1,9 @@
 -- The law of spawn, where it is refused, as it destroys its child, and as it drops the descriptor of its file.
-use Rattle.std.proofs.Common.{◌≡◌, ◌∙◌, ◌⊎◌, inl, inr, ◌<◌, ◌%◌, ℕ, Bool, true, false, [], ◌∷◌, refl, sym, ap, subst, arith, if◌then◌else◌}
+use Rattle.std.proofs.Common.{◌≡◌, ◌∙◌, ◌⊎◌, inl, inr, ◌%◌, ℕ, Bool, true, false, [], ◌∷◌, refl, sym, ap, subst, arith, if◌then◌else◌}
 use Rattle.std.specs.Prelude.{nat_lt}
 use Rattle.std.proofs.lemmas.Bool.Decides.{nat_tests}
 use Rattle.jos_base.specs.declared.called.Called.{Called}
-use Rattle.jos_base.specs.declared.called.Called.TheVariants.{Answered, Ended}
+use Rattle.jos_base.specs.declared.called.Called.TheVariants.{Ended}
 use Rattle.jos_base.specs.declared.numbers.TheConstants.{NENV, SYS_ENV_DESTROY, SYS_PAGE_UNMAP}
 use Rattle.jos_base.specs.Environments.{is_live}
 use Rattle.jos_base.specs.KernelState.{KernelState, slot_at, with_extra}
@@ -11,29 +11,25 @@ use Rattle.jos_base.specs.SystemCalls.{without_environment}
 use Rattle.lib_os.specs.declared.numbers.TheConstants.{DESCRIPTORS, SERVICE_SPAWN}
 use Rattle.lib_os.specs.declared.place.Step.TheVariants as step
 use Rattle.lib_os.specs.declared.service.Service.TheVariants as service
-use Rattle.lib_os.specs.declared.spawn_steps.SpawnStep.{SpawnStep}
 use Rattle.lib_os.specs.declared.spawn_steps.SpawnStep.TheVariants as spawn
 use Rattle.lib_os.specs.declared.spawn_steps.UndoingStep.TheVariants as undoing
-use Rattle.lib_os.specs.AbstractState.{AbstractState}
 use Rattle.lib_os.specs.InOrder.{IsInOrder}
 use Rattle.lib_os.specs.LibrarySteps.{GoesOn}
 use Rattle.lib_os.specs.Places.{place_of, words_at}
-use Rattle.lib_os.specs.UserCalls.{CallStep, got, giving, system}
+use Rattle.lib_os.specs.UserCalls.{CallStep, got, system}
 use Rattle.lib_os.proofs.CallersStay.{destroy_answers}
 use Rattle.lib_os.proofs.DescriptorLooks.{descriptor_va}
 use Rattle.lib_os.proofs.DescriptorsStand.{drop_is, drop_lives}
 use Rattle.lib_os.proofs.SpawnCopies.{spawn_destroys_copies}
-use Rattle.lib_os.proofs.SpawnOwnPages.{spawn_words, spawns_at}
+use Rattle.lib_os.proofs.SpawnOwnPages.{spawns_at}
 use Rattle.lib_os.proofs.SpawnUndoes.{closing_keeps, destroying_below, destroying_goes, destroying_is}
 use Rattle.lib_os.proofs.Trying.{IsAnswered}
-use Rattle.lib_stage.specs.declared.ask.Next.TheVariants as next
 use Rattle.lib_stage.specs.Asks.{performed}
 use Rattle.lib_stage.specs.Nexts.{is_gone}
 use Rattle.lib_stage.specs.ServiceSteps.{Plan, ServiceHolds}
-use Rattle.lib_stage.proofs.Laws.{FollowsBy, GoesOn as LivesBy, KeepsBy, knowingly, law_of, law_of_call, plainly, shown_keeps, system_never}
+use Rattle.lib_stage.proofs.Laws.{FollowsBy, GoesOn as LivesBy, KeepsBy, knowingly, law_of, law_of_call, plainly, system_never}
 use Rattle.lib_birth.specs.declared.stage.BirthStage.TheVariants as stage
 use Rattle.lib_birth.specs.BirthStages.{births}
-use Rattle.lib_birth.specs.UndoingStages.{closed_next}
 use Rattle.lib_birth.proofs.BirthFalls.{undoing_falls}
 
 module _ (s : KernelState) (n path argv : ℕ) (live : is_live (slot_at s n) ≡ true) where

@@ -1,16 +1,14 @@
 -- The law of spawn as it hands on a page that it shares to its child.
-use Rattle.std.proofs.Common.{◌≡◌, ◌≢◌, ◌∙◌, ◌==◌, ◌&&◌, ◌||◌, ◌+◌, ◌-◌, ◌*◌, ◌/◌, ◌%◌, ◌<◌, ℕ, Bool, true, false, not, [], ◌∷◌, Option, Some, None, refl, sym, ap, subst, arith, is_some}
+use Rattle.std.proofs.Common.{◌≡◌, ◌≢◌, ◌∙◌, ◌==◌, ◌+◌, ◌-◌, ◌*◌, ◌/◌, ◌%◌, ◌<◌, ℕ, Bool, true, false, not, [], ◌∷◌, Option, Some, None, refl, sym, ap, subst, arith, is_some}
 use Rattle.std.proofs.Common.{if◌then◌else◌}
 use Rattle.std.proofs.lemmas.Bool.{eqb-true, eqb-false}
-use Rattle.std.proofs.lemmas.Bool.Decides.{nat_tests}
 use Rattle.jos_base.specs.declared.called.Called.{Called}
 use Rattle.jos_base.specs.declared.called.Called.TheVariants.{Answered}
-use Rattle.jos_base.specs.declared.numbers.TheConstants.{E_NO_MEM, NENV, NPTENTRIES, PGSIZE, SYS_PAGE_MAP}
+use Rattle.jos_base.specs.declared.numbers.TheConstants.{E_NO_MEM, NENV, NPTENTRIES, SYS_PAGE_MAP}
 use Rattle.jos_base.specs.Environments.{is_live}
 use Rattle.jos_base.specs.KernelState.{KernelState, slot_at, with_extra, with_refusal, with_spaces}
 use Rattle.jos_base.specs.SpacesState.{SpacesState, inserted}
-use Rattle.jos_base.specs.SystemCalls.{is_page_address}
-use Rattle.jos_base.specs.Words.{negated, page_number}
+use Rattle.jos_base.specs.Words.{negated}
 use Rattle.lib_os.specs.declared.place.Step.TheVariants as step
 use Rattle.lib_os.specs.declared.service.Service.TheVariants as service
 use Rattle.lib_os.specs.declared.spawn_steps.FinishingStep.{FinishingStep}
@@ -19,11 +17,11 @@ use Rattle.lib_os.specs.declared.spawn_steps.SpawnStep.{SpawnStep}
 use Rattle.lib_os.specs.declared.spawn_steps.SpawnStep.TheVariants as spawn
 use Rattle.lib_os.specs.AbstractState.{AbstractState}
 use Rattle.lib_os.specs.InOrder.{IsInOrder}
-use Rattle.lib_os.specs.LibrarySteps.{NothingRefused, Stands}
+use Rattle.lib_os.specs.LibrarySteps.{NothingRefused}
 use Rattle.lib_os.specs.Places.{place_of}
 use Rattle.lib_os.specs.Rows.{Names}
 use Rattle.lib_os.specs.SpawnedChild.{passing}
-use Rattle.lib_os.specs.StandsFor.{StandsFor}
+use Rattle.lib_os.specs.StandsFor.{StandsFor, top_page}
 use Rattle.lib_os.specs.UserCalls.{CallStep, answer_of, giving, system}
 use Rattle.lib_os.proofs.Calls.{made_step, refusal_is_seen}
 use Rattle.lib_os.proofs.CallersStay.{map_answers}
@@ -36,20 +34,13 @@ use Rattle.lib_stage.specs.Asks.{performed}
 use Rattle.lib_stage.specs.ServiceSteps.{Plan, ServiceHolds, upshot_by}
 use Rattle.lib_stage.proofs.Laws.{FollowsBy, KeepsBy, knowingly, law_of_call}
 use Rattle.lib_fork.specs.ForkStages.{page_va}
+use Rattle.lib_fork.proofs.Mapping.{passed_address}
 use Rattle.lib_birth.specs.declared.stage.BirthStage.TheVariants as stage
 use Rattle.lib_birth.specs.BirthStages.{births}
 use Rattle.lib_birth.specs.FinishingStages.{passed_below}
 use Rattle.lib_birth.proofs.BirthFalls.{page_falls}
-use Rattle.lib_birth.proofs.PassingSteps.{none_given, top_page}
+use Rattle.lib_birth.proofs.PassingSteps.{none_given}
 use Rattle.lib_birth.proofs.ReadyingSteps.{lives_answered}
-
--- the address of a page that is handed on
-handed_address : (page : ℕ) → page < top_page → (is_page_address (page_va page) ≡ true) × (page_number (page_va page) ≡ page)
-handed_address page lower =
-    let number : page_number (page_va page) ≡ page = omega (arith, lower) in
-    let begins : page_va page % PGSIZE ≡ 0 = omega arith in
-    let same : page_va page ≡ page * PGSIZE = omega (arith, lower) in
-    (grind (arith, nat_tests), number)
 
 module _ (s : KernelState) (n path argv : ℕ) (live : is_live (slot_at s n) ≡ true) (child page perm : ℕ)
     (stands : place_of (slot_at s n) ≡ spawns_at path argv (spawn.Finishing (finishing.PassingPage child page perm))) where
@@ -122,7 +113,7 @@ module _ (s : KernelState) (n path argv : ℕ) (live : is_live (slot_at s n) ≡
 
       call_is : asked ≡ made_step s (inserted s.spaces (slot_at s (child % NENV)).directory page it.at.2.entry)
       call_is =
-          let address = handed_address page it.at.1 in hands_is h.1 n path argv child page perm stands (page_va page) address.0 address.1
+          let address = passed_address page it.at.1 in hands_is h.1 n path argv child page perm stands (page_va page) address.0 address.1
 
       by_spaces : (o : Option SpacesState) → inserted s.spaces (slot_at s (child % NENV)).directory page it.at.2.entry ≡ o → FollowsBy s n plan a asked
       by_spaces None none =

@@ -18,3 +18,4 @@ pub mod HandingSteps
 pub mod RunsStep
 pub mod UndoingLaw
 pub mod GivingStep
+pub mod FinishingLaw

@@ -4,10 +4,9 @@ use Rattle.std.proofs.Common.{is_some, refl, sym, ap, subst, arith, if◌then◌
 use Rattle.std.specs.Prelude.{bit_and}
 use Rattle.std.specs.Option.{option_map}
 use Rattle.std.proofs.lemmas.Bool.{eqb-true, eqb-false, false≢true}
-use Rattle.std.proofs.lemmas.Bool.Decides.{nat_tests}
 use Rattle.std.proofs.lemmas.Nat.{and_assoc}
 use Rattle.jos_base.specs.declared.memory.Access.TheVariants.{Read}
-use Rattle.jos_base.specs.declared.numbers.TheConstants.{NENV, NPTENTRIES, PTE_P, PTE_SYSCALL, USTACKTOP, UVPT}
+use Rattle.jos_base.specs.declared.numbers.TheConstants.{NPTENTRIES, PTE_P, PTE_SYSCALL, UVPT}
 use Rattle.jos_base.specs.Counting.{page_limit}
 use Rattle.jos_base.specs.Environments.{Slot, is_live}
 use Rattle.jos_base.specs.KernelState.{KernelState, slot_at, with_extra}
@@ -24,14 +23,13 @@ use Rattle.lib_os.specs.declared.spawn_steps.SpawnStep.TheVariants as spawn
 use Rattle.lib_os.specs.AbstractSpawn.{under_shared}
 use Rattle.lib_os.specs.AbstractState.{AbstractState, Born, Page}
 use Rattle.lib_os.specs.InOrder.{IsInOrder}
-use Rattle.lib_os.specs.LibraryPages.{region_index}
 use Rattle.lib_os.specs.LibrarySteps.{AbstractFollows}
 use Rattle.lib_os.specs.Places.{place_of}
-use Rattle.lib_os.specs.Rows.{EntryRow, IsUsers, Names, Rows, descriptor_perm, is_of_descriptor, is_programs, is_shared, rows_of}
+use Rattle.lib_os.specs.Rows.{IsUsers, Names, Rows, descriptor_perm, is_of_descriptor, is_programs, is_shared, rows_of}
 use Rattle.lib_os.specs.SpawnedChild.{IsProgress, Progress, passing, spawning_child}
 use Rattle.lib_os.specs.SpawnPages.{is_childs}
-use Rattle.lib_os.specs.StandsAtSpawn.{IsClosed, IsPassing, StandsAtSpawn}
-use Rattle.lib_os.specs.StandsFor.{StandsFor, view_of}
+use Rattle.lib_os.specs.StandsAtSpawn.{IsClosed, StandsAtSpawn}
+use Rattle.lib_os.specs.StandsFor.{StandsFor, top_page, view_of}
 use Rattle.lib_os.specs.UserCalls.{answer_of, load}
 use Rattle.lib_os.proofs.BytesRead.{users_inside}
 use Rattle.lib_os.proofs.EntriesStand.{seen_none, seen_own}
@@ -40,6 +38,7 @@ use Rattle.lib_os.proofs.GoesDown.{descriptors_below, no_row, no_table, programs
 use Rattle.lib_os.proofs.Loading.{loaded}
 use Rattle.lib_os.proofs.Serving.{IsServed, holds_page}
 use Rattle.lib_os.proofs.SpawnedGoes.{IsSpawner, spawner}
+use Rattle.lib_os.proofs.SpawnKeeps.{none_childs}
 use Rattle.lib_os.proofs.SpawnOwnPages.{spawn_there, spawn_words, spawns_at}
 use Rattle.lib_os.proofs.SpawnPasses.{NoneShared, closed_with, none_shared_one, passed_to, spawner_goes}
 use Rattle.lib_os.proofs.StatesStand.{quiet_stands}
@@ -50,25 +49,11 @@ use Rattle.lib_stage.specs.ServiceSteps.{Plan, ServiceHolds}
 use Rattle.lib_stage.proofs.Laws.{law_of_load, plainly}
 use Rattle.lib_fd.specs.DescriptorStages.{is_there}
 use Rattle.lib_fork.specs.ForkStages.{first_page, page_of, region_of}
+use Rattle.lib_fork.proofs.Walking.{descriptor_users}
 use Rattle.lib_birth.specs.declared.stage.BirthStage.TheVariants as stage
 use Rattle.lib_birth.specs.BirthStages.{births}
-use Rattle.lib_birth.specs.FinishingStages.{entry_passed, finishing_next, passed_below, region_passed}
+use Rattle.lib_birth.specs.FinishingStages.{finishing_next, passed_below}
 use Rattle.lib_birth.proofs.BirthFalls.{entry_falls, region_falls}
-
--- ---- numbers
-
-abbrev pub top_page : ℕ
-top_page = page_number USTACKTOP
-
-no_childs : (c d : Bool) → ((c && false) || (d && false)) ≡ false
-no_childs true true = refl
-no_childs true false = refl
-no_childs false true = refl
-no_childs false false = refl
-
--- the bits of a descriptor's page are those of a page that may be read and is not copied
-descriptor_users : IsUsers descriptor_perm
-descriptor_users = record { page = refl; copied = λ cow. absurd (let contradiction : false ≡ true = cow in cc) }
 
 -- ---- where it goes on behind a page
 
@@ -78,7 +63,7 @@ runs_at child = spawn.Finishing (finishing.ChildRuns child)
 -- None of its pages is its child's then.
 pub none_given : (at : FinishingStep) → ((p : ℕ) → is_childs (spawn.Finishing at) p ≡ ((p == page_number SPAWN_HERE) && false) || ((p == page_number SPAWN_STACK) && false)) →
     (p : ℕ) → is_childs (spawn.Finishing at) p ≡ false
-none_given at is p = is p ∙ no_childs (p == page_number SPAWN_HERE) (p == page_number SPAWN_STACK)
+none_given at is p = is p ∙ none_childs (p == page_number SPAWN_HERE) (p == page_number SPAWN_STACK)
 
 module _ {names : Names} {t : KernelState} {a : AbstractState} (h : StandsFor names t a) (n path argv child high : ℕ) (from : SpawnStep)
     (stands : place_of (slot_at t n) ≡ spawns_at path argv from) (bears : spawning_child from ≡ Some child)

@@ -1,6 +1,6 @@
 -- The law of spawn, whose child has its segments, as it gives the child the stack of its handler of page faults, and then the handler; and, when the child has its
 -- own stack, as it drops the descriptor of its file.
-use Rattle.std.proofs.Common.{◌≡◌, ◌⊎◌, inl, inr, ◌%◌, ◌==◌, ◌&&◌, ◌||◌, ℕ, Bool, true, false, List, [], ◌∷◌, refl, sym, ap, subst, arith}
+use Rattle.std.proofs.Common.{◌≡◌, ◌⊎◌, inl, inr, ◌%◌, ◌==◌, ◌&&◌, ℕ, Bool, true, [], ◌∷◌, refl, sym, ap, subst, arith}
 use Rattle.std.proofs.Math.Bool.{or-true}
 use Rattle.jos_base.specs.declared.called.Called.{Called}
 use Rattle.jos_base.specs.declared.numbers.TheConstants.{NENV, SYS_ENV_SET_PGFAULT_UPCALL, SYS_PAGE_ALLOC, SYS_PAGE_UNMAP}
@@ -12,9 +12,7 @@ use Rattle.lib_os.specs.declared.numbers.TheConstants.{PGFAULT_UPCALL, UXSTACK}
 use Rattle.lib_os.specs.declared.place.Step.TheVariants as step
 use Rattle.lib_os.specs.declared.service.Service.TheVariants as service
 use Rattle.lib_os.specs.declared.spawn_steps.FinishingStep.TheVariants as finishing
-use Rattle.lib_os.specs.declared.spawn_steps.SpawnStep.{SpawnStep}
 use Rattle.lib_os.specs.declared.spawn_steps.SpawnStep.TheVariants as spawn
-use Rattle.lib_os.specs.AbstractState.{AbstractState}
 use Rattle.lib_os.specs.InOrder.{IsInOrder}
 use Rattle.lib_os.specs.LibrarySteps.{NothingRefused}
 use Rattle.lib_os.specs.Places.{place_of}

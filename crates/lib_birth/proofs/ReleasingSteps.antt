@@ -1,5 +1,5 @@
 -- The law of spawn as it gives back the page of its child's stack, which is the child's by then, that of the program headers, and that of its requests.
-use Rattle.std.proofs.Common.{◌≡◌, ◌≢◌, ◌∙◌, ◌==◌, ◌&&◌, ◌||◌, ℕ, Bool, true, false, [], ◌∷◌, Some, refl, sym, ap, subst, arith}
+use Rattle.std.proofs.Common.{◌≡◌, ◌≢◌, ◌∙◌, ◌==◌, ◌&&◌, ◌||◌, ℕ, Bool, true, false, [], ◌∷◌, refl, sym, ap, subst, arith}
 use Rattle.std.proofs.lemmas.Bool.{false≢true}
 use Rattle.std.proofs.lemmas.Bool.Decides.{nat_tests}
 use Rattle.std.proofs.lemmas.Option.{same_Some}
@@ -8,7 +8,6 @@ use Rattle.jos_base.specs.declared.numbers.TheConstants.{SYS_PAGE_UNMAP, UTEMP}
 use Rattle.jos_base.specs.Environments.{is_live}
 use Rattle.jos_base.specs.KernelState.{KernelState, slot_at, with_extra, with_spaces}
 use Rattle.jos_base.specs.Reach.{Entry}
-use Rattle.jos_base.specs.SystemCalls.{is_page_address}
 use Rattle.jos_base.specs.Words.{page_number}
 use Rattle.lib_os.specs.declared.numbers.TheConstants.{SPAWN_GIVEN, SPAWN_HERE, SPAWN_STACK}
 use Rattle.lib_os.specs.declared.place.Place.{Place}
@@ -24,12 +23,12 @@ use Rattle.lib_os.specs.LibraryPages.{IsOwnWritable, has_spawns, has_working}
 use Rattle.lib_os.specs.LibrarySteps.{KeepsStanding}
 use Rattle.lib_os.specs.Places.{place_of}
 use Rattle.lib_os.specs.Rows.{is_shared, rows_of}
-use Rattle.lib_os.specs.SpawnPages.{is_childs, keeps_page_at}
 use Rattle.lib_os.specs.StandsAtSpawn.{HasAllBytes}
 use Rattle.lib_os.specs.UserCalls.{CallStep}
 use Rattle.lib_os.proofs.KeptPages.{LiesAside, number_aside}
 use Rattle.lib_os.proofs.PageTaken.{working_no_descriptor, working_outside}
 use Rattle.lib_os.proofs.Removing.{unmapped_removed}
+use Rattle.lib_os.proofs.SpawnKeeps.{none_childs}
 use Rattle.lib_os.proofs.SpawnOwnPages.{spawn_there, spawn_words, spawns_at}
 use Rattle.lib_os.proofs.SpawnPagesTaken.{page_given_is, without_page}
 use Rattle.lib_os.proofs.SpawnReleases.{all_bytes_aside, released_stands}
@@ -51,12 +50,6 @@ stack_alone c true e off = absurd (false≢true (sym off))
 given_alone : (c d e : Bool) → c ≡ false → ((c && true) || (d && false) || (e && false)) ≡ ((c && false) || (d && false) || (e && false))
 given_alone false d e off = refl
 given_alone true d e off = absurd (false≢true (sym off))
-
-none_childs : (c d : Bool) → ((c && false) || (d && false)) ≡ false
-none_childs true true = refl
-none_childs true false = refl
-none_childs false true = refl
-none_childs false false = refl
 
 only_stack : (c d : Bool) → d ≡ false → ((c && false) || (d && true)) ≡ false
 only_stack true false off = refl

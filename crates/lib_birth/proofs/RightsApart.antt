@@ -1,6 +1,6 @@
 -- The segments of an image lie apart, so that another one has a part of the first page of one, and of the last, at most; and which pages are left of it where
 -- one more of those that may be written is looked at.
-use Rattle.std.proofs.Common.{◌≡◌, ◌≢◌, ◌∙◌, ◌⊎◌, inl, inr, ◌+◌, ◌-◌, ◌*◌, ◌/◌, ◌%◌, ◌^◌, ◌<◌, ◌≤◌, ◌==◌, ◌&&◌, ◌||◌, ℕ, zero, suc, Bool, true, false, not}
+use Rattle.std.proofs.Common.{◌≡◌, ◌≢◌, ◌∙◌, ◌⊎◌, inl, inr, ◌+◌, ◌-◌, ◌*◌, ◌/◌, ◌%◌, ◌^◌, ◌<◌, ◌≤◌, ◌==◌, ◌&&◌, ℕ, zero, suc, Bool, true, false, not}
 use Rattle.std.proofs.Common.{[], ◌∷◌, None, refl, sym, ap, subst, arith, if◌then◌else◌}
 use Rattle.std.specs.Prelude.{nat_le, nat_lt}
 use Rattle.std.proofs.lemmas.Bool.{and_parts}
@@ -20,7 +20,7 @@ use Rattle.lib_os.specs.AbstractState.{ImageRead}
 use Rattle.lib_os.specs.LibraryPages.{View}
 use Rattle.lib_os.specs.StandsAtSpawn.{HasImage}
 use Rattle.lib_child.specs.ChildSegments.{last_page}
-use Rattle.lib_birth.specs.FinishingStages.{end_without, page_without, touches as has_part}
+use Rattle.lib_birth.specs.FinishingStages.{touches as has_part}
 
 -- ---- they lie apart
 

@@ -1,5 +1,5 @@
 -- The law of spawn as it loads a word of a program header while it sets the rights of its child's pages: by that word it goes on to another of its steps.
-use Rattle.std.proofs.Common.{◌≡◌, ◌∙◌, ◌+◌, ◌*◌, ◌%◌, ◌<◌, ◌≤◌, inl, ℕ, Bool, true, false, Some, refl, sym, subst, arith, if◌then◌else◌}
+use Rattle.std.proofs.Common.{◌≡◌, ◌+◌, ◌*◌, ◌%◌, ◌<◌, ◌≤◌, inl, ℕ, Bool, true, false, refl, sym, subst, arith, if◌then◌else◌}
 use Rattle.std.specs.Prelude.{slice_index}
 use Rattle.jos_base.specs.declared.numbers.TheConstants.{PGSIZE, SEGMENT_MAX}
 use Rattle.jos_base.specs.Environments.{Slot, is_live}
@@ -20,9 +20,9 @@ use Rattle.lib_os.specs.SpawnedChild.{finishing_child}
 use Rattle.lib_os.specs.StandsAtSpawn.{FinishingStands, HasImage}
 use Rattle.lib_os.specs.StandsFor.{StandsFor, view_of}
 use Rattle.lib_os.specs.UserCalls.{answer_of, load}
-use Rattle.lib_os.proofs.SpawnOwnPages.{own_word_loaded, spawn_there, spawns_at}
+use Rattle.lib_os.proofs.SpawnOwnPages.{keeps_own, own_word_loaded, spawn_there, spawns_at}
 use Rattle.lib_stage.specs.declared.ask.Next.{Next}
-use Rattle.lib_stage.specs.ServiceSteps.{Plan, ServiceHolds}
+use Rattle.lib_stage.specs.ServiceSteps.{ServiceHolds}
 use Rattle.lib_stage.proofs.Laws.{Falls, FallsOrAsks}
 use Rattle.lib_image.specs.SpawnNexts.{goes_on}
 use Rattle.lib_image.specs.TestingStages.{segment_asked}
@@ -46,7 +46,8 @@ pub record LoadsHeader (v : View) (k : Slot) (b : Born) (path argv : ℕ) (at : 
   pub falls : (word : ℕ) → Falls (service.Spawn path argv) (step.Spawning (spawn.Finishing at)) (finishing_next at word)
 
 module _ (s : KernelState) (n path argv : ℕ) (live : is_live (slot_at s n) ≡ true) (at : FinishingStep)
-    (stands : place_of (slot_at s n) ≡ spawns_at path argv (spawn.Finishing at)) (nexts : ℕ → SpawnStep)
+    (stands : place_of (slot_at s n) ≡ spawns_at path argv (spawn.Finishing at)) (given : keeps_own (spawn.Finishing at) (page_number SPAWN_GIVEN) ≡ true)
+    (nexts : ℕ → SpawnStep)
     (next_is : (word : ℕ) → finishing_next at word ≡ goes_on (nexts word)) (header place : ℕ) (inside : place + 4 ≤ PHDR_LEN) (aligned : place % 4 ≡ 0)
     (loads : (v : View) (b : Born) → FinishingStands v (slot_at s n) b path argv at → LoadsHeader v (slot_at s n) b path argv at nexts header place) where
   abbrev from : SpawnStep
@@ -72,7 +73,7 @@ module _ (s : KernelState) (n path argv : ℕ) (live : is_live (slot_at s n) ≡
       let where_is : page_number SPAWN_GIVEN * PGSIZE + (0 + i) ≡ va = omega (arith, below, few) in
       subst (λ (q : ℕ). IsLoadedSo s n (service.Spawn path argv) a (finishing_next at) q (load s n q)) where_is
       (borne_loaded_so h n path argv (finishing_child at) from stands refl (finishing_next at) word
-      (own_word_loaded h n path argv from stands (page_number SPAWN_GIVEN) refl 0 it.image.table it.whole.table i
+      (own_word_loaded h n path argv from stands (page_number SPAWN_GIVEN) given 0 it.image.table it.whole.table i
       (omega (arith, below, many, whole, inside)) (omega (arith, below, few, inside)) (omega (arith, aligned))) (step.Spawning (nexts word)) (next_is word) it.goes)
 
   known : (word : ℕ) → FallsOrAsks s n (service.Spawn path argv) (step.Spawning (spawn.Finishing at)) (finishing_next at word)

@@ -1,19 +1,18 @@
 -- The laws of spawn as it looks whether the pages of a program header's segment are only read, and which they are.
-use Rattle.std.proofs.Common.{◌≡◌, ◌≢◌, ◌∙◌, ◌+◌, ◌-◌, ◌*◌, ◌/◌, ◌%◌, ◌^◌, ◌<◌, ◌≤◌, ◌==◌, ◌&&◌, ◌||◌, ℕ, Bool, true, false, not, List, refl, sym, ap, arith, if◌then◌else◌}
+use Rattle.std.proofs.Common.{◌≡◌, ◌≢◌, ◌∙◌, ◌+◌, ◌-◌, ◌*◌, ◌≤◌, ◌==◌, ◌&&◌, ℕ, Bool, true, false, not, List, refl, sym, ap, arith, if◌then◌else◌}
 use Rattle.std.proofs.Common.{◌++◌}
 use Rattle.std.specs.Prelude.{bit_and, nat_le, nat_lt, slice_index}
 use Rattle.std.proofs.lemmas.Bool.Decides.{nat_tests}
-use Rattle.jos_base.specs.declared.numbers.TheConstants.{FDTABLE, PGSIZE}
+use Rattle.jos_base.specs.declared.numbers.TheConstants.{FDTABLE}
 use Rattle.jos_base.specs.Counting.{page_limit}
-use Rattle.jos_base.specs.Environments.{Slot, is_live}
+use Rattle.jos_base.specs.Environments.{is_live}
 use Rattle.jos_base.specs.KernelState.{KernelState, slot_at}
 use Rattle.jos_base.specs.Words.{page_number, word_at}
 use Rattle.jos_elf.specs.declared.header.ProgramHeader.{ProgramHeader}
 use Rattle.jos_elf.specs.declared.numbers.TheConstants.{P_FLAGS, P_MEMSZ, P_TYPE, P_VADDR, PF_W, PHDR_LEN, PT_LOAD}
 use Rattle.jos_elf.specs.Headers.{program_header_at}
-use Rattle.jos_elf.specs.Pages.{any_writes, touches}
-use Rattle.jos_elf.specs.Parsed.{Lies, segment_of, segments_of}
-use Rattle.jos_elf.specs.Tests.{is_loaded}
+use Rattle.jos_elf.specs.Pages.{touches}
+use Rattle.jos_elf.specs.Parsed.{Lies, segment_of}
 use Rattle.lib_os.specs.declared.place.Step.TheVariants as step
 use Rattle.lib_os.specs.declared.spawn_steps.FinishingStep.{FinishingStep}
 use Rattle.lib_os.specs.declared.spawn_steps.FinishingStep.TheVariants as finishing
@@ -35,11 +34,11 @@ use Rattle.lib_child.proofs.HeaderSays.{has_memory, image_lies, lies_low, no_mem
 use Rattle.lib_child.proofs.PiecesLeft.{count_of}
 use Rattle.lib_birth.specs.declared.stage.BirthStage.TheVariants as stage
 use Rattle.lib_birth.specs.BirthStages.{births}
-use Rattle.lib_birth.specs.FinishingStages.{finishing_next, others_from}
+use Rattle.lib_birth.specs.FinishingStages.{others_from}
 use Rattle.lib_birth.proofs.BirthFalls.{address_falls, flags_falls, kind_falls, memory_falls}
 use Rattle.lib_birth.proofs.RightsApart.{pages_are}
 use Rattle.lib_birth.proofs.RightsHeaders.{LoadsHeader, choice_is, header_load_holds}
-use Rattle.lib_birth.proofs.RightsOn.{ArePages, IsAtRights, bytes_told, others_go, rights_go}
+use Rattle.lib_birth.proofs.RightsOn.{ArePages, bytes_told, others_go, rights_go}
 use Rattle.lib_birth.proofs.RightsProgress.{rights_kept, rights_over}
 use Rattle.lib_birth.proofs.RightsWrites.{writes_none}
 
@@ -114,7 +113,7 @@ module _ (s : KernelState) (n path argv : ℕ) (live : is_live (slot_at s n) ≡
   pub rights_kind_holds : place_of (slot_at s n) ≡ spawns_at path argv (spawn.Finishing (finishing.RightsKind fd headers child header)) →
       ServiceHolds s n (births (stage.Finishing (finishing.RightsKind fd headers child header)))
   rights_kind_holds stands =
-      header_load_holds s n path argv live kind_step stands kind_next
+      header_load_holds s n path argv live kind_step stands refl kind_next
       (λ word. choice_is (word == PT_LOAD) (spawn.Finishing (finishing.RightsFlags fd headers child header)) behind) header P_TYPE (omega arith) refl kind_loads
 
   -- ---- whether it may be written
@@ -168,7 +167,7 @@ module _ (s : KernelState) (n path argv : ℕ) (live : is_live (slot_at s n) ≡
   pub rights_flags_holds : place_of (slot_at s n) ≡ spawns_at path argv (spawn.Finishing (finishing.RightsFlags fd headers child header)) →
       ServiceHolds s n (births (stage.Finishing (finishing.RightsFlags fd headers child header)))
   rights_flags_holds stands =
-      header_load_holds s n path argv live flags_step stands flags_next
+      header_load_holds s n path argv live flags_step stands refl flags_next
       (λ flags. choice_is (bit_and flags PF_W == 0) (spawn.Finishing (finishing.RightsMemory fd headers child header)) behind) header P_FLAGS (omega arith) refl
       flags_loads
 
@@ -231,7 +230,7 @@ module _ (s : KernelState) (n path argv : ℕ) (live : is_live (slot_at s n) ≡
   pub rights_memory_holds : place_of (slot_at s n) ≡ spawns_at path argv (spawn.Finishing (finishing.RightsMemory fd headers child header)) →
       ServiceHolds s n (births (stage.Finishing (finishing.RightsMemory fd headers child header)))
   rights_memory_holds stands =
-      header_load_holds s n path argv live memory_step stands memory_next
+      header_load_holds s n path argv live memory_step stands refl memory_next
       (λ memory. choice_is (memory == 0) behind (spawn.Finishing (finishing.RightsAddress fd headers child header memory))) header P_MEMSZ (omega arith) refl
       memory_loads
 
@@ -290,4 +289,4 @@ module _ (s : KernelState) (n path argv : ℕ) (live : is_live (slot_at s n) ≡
     pub rights_address_holds : place_of (slot_at s n) ≡ spawns_at path argv (spawn.Finishing (finishing.RightsAddress fd headers child header memory)) →
         ServiceHolds s n (births (stage.Finishing (finishing.RightsAddress fd headers child header memory)))
     rights_address_holds stands =
-        header_load_holds s n path argv live address_step stands address_next (λ va. refl) header P_VADDR (omega arith) refl address_loads
+        header_load_holds s n path argv live address_step stands refl address_next (λ va. refl) header P_VADDR (omega arith) refl address_loads

@@ -1,17 +1,14 @@
 -- Where spawn goes on with the rights of pages: behind a program header at the next one, or, behind the last, with what its child has beside its segments; and, where pages of
 -- a segment may be left, at the other one that is the next, or at the first of those pages.
-use Rattle.std.proofs.Common.{◌≡◌, ◌≢◌, ◌∙◌, ◌+◌, ◌*◌, ◌<◌, ◌≤◌, ◌==◌, ◌&&◌, ◌||◌, ◌%◌, ◌++◌, ℕ, zero, suc, Bool, true, false, not, List, None, Some, refl, sym, ap, subst, arith}
+use Rattle.std.proofs.Common.{◌≡◌, ◌∙◌, ◌+◌, ◌<◌, ◌≤◌, ◌&&◌, ◌++◌, ℕ, Bool, true, false, not, List, refl, sym, ap, subst, arith}
 use Rattle.std.proofs.Common.{if◌then◌else◌}
-use Rattle.std.specs.Prelude.{nat_le, nat_lt, slice_index}
+use Rattle.std.specs.Prelude.{nat_le, nat_lt}
 use Rattle.std.proofs.lemmas.Bool.{and_parts}
 use Rattle.std.proofs.lemmas.Bool.Decides.{nat_tests}
 use Rattle.jos_base.specs.Environments.{Slot}
-use Rattle.jos_elf.specs.declared.header.ProgramHeader.{ProgramHeader}
-use Rattle.jos_elf.specs.Headers.{entry_count_of}
 use Rattle.jos_elf.specs.Pages.{any_writes, touches}
 use Rattle.jos_elf.specs.Parsed.{segment_of, segments_of}
 use Rattle.lib_os.specs.declared.place.Step.TheVariants as step
-use Rattle.lib_os.specs.declared.spawn_steps.FinishingStep.{FinishingStep}
 use Rattle.lib_os.specs.declared.spawn_steps.FinishingStep.TheVariants as finishing
 use Rattle.lib_os.specs.declared.spawn_steps.SpawnStep.{SpawnStep}
 use Rattle.lib_os.specs.declared.spawn_steps.SpawnStep.TheVariants as spawn
@@ -20,7 +17,7 @@ use Rattle.lib_os.specs.AbstractState.{Born, ImageRead}
 use Rattle.lib_os.specs.LibraryPages.{View}
 use Rattle.lib_os.specs.SpawnedChild.{IsProgress, Progress, bytes_replied, header_touches, settling}
 use Rattle.lib_os.specs.SpawnPages.{is_childs}
-use Rattle.lib_os.specs.StandsAtSpawn.{FinishingStands, HasAllBytes, HasImage, IsReadOnly}
+use Rattle.lib_os.specs.StandsAtSpawn.{HasAllBytes, HasImage, IsReadOnly}
 use Rattle.lib_os.proofs.Serving.{holds_page}
 use Rattle.lib_os.proofs.SpawnOwnPages.{spawn_words, spawns_at}
 use Rattle.lib_os.proofs.SpawnedProgress.{Alike, alike_same}

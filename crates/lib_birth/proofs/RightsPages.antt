@@ -1,5 +1,5 @@
 -- The law of spawn as it sets the rights of a page of its child's.
-use Rattle.std.proofs.Common.{◌≡◌, ◌∙◌, ◌*◌, ◌/◌, ◌%◌, ◌<◌, ◌==◌, ◌&&◌, ℕ, true, false, [], ◌∷◌, Option, Some, None, refl, sym, ap, subst, arith}
+use Rattle.std.proofs.Common.{◌≡◌, ◌∙◌, ◌*◌, ◌%◌, ◌<◌, ℕ, true, [], ◌∷◌, Option, Some, None, refl, sym, ap, subst, arith}
 use Rattle.std.proofs.lemmas.Bool.Decides.{nat_tests}
 use Rattle.jos_base.specs.declared.called.Called.{Called}
 use Rattle.jos_base.specs.declared.called.Called.TheVariants.{Answered}
@@ -22,6 +22,7 @@ use Rattle.lib_os.proofs.Calls.{made_step, refusal_is_seen}
 use Rattle.lib_os.proofs.CallersStay.{map_answers}
 use Rattle.lib_os.proofs.SpawnCopies.{spawn_maps_copies}
 use Rattle.lib_os.proofs.SpawnOwnPages.{spawns_at}
+use Rattle.lib_stage.specs.Asks.{performed}
 use Rattle.lib_stage.specs.ServiceSteps.{Plan, ServiceHolds, upshot_by}
 use Rattle.lib_stage.proofs.Laws.{FollowsBy, KeepsBy, knowingly, law_of_call}
 use Rattle.lib_fork.specs.ForkStages.{page_va}
@@ -73,6 +74,7 @@ module _ (s : KernelState) (n path argv : ℕ) (live : is_live (slot_at s n) ≡
           (λ in_order. (refl, (h.0, rights_set h.1 n path argv fd headers child header page end stands in_order is turn.last))) order
 
   pub rights_page_holds : ServiceHolds s n (births (stage.Finishing (finishing.RightsPage fd headers child header page end)))
+  unfolding performed
   rights_page_holds =
       law_of_call s n plan (service.Spawn path argv) (step.Spawning from)
       (record {

@@ -1,18 +1,17 @@
 -- Spawn maps a page of its child's onto itself, so that it is only read: the child has all bytes that it had, and nobody else has anything else.
-use Rattle.std.proofs.Common.{◌≡◌, ◌≢◌, ◌∙◌, ◌⊎◌, inl, inr, ◌%◌, ◌/◌, ◌*◌, ◌+◌, ◌<◌, ◌≤◌, ◌==◌, ◌&&◌, ◌||◌, ◌++◌, ℕ, Bool, true, false, not, List, [], ◌∷◌, Some, None}
+use Rattle.std.proofs.Common.{◌≡◌, ◌≢◌, ◌∙◌, ◌⊎◌, inl, inr, ◌%◌, ◌/◌, ◌*◌, ◌+◌, ◌<◌, ◌≤◌, ◌==◌, ◌&&◌, ◌||◌, ℕ, Bool, true, false, not, List, [], ◌∷◌, Some, None}
 use Rattle.std.proofs.Common.{Option, is_some, refl, sym, ap, subst, arith, if◌then◌else◌}
 use Rattle.std.specs.Prelude.{nat_le, nat_lt, slice_index}
 use Rattle.std.proofs.lemmas.Bool.{and_parts, false≢true}
 use Rattle.std.proofs.lemmas.Bool.Decides.{nat_tests}
 use Rattle.std.proofs.lemmas.Option.{none-some, same_Some}
-use Rattle.jos_base.specs.declared.called.Called.{Called}
 use Rattle.jos_base.specs.declared.numbers.TheConstants.{FDTABLE, NENV, NPTENTRIES, PGSIZE, SYS_PAGE_MAP, USTABDATA, UTEMP, UTEXT}
 use Rattle.jos_base.specs.Below.{some_below}
 use Rattle.jos_base.specs.Environments.{Slot}
 use Rattle.jos_base.specs.KernelState.{KernelState, slot_at, with_extra, with_spaces}
 use Rattle.jos_base.specs.Reach.{Entry}
 use Rattle.jos_base.specs.SpacesState.{SpacesState, inserted}
-use Rattle.jos_base.specs.SystemCalls.{is_page_address, shared_entry}
+use Rattle.jos_base.specs.SystemCalls.{has_write, is_page_address, shared_entry}
 use Rattle.jos_base.specs.Words.{page_number}
 use Rattle.jos_base.proofs.Below.{some_below-at}
 use Rattle.jos_base.proofs.Puts.{Elsewhere}
@@ -27,20 +26,20 @@ use Rattle.lib_os.specs.declared.spawn_steps.FinishingStep.TheVariants as finish
 use Rattle.lib_os.specs.declared.spawn_steps.SpawnStep.{SpawnStep}
 use Rattle.lib_os.specs.declared.spawn_steps.SpawnStep.TheVariants as spawn
 use Rattle.lib_os.specs.AbstractMemory.{has_page_in}
-use Rattle.lib_os.specs.AbstractSpawn.{all_of, headers_in, image_segments, under_shared}
-use Rattle.lib_os.specs.AbstractState.{AbstractState, Born, ImageRead, Page, named, own}
+use Rattle.lib_os.specs.AbstractSpawn.{headers_in, image_segments, under_shared}
+use Rattle.lib_os.specs.AbstractState.{AbstractState, Born, ImageRead, named, own}
 use Rattle.lib_os.specs.Fence.{in_fence}
 use Rattle.lib_os.specs.InOrder.{IsInOrder}
 use Rattle.lib_os.specs.LibraryPages.{View, is_library_region}
 use Rattle.lib_os.specs.Places.{place_of}
 use Rattle.lib_os.specs.Rows.{Agree, IsPage, IsUsers, MayBeHad, Names, is_cow, is_of_descriptor, is_programs, is_shared, lasting, logical, page_seen, rows_of}
-use Rattle.lib_os.specs.Rows.{has_write, may_write}
-use Rattle.lib_os.specs.SpawnedChild.{IsProgress, Progress, bytes_replied, child_page, handler_of, header_touches, image_page, is_placed_page, is_settled_page}
+use Rattle.lib_os.specs.Rows.{may_write}
+use Rattle.lib_os.specs.SpawnedChild.{IsProgress, Progress, child_page, handler_of, header_touches, image_page, is_settled_page}
 use Rattle.lib_os.specs.SpawnedChild.{no_page_passed, own_page, passing, registers_of, segments_filled, settling}
 use Rattle.lib_os.specs.SpawnPages.{is_childs}
 use Rattle.lib_os.specs.StandsAtSpawn.{FinishingStands, IsReadOnly, IsSettling}
 use Rattle.lib_os.specs.StandsFor.{StandsFor, borne_in, things_in, view_of}
-use Rattle.lib_os.specs.UserCalls.{CallStep, system}
+use Rattle.lib_os.specs.UserCalls.{system}
 use Rattle.lib_os.proofs.BorneCalls.{borne_map_own_is}
 use Rattle.lib_os.proofs.Calls.{made_step}
 use Rattle.lib_os.proofs.Effects.{Given}
@@ -51,7 +50,7 @@ use Rattle.lib_os.proofs.Placing.{inserted_given}
 use Rattle.lib_os.proofs.Serving.{IsServed}
 use Rattle.lib_os.proofs.SpawnedGoes.{HasOfImage, IsSpawner, spawner}
 use Rattle.lib_os.proofs.SpawnedMoves.{spawned_counted}
-use Rattle.lib_os.proofs.SpawnedProgress.{Alike, LoadsSame, alike_same, loads_same, page_same}
+use Rattle.lib_os.proofs.SpawnedProgress.{Alike, alike_same, loads_same, page_same}
 use Rattle.lib_os.proofs.SpawnGivesChild.{PutsInChild, given_bytes, giver_row, giver_stands, gives_child}
 use Rattle.lib_os.proofs.SpawnHandsOn.{given_puts}
 use Rattle.lib_os.proofs.SpawnOwnPages.{spawn_there, spawn_words, spawns_at}

@@ -1,5 +1,5 @@
 -- The law of spawn's last step, which is seen: its child may run, and it answers the child's id.
-use Rattle.std.proofs.Common.{◌≡◌, ◌≢◌, ◌∙◌, ◌%◌, ◌≤◌, ◌==◌, ℕ, Bool, true, false, List, [], ◌∷◌, Ok, refl, sym, ap, subst, arith}
+use Rattle.std.proofs.Common.{◌≡◌, ◌≢◌, ◌∙◌, ◌%◌, ℕ, true, false, List, [], ◌∷◌, Ok, refl, sym, ap, subst, arith}
 use Rattle.jos_base.specs.declared.called.Called.{Called}
 use Rattle.jos_base.specs.declared.called.Called.TheVariants.{Answered}
 use Rattle.jos_base.specs.declared.environment.Status.{Status}
@@ -7,7 +7,6 @@ use Rattle.jos_base.specs.declared.environment.Status.TheVariants.{Runnable}
 use Rattle.jos_base.specs.declared.numbers.TheConstants.{ENV_RUNNABLE, NENV, SYS_ENV_SET_STATUS}
 use Rattle.jos_base.specs.Environments.{Slot, is_live, is_runnable, no_extra}
 use Rattle.jos_base.specs.KernelState.{KernelState, slot_at, with_status}
-use Rattle.lib_os.specs.declared.place.Step.{Step}
 use Rattle.lib_os.specs.declared.place.Step.TheVariants as step
 use Rattle.lib_os.specs.declared.progress.Progress.TheVariants as progress
 use Rattle.lib_os.specs.declared.service.Service.TheVariants as service
@@ -16,11 +15,10 @@ use Rattle.lib_os.specs.declared.spawn_steps.SpawnStep.{SpawnStep}
 use Rattle.lib_os.specs.declared.spawn_steps.SpawnStep.TheVariants as spawn
 use Rattle.lib_os.specs.AbstractSpawn.{child_born}
 use Rattle.lib_os.specs.AbstractState.{AbstractState}
-use Rattle.lib_os.specs.InOrder.{IsInOrder}
 use Rattle.lib_os.specs.LibrarySteps.{Leaves, Stands, is_pausing, service_answered}
 use Rattle.lib_os.specs.Places.{place_of}
 use Rattle.lib_os.specs.StandsFor.{borne_in}
-use Rattle.lib_os.specs.UserCalls.{CallStep, Got, answer_of, giving, system}
+use Rattle.lib_os.specs.UserCalls.{CallStep, Got, giving, system}
 use Rattle.lib_os.proofs.BearsOn.{borne_apart}
 use Rattle.lib_os.proofs.BorneCalls.{borne_runs_is}
 use Rattle.lib_os.proofs.CallersStay.{runs_answers}
@@ -30,7 +28,7 @@ use Rattle.lib_os.proofs.NumbersKept.{copies_kept, numbers_kept, places_kept, wo
 use Rattle.lib_os.proofs.OthersCopies.{plain_wait}
 use Rattle.lib_os.proofs.OthersKept.{own_stay, system_stay}
 use Rattle.lib_os.proofs.ServerLeft.{own_server, system_server}
-use Rattle.lib_os.proofs.Serving.{IsServed, printed_nothing}
+use Rattle.lib_os.proofs.Serving.{printed_nothing}
 use Rattle.lib_os.proofs.Slots.{slot_kept, slot_put}
 use Rattle.lib_os.proofs.SpawnBirths.{birth_stands, birth_step}
 use Rattle.lib_os.proofs.SpawnOwnPages.{spawn_there, spawns_at}
@@ -106,10 +104,10 @@ module _ (s : KernelState) (n path argv : ℕ) (live : is_live (slot_at s n) ≡
             let was : is_runnable (slot_at s n).status ≡ true = ap (λ (x : Status). is_runnable x) (sym (parent_still a h)) ∙ ready in
             absurd (let contradiction : false ≡ true = sym (running_calm (slot_at s n).status running) ∙ was in cc);
         uses = λ in_order lives each. system_found s n SYS_ENV_SET_STATUS args in_order lives each;
-        places = places_kept s (after t) n (λ before then_so lives. others);
-        numbers = numbers_kept s (after t) n (λ before then_so lives. others)
+        places = places_kept s (after t) n (λ before then_so lives b stood. others);
+        numbers = numbers_kept s (after t) n (λ before then_so lives b stood. others)
             (copies_kept s (after t) n (plain_wait s n SYS_ENV_SET_STATUS args refl));
-        working = working_kept s (after t) n (λ before then_so lives. others) (copies_kept s (after t) n (plain_wait s n SYS_ENV_SET_STATUS args refl));
+        working = working_kept s (after t) n (λ before then_so lives b stood. others) (copies_kept s (after t) n (plain_wait s n SYS_ENV_SET_STATUS args refl));
         server = own_server s n t (record (slot_at t n) { registers = record (slot_at t n).registers { eax = child }; extra = no_extra }) refl refl
             (system_server s n SYS_ENV_SET_STATUS args refl (λ a h. refl));
       }
@@ -122,7 +120,7 @@ module _ (s : KernelState) (n path argv : ℕ) (live : is_live (slot_at s n) ≡
       record {
         lives = goes.live;
         keeps = λ order. keeps;
-        fails = λ may a h turn. absurd (let contradiction : false ≡ true = may in cc);
+        fails = λ may a h turn. absurd (let contradiction : false ≡ true = may.0 in cc);
         leaves = subst (λ (g : Got Called). let did = upshot_by plan n call g in Leaves (Ok did.progress) n s did.state) (sym gives.1) leaves_so;
         lowers = falling_lowers s n plan call (service.Spawn path argv) (step.Spawning from) stands refl goes (system_never s n SYS_ENV_SET_STATUS args) (λ called. tt);
         gives_up = gives_nothing_up (Ok did.progress) (slot_at s n) (slot_at did.state n) (ap is_pausing stands);

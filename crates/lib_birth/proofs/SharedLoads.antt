@@ -1,10 +1,10 @@
 -- The laws of spawn as it looks which pages of a segment that is only read another segment has that may be written.
-use Rattle.std.proofs.Common.{◌≡◌, ◌≢◌, ◌∙◌, ◌⊎◌, inl, inr, ◌+◌, ◌-◌, ◌*◌, ◌/◌, ◌%◌, ◌^◌, ◌<◌, ◌≤◌, ◌==◌, ◌&&◌, ◌||◌, ℕ, Bool, true, false, not, List, refl, sym, ap, subst}
+use Rattle.std.proofs.Common.{◌≡◌, ◌≢◌, ◌∙◌, ◌⊎◌, inl, inr, ◌+◌, ◌*◌, ◌<◌, ◌≤◌, ◌==◌, ◌&&◌, ◌||◌, ℕ, Bool, true, false, not, List, refl, sym, ap, subst}
 use Rattle.std.proofs.Common.{arith, if◌then◌else◌}
 use Rattle.std.specs.Prelude.{bit_and, nat_le, nat_lt, slice_index}
 use Rattle.std.proofs.lemmas.Bool.{and_parts}
 use Rattle.std.proofs.lemmas.Bool.Decides.{nat_tests}
-use Rattle.jos_base.specs.declared.numbers.TheConstants.{FDTABLE, PGSIZE}
+use Rattle.jos_base.specs.declared.numbers.TheConstants.{FDTABLE}
 use Rattle.jos_base.specs.Environments.{Slot, is_live}
 use Rattle.jos_base.specs.KernelState.{KernelState, slot_at}
 use Rattle.jos_base.specs.Words.{page_number, word_at}
@@ -234,7 +234,7 @@ module _ (s : KernelState) (n path argv : ℕ) (live : is_live (slot_at s n) ≡
   pub shared_kind_holds : place_of (slot_at s n) ≡ spawns_at path argv (spawn.Finishing (finishing.SharedKind fd headers child header page end other)) →
       ServiceHolds s n (births (stage.Finishing (finishing.SharedKind fd headers child header page end other)))
   shared_kind_holds stands =
-      header_load_holds s n path argv live kind_step stands kind_next
+      header_load_holds s n path argv live kind_step stands refl kind_next
       (λ word. choice_is (word == PT_LOAD) (spawn.Finishing (finishing.SharedFlags fd headers child header page end other)) over) other P_TYPE (omega arith) refl
       kind_loads
 
@@ -289,7 +289,7 @@ module _ (s : KernelState) (n path argv : ℕ) (live : is_live (slot_at s n) ≡
   pub shared_flags_holds : place_of (slot_at s n) ≡ spawns_at path argv (spawn.Finishing (finishing.SharedFlags fd headers child header page end other)) →
       ServiceHolds s n (births (stage.Finishing (finishing.SharedFlags fd headers child header page end other)))
   shared_flags_holds stands =
-      header_load_holds s n path argv live flags_step stands flags_next
+      header_load_holds s n path argv live flags_step stands refl flags_next
       (λ flags. choice_is (bit_and flags PF_W == 0) over (spawn.Finishing (finishing.SharedMemory fd headers child header page end other))) other P_FLAGS
       (omega arith) refl flags_loads
 
@@ -355,7 +355,7 @@ module _ (s : KernelState) (n path argv : ℕ) (live : is_live (slot_at s n) ≡
   pub shared_memory_holds : place_of (slot_at s n) ≡ spawns_at path argv (spawn.Finishing (finishing.SharedMemory fd headers child header page end other)) →
       ServiceHolds s n (births (stage.Finishing (finishing.SharedMemory fd headers child header page end other)))
   shared_memory_holds stands =
-      header_load_holds s n path argv live memory_step stands memory_next
+      header_load_holds s n path argv live memory_step stands refl memory_next
       (λ memory. choice_is (memory == 0) over (spawn.Finishing (finishing.SharedAddress fd headers child header page end other memory))) other P_MEMSZ
       (omega arith) refl memory_loads
 
@@ -402,4 +402,4 @@ module _ (s : KernelState) (n path argv : ℕ) (live : is_live (slot_at s n) ≡
         place_of (slot_at s n) ≡ spawns_at path argv (spawn.Finishing (finishing.SharedAddress fd headers child header page end other memory)) →
         ServiceHolds s n (births (stage.Finishing (finishing.SharedAddress fd headers child header page end other memory)))
     shared_address_holds stands =
-        header_load_holds s n path argv live address_step stands address_next (λ va. refl) other P_VADDR (omega arith) refl address_loads
+        header_load_holds s n path argv live address_step stands refl address_next (λ va. refl) other P_VADDR (omega arith) refl address_loads

@@ -22,7 +22,7 @@ use Rattle.lib_os.proofs.SpawnPagesTaken.{page_given_is}
 use Rattle.lib_os.proofs.SpawnRefuses.{gives_path_back}
 use Rattle.lib_os.proofs.Trying.{LivesOn}
 use Rattle.lib_stage.specs.ServiceSteps.{Plan, ServiceHolds}
-use Rattle.lib_stage.proofs.Laws.{IsAt, KeepsBy, law_of_call, plainly}
+use Rattle.lib_stage.proofs.Laws.{KeepsBy, law_of_call, plainly}
 use Rattle.lib_birth.specs.declared.stage.BirthStage.TheVariants as stage
 use Rattle.lib_birth.specs.BirthStages.{births}
 use Rattle.lib_birth.proofs.BirthFalls.{undoing_falls}

@@ -15,3 +15,8 @@ pub mod MakingChild
 pub mod PutsAt
 pub mod HereSteps
 pub mod PieceLoads
+pub mod LaidMore
+pub mod PieceGoesOn
+pub mod PiecePuts
+pub mod SettingRegisters
+pub mod BearingLaw

@@ -45,17 +45,17 @@ none_laid segment file number bytes none =
         let past : to ≤ from = omega (arith, first, last, none) in
         grind (arith, nat_tests, past)
 
-abbrev NoneFilled : List Segment → Type 0
+abbrev pub NoneFilled : List Segment → Type 0
 NoneFilled [] = Unit {0}
 NoneFilled (segment ∷ rest) = (segment.file_len ≡ 0) × NoneFilled rest
 
-all_none : (segments : List Segment) (file : List ℕ) (number : ℕ) (bytes : List ℕ) → NoneFilled segments → laid_all segments file number bytes ≡ bytes
+pub all_none : (segments : List Segment) (file : List ℕ) (number : ℕ) (bytes : List ℕ) → NoneFilled segments → laid_all segments file number bytes ≡ bytes
 unfolding laid_all
 all_none [] file number bytes each = refl
 all_none (segment ∷ rest) file number bytes each =
     ap (λ (page : List ℕ). laid_all rest file number page) (none_laid segment file number bytes each.0) ∙ all_none rest file number bytes each.1
 
-none_append : (first second : List Segment) → NoneFilled first → NoneFilled second → NoneFilled (first ++ second)
+pub none_append : (first second : List Segment) → NoneFilled first → NoneFilled second → NoneFilled (first ++ second)
 none_append [] second each more = more
 none_append (segment ∷ rest) second each more = (each.0, none_append rest second each.1 more)
 

@@ -99,7 +99,7 @@ rest_taken bytes raw d first small page_small within same first_is =
 pub four_of : (at wanted : ℕ) → put_at_once at wanted ≡ 4 → 4 ≤ wanted
 four_of at wanted four = by_tests (at % 4 == 0) (nat_le 4 wanted) refl four
   where
-    by_tests : (aligned many : Bool) → nat_le 4 wanted ≡ many → (if aligned && many then 4 else 1) ≡ 4 → 4 ≤ wanted
+    by_tests : (aligned many : Bool) → nat_le 4 wanted ≡ many → ◌≡◌ {A = ℕ} (if aligned && many then 4 else 1) 4 → 4 ≤ wanted
     by_tests true true test is = grind (arith, nat_tests, test)
     by_tests true false test is = absurd (omega (arith, is))
     by_tests false many test is = absurd (omega (arith, is))
@@ -107,7 +107,7 @@ four_of at wanted four = by_tests (at % 4 == 0) (nat_le 4 wanted) refl four
 pub one_of : (at wanted : ℕ) → put_at_once at wanted ≢ 4 → put_at_once at wanted ≡ 1
 one_of at wanted other = by_tests (at % 4 == 0) (nat_le 4 wanted) other
   where
-    by_tests : (aligned many : Bool) → (if aligned && many then 4 else 1) ≢ 4 → (if aligned && many then 4 else 1) ≡ 1
+    by_tests : (aligned many : Bool) → ◌≢◌ {A = ℕ} (if aligned && many then 4 else 1) 4 → ◌≡◌ {A = ℕ} (if aligned && many then 4 else 1) 1
     by_tests true true is = absurd (is refl)
     by_tests true false is = refl
     by_tests false many is = refl

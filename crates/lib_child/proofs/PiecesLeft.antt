@@ -97,7 +97,7 @@ behind_over image header done none =
     ap (λ (c : Bool). (if c then drop ((done + (TRANSFER_MAX - 1)) / TRANSFER_MAX) (pieces_of (segment_of (headers_in image.table header))) else [])
     ++ pieces_after image (header + 1)) none
 
-pieces_long : (segment : Segment) → length (pieces_of segment) ≡ (segment.file_len + (TRANSFER_MAX - 1)) / TRANSFER_MAX
+pub pieces_long : (segment : Segment) → length (pieces_of segment) ≡ (segment.file_len + (TRANSFER_MAX - 1)) / TRANSFER_MAX
 pieces_long segment =
     length-map (rising 0 ((segment.file_len + (TRANSFER_MAX - 1)) / TRANSFER_MAX)) (piece_of segment)
     ∙ length-rising 0 ((segment.file_len + (TRANSFER_MAX - 1)) / TRANSFER_MAX)

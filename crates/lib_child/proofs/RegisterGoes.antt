@@ -112,8 +112,9 @@ module _ (v w : View) (k : Slot) (b : Born) (path argv esp fd entry_point header
         stands = record {
           image = h.image;
           has = child_told (spawn_words to) has_now;
+          begins = subst (λ (e : ℕ). e < 2 ^ 32) h.entry_point_is.0 h.entry_point_is.1;
           kept = subst (λ (l : List ℕ). PageHas w (page_number UTEMP) 0 l)
-              (λ j. bytes_of_words (register_words (h.entry_point_is j) (h.esp_is j) (all j))) kept_now;
+              (λ j. bytes_of_words (register_words (h.entry_point_is.0 j) (h.esp_is j) (all j))) kept_now;
         };
       }
 

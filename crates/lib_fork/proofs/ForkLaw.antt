@@ -122,10 +122,10 @@ module _ (s : KernelState) (n id : ℕ) (live : is_live (slot_at s n) ≡ true)
             let was : is_runnable (slot_at s n).status ≡ true = ap (λ (x : Status). is_runnable x) (sym (parent_still a h)) ∙ ready in
             absurd (let contradiction : false ≡ true = sym (running_calm (slot_at s n).status running) ∙ was in cc);
         uses = λ in_order lives each. system_found s n SYS_ENV_SET_STATUS args in_order lives each;
-        places = places_kept s (after t) n (λ before then_so lives. others);
-        numbers = numbers_kept s (after t) n (λ before then_so lives. others)
+        places = places_kept s (after t) n (λ before then_so lives b stood. others);
+        numbers = numbers_kept s (after t) n (λ before then_so lives b stood. others)
             (copies_kept s (after t) n (plain_wait s n SYS_ENV_SET_STATUS args refl));
-        working = working_kept s (after t) n (λ before then_so lives. others) (copies_kept s (after t) n (plain_wait s n SYS_ENV_SET_STATUS args refl));
+        working = working_kept s (after t) n (λ before then_so lives b stood. others) (copies_kept s (after t) n (plain_wait s n SYS_ENV_SET_STATUS args refl));
         server = own_server s n t (record (slot_at t n) { registers = record (slot_at t n).registers { eax = id }; extra = no_extra }) refl refl
             (system_server s n SYS_ENV_SET_STATUS args refl (λ a h. refl));
       }

@@ -37,7 +37,7 @@ use Rattle.lib_fork.specs.declared.fork.ForkStage.TheVariants as stage
 use Rattle.lib_fork.specs.ForkStages.{ask_of, below, forking, next_of, page_va}
 
 -- the address of a page that fork passes on
-passed_address : (page : ℕ) → page < top_page → (is_page_address (page_va page) ≡ true) × (page_number (page_va page) ≡ page)
+pub passed_address : (page : ℕ) → page < top_page → (is_page_address (page_va page) ≡ true) × (page_number (page_va page) ≡ page)
 passed_address page lower =
     let number : page_number (page_va page) ≡ page = omega (arith, lower) in
     let begins : page_va page % PGSIZE ≡ 0 = omega arith in

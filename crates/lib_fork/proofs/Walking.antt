@@ -59,7 +59,7 @@ first_is_greatest : (region p : ℕ) → region_of region ≡ region → first_p
 first_is_greatest region p same above inside lower = omega (arith, same, above, inside, lower)
 
 -- the bits of a descriptor's page are those of a page that may be read and is not copied
-descriptor_users : IsUsers descriptor_perm
+pub descriptor_users : IsUsers descriptor_perm
 descriptor_users = record { page = refl; copied = λ cow. absurd (let contradiction : false ≡ true = cow in cc) }
 
 -- ---- a step that reads a word

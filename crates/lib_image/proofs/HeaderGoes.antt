@@ -1,5 +1,5 @@
 -- Where spawn goes on by each word of its file's header: where that is as it should be more tests pass, and behind the last it reads the program headers.
-use Rattle.std.proofs.Common.{◌≡◌, ◌∙◌, ◌+◌, ◌*◌, ℕ, true, refl, sym, ap}
+use Rattle.std.proofs.Common.{◌≡◌, ◌∙◌, ◌+◌, ◌*◌, ◌^◌, ◌<◌, ℕ, true, refl, sym, ap, subst}
 use Rattle.std.specs.Prelude.{nat_le, slice_index}
 use Rattle.std.proofs.lemmas.Bool.{and_parts, leb-true}
 use Rattle.jos_base.specs.declared.numbers.TheConstants.{SEGMENT_MAX}
@@ -16,6 +16,7 @@ use Rattle.lib_os.specs.declared.spawn_steps.TestingStep.TheVariants as testing
 use Rattle.lib_os.specs.AbstractState.{Born}
 use Rattle.lib_os.specs.LibraryPages.{View}
 use Rattle.lib_os.specs.StandsAtSpawn.{HasTested, IsEntryPoint, IsTablePlace, before_table}
+use Rattle.lib_os.proofs.PipeBytes.{word_under}
 use Rattle.lib_os.proofs.SpawnOwnPages.{spawn_words}
 use Rattle.lib_image.specs.TestingStages.{tested}
 use Rattle.lib_image.specs.WordTests.{count_in, is_class, is_kind, is_length, is_magic, table_fits}
@@ -104,6 +105,9 @@ module _ {v : View} {k : Slot} {b : Born} {path argv esp fd size : ℕ} where
         abbrev reading : SpawnStep
         reading = spawn.Reading (part.Table esp fd size entry_point count place) read.LoadingNumber
 
+        below : entry_point < 2 ^ 32
+        below = subst (λ (e : ℕ). e < 2 ^ 32) (sym entry) (word_under h.has.header E_ENTRY h.has.small)
+
         same_fits : table_fits size place count ≡ table_fits size (table_of (byte_of h)) count
         same_fits = ap (λ (p : ℕ). table_fits size p count) stands
 
@@ -121,7 +125,7 @@ module _ {v : View} {k : Slot} {b : Born} {path argv esp fd size : ℕ} where
                 place = place;
                 before =
                     before_table esp fd size entry_point count place h.has.words h.has.header h.has.answer
-                    (found_told (spawn_words reading) h.has.found) h.has.of_file h.has.stack entry (count-tells (byte_of h) size h.has.small) stands
+                    (found_told (spawn_words reading) h.has.found) h.has.of_file h.has.stack (entry, below) (count-tells (byte_of h) size h.has.small) stands
                     (leb-true count SEGMENT_MAX fits.0) (leb-true (place + PHDR_LEN * count) size fits.1) h.has.long
                     (count-passes (byte_of h) size h.has.small h.passed (sym same_fits ∙ e)) h.has.come;
                 of_file = h.has.of_file.of_file;

@@ -107,7 +107,8 @@ pub before_loads : {v : View} {k : Slot} {b : Born} {path argv : ℕ} {wants : F
     (before : IsBefore v k b path argv wants fd count place) → (id : ℕ) → spawning_child (spawn.Reading wants at) ≡ Some id →
     LoadsOn b (Some (found_before before)) (in_service (service.Spawn path argv) asked)
 before_loads {b = b} {path = path} {argv = argv} at (before_header esp fd size so sized long) id is = absurd (none-some id is)
-before_loads {b = b} {path = path} {argv = argv} at (before_table esp fd size entry_point headers place words header answer found sized stack begins many from few inside long passed come) id is =
+before_loads {b = b} {path = path} {argv = argv} at
+    (before_table esp fd size entry_point headers place words header answer found sized stack begins many from few inside long passed come) id is =
     absurd (none-some id is)
 before_loads {b = b} {path = path} {argv = argv} at (before_piece fd headers child header done end place so next from) id is =
     λ slot image file loads. pieces_on path argv fd (child % NENV) so.image so.has

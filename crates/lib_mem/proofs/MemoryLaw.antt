@@ -174,10 +174,10 @@ module _ (s : KernelState) (n : ℕ) (step : Step) (live : is_live (slot_at s n)
           rest = record { last = rest.last; turns = rest.turns; frames = rest.frames; refused = rest.refused; told = rest.told };
           turn = λ a stands_for running silent runs. ap is_yield there;
           uses = used;
-          places = places_kept s (service_answered ran n 0) n (λ before then_so lives. others);
-          numbers = numbers_kept s (service_answered ran n 0) n (λ before then_so lives. others)
+          places = places_kept s (service_answered ran n 0) n (λ before then_so lives b stood. others);
+          numbers = numbers_kept s (service_answered ran n 0) n (λ before then_so lives b stood. others)
               (copies_kept s (service_answered ran n 0) n (same_wait (IsBeside s n) s.spaces));
-          working = working_kept s (service_answered ran n 0) n (λ before then_so lives. others)
+          working = working_kept s (service_answered ran n 0) n (λ before then_so lives b stood. others)
               (copies_kept s (service_answered ran n 0) n (same_wait (IsBeside s n) s.spaces));
           server = own_server s n ran (record (slot_at ran n) { registers = record (slot_at ran n).registers { eax = 0 }; extra = no_extra }) refl refl
               (subst (λ (z : CallStep Called). KeepsServer n s z.state) is (system_server s n SYS_YIELD none refl (λ a h. refl)));

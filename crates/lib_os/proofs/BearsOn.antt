@@ -16,7 +16,7 @@ use Rattle.lib_os.specs.DescriptorPages.{lock_of}
 use Rattle.lib_os.specs.PipeEnds.{EndsStand, EndsStandAt, LocksStand, locked_at}
 use Rattle.lib_os.specs.Places.{place_of}
 use Rattle.lib_os.specs.Rows.{EntryRow, Names, rows_of, logical, is_of_descriptor, is_pipe_page, is_shared, pipe_page}
-use Rattle.lib_os.specs.StandsFor.{HasChildren, StandsFor, StandsForSlot, StandsForBorn, StandsForUnborn, IsBorneBy, borne_in, things_in}
+use Rattle.lib_os.specs.StandsFor.{StandsFor, StandsForSlot, StandsForBorn, StandsForUnborn, IsBorneBy, borne_in, things_in}
 use Rattle.lib_os.proofs.Bearing.{of_slots, same_born, same_unborn}
 use Rattle.lib_os.proofs.Children.{IsOfParent, same_child, borne_moved, of_parent}
 use Rattle.lib_os.proofs.EntriesStand.{RowsStand, rows_turned}

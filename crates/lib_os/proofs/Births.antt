@@ -5,22 +5,19 @@ use Rattle.std.proofs.Common.{refl, sym, ap, subst, arith}
 use Rattle.std.specs.Prelude.{is_some, nat_lt, if◌then◌else◌}
 use Rattle.std.specs.Option.{option_map}
 use Rattle.std.proofs.lemmas.Bool.Decides.{nat_tests}
-use Rattle.std.proofs.lemmas.Option.{none-some, same_Some}
 use Rattle.jos_base.specs.Below.{some_below}
 use Rattle.jos_base.specs.declared.environment.Status.TheVariants.{Runnable}
 use Rattle.jos_base.specs.declared.numbers.TheConstants.{FIRST_ENV_ID, NENV, NPTENTRIES, UTEMP}
 use Rattle.jos_base.specs.declared.registers.Regs.{Regs}
-use Rattle.jos_base.specs.Environments.{Slot, is_live as is_live_slot, is_running, no_extra}
+use Rattle.jos_base.specs.Environments.{Slot, is_live as is_live_slot, no_extra}
 use Rattle.jos_base.specs.KernelState.{KernelState, slot_at, with_slot_at, with_status}
 use Rattle.jos_base.specs.Reach.{Entry}
 use Rattle.jos_base.specs.SpacesState.{SpacesState}
 use Rattle.jos_base.specs.TrapFrames.{user_flags}
 use Rattle.jos_base.specs.Words.{page_number, upd}
-use Rattle.jos_base.proofs.Maps.{upd-alike, upd-at, upd-other, upd-both}
 use Rattle.lib_os.specs.declared.numbers.TheConstants.{DESCRIPTORS, PFTEMP}
 use Rattle.lib_os.specs.declared.place.Place.{Place}
 use Rattle.lib_os.specs.declared.place.Place.TheVariants as place
-use Rattle.lib_os.specs.declared.place.Step.{Step}
 use Rattle.lib_os.specs.declared.place.Step.TheVariants as step
 use Rattle.lib_os.specs.declared.service.Service.TheVariants as service
 use Rattle.lib_os.specs.AbstractFork.{bear, child_of}
@@ -34,21 +31,19 @@ use Rattle.lib_os.specs.LibraryCall.{library_step}
 use Rattle.lib_os.specs.LibraryPages.{LibraryPages}
 use Rattle.lib_os.specs.LibrarySteps.{service_answered}
 use Rattle.lib_os.specs.Places.{place_of, is_handlers}
-use Rattle.lib_os.specs.Rows.{Names, EntryRow, rows_of, page_by, page_seen, seen_where, shown_at, is_programs, counted, lasting, logical}
-use Rattle.lib_os.specs.PipeEnds.{EndsStand, EndsStandAt, LocksStand, locked_at}
+use Rattle.lib_os.specs.Rows.{Names, EntryRow, rows_of, page_by, page_seen, seen_where, shown_at, is_programs, counted, lasting}
+use Rattle.lib_os.specs.PipeEnds.{EndsStand, locked_at}
 use Rattle.lib_os.specs.Rows.{descriptor_page, descriptor_seen, is_of_descriptor, name_of, pipe_page}
 use Rattle.lib_os.specs.InService.{IsIn}
-use Rattle.lib_os.specs.StandsFor.{StandsFor, StandsForSlot, StandsForBorn, StandsForUnborn, StandsAt, IsBorneBy, view_of, upcall_at}
-use Rattle.lib_os.specs.StandsFor.{borne_in, things_in}
+use Rattle.lib_os.specs.StandsFor.{StandsFor, StandsForBorn, StandsAt, view_of, upcall_at}
+use Rattle.lib_os.specs.StandsFor.{borne_in}
 use Rattle.lib_os.proofs.Bearing.{IsBearer}
-use Rattle.lib_os.proofs.Children.{same_child, borne_moved, of_parent}
-use Rattle.lib_os.proofs.EntriesStand.{RowsStand, rows_stand, rows_same, rows_turned}
+use Rattle.lib_os.proofs.BornOn.{Becomes, both_stand, parent_was}
 use Rattle.lib_os.proofs.Logical.{programs_beside}
-use Rattle.lib_os.proofs.PipesStand.{calm_locked, calm_places, descriptors_turned, ends_moved, is_calm, locks_same}
+use Rattle.lib_os.proofs.PipesStand.{calm_locked, calm_places, descriptors_turned, ends_moved, is_calm}
 use Rattle.lib_os.proofs.Serving.{back_at_guest, holds_page, step_in, words_of_none}
-use Rattle.lib_os.proofs.Slots.{slot_kept}
-use Rattle.lib_os.proofs.SlotsStand.{SeenAlike, born_live, ids_stand, live_stands}
-use Rattle.lib_os.proofs.StatesStand.{Settles, born_not_first, ends_at, old_set, old_stays, server_same, set_counts, slot_in_order, stopped_settles, tabled_set, turns_settle}
+use Rattle.lib_os.proofs.SlotsStand.{live_stands}
+use Rattle.lib_os.proofs.StatesStand.{ends_at, stopped_settles}
 
 -- ---- the pages of a region
 
@@ -127,22 +122,6 @@ descriptor_same names s d c fd same = by_test (nat_lt fd DESCRIPTORS) refl
 runs_counts : (id : ℕ) (row : EntryRow) (p : ℕ) → counted place.Guest row p ≡ counted (place.InService service.Fork (step.ChildRuns id)) row p
 unfolding counted
 runs_counts id row p = refl
-
-same_space : (names : Names) (sp : SpacesState) (d : ℕ) → SeenAlike names names sp sp d
-same_space names sp d = record {
-  rows = refl;
-  bytes = λ p x is own_page. refl;
-  named_so = λ p x is shared_page. refl;
-  devices = λ p x descriptor is shared_page. refl;
-  pipes = λ p x pipes is shared_page. refl;
-  regions = λ r. refl;
-}
-
-same_step : (at to : Step) → place.InService service.Fork at ≡ place.InService service.Fork to → at ≡ to
-same_step at to same = cc
-
-same_unborn : (id parent other others_parent : ℕ) → unborn id parent ≡ unborn other others_parent → (id ≡ other) × (parent ≡ others_parent)
-same_unborn id parent other others_parent same = (cc, cc)
 
 -- ---- the two
 
@@ -262,116 +241,29 @@ module _ {names : Names} {s : KernelState} {a : AbstractState} (h : StandsFor na
   parent_stands =
       back_at_guest (record k.registers { eax = id }) v.own (ap holds_page v.place) calm in_fork.silent in_fork.awake v.outside refl refl
 
-  slots_stand : (j : ℕ) → StandsForSlot names s.spaces (slots_after j) (abstract_after j)
-  slots_stand =
-      upd-both (λ j (x : Slot) (y : AbstractSlot). StandsForSlot names s.spaces x y) (upd s.environments.slots m child) (upd a.slots m (born newborn))
-      n parent (born back) parent_stands
-      (λ j ne. upd-both (λ j (x : Slot) (y : AbstractSlot). StandsForSlot names s.spaces x y) s.environments.slots a.slots m child (born newborn)
-      child_stands (λ q apart. h.slots q) j)
-
-  -- ---- who bears whom
-
-  slot_parent : slots_after n ≡ parent
-  slot_parent = upd-at (upd s.environments.slots m child) n parent
-
-  slot_child : slots_after m ≡ child
-  slot_child = upd-other (upd s.environments.slots m child) n parent m v.apart ∙ upd-at s.environments.slots m child
-
-  slot_same : (j : ℕ) → j ≢ n → j ≢ m → slots_after j ≡ slot_at s j
-  slot_same j ne apart = upd-other (upd s.environments.slots m child) n parent j ne ∙ upd-other s.environments.slots m child j apart
-
-  abstract_parent : abstract_after n ≡ born back
-  abstract_parent = upd-at (upd a.slots m (born newborn)) n (born back)
-
-  abstract_child : abstract_after m ≡ born newborn
-  abstract_child = upd-other (upd a.slots m (born newborn)) n (born back) m v.apart ∙ upd-at a.slots m (born newborn)
-
-  abstract_same : (j : ℕ) → j ≢ n → j ≢ m → abstract_after j ≡ a.slots j
-  abstract_same j ne apart = upd-other (upd a.slots m (born newborn)) n (born back) j ne ∙ upd-other a.slots m (born newborn) j apart
-
-  others_borne : (j own_id parent_id : ℕ) → j ≢ n → j ≢ m → a.slots j ≡ unborn own_id parent_id →
-      IsBorneBy names s.spaces (slots_after (parent_id % NENV)) (abstract_after (parent_id % NENV)) (slots_after j) own_id parent_id
-  others_borne j own_id parent_id ne apart is =
-      let was = h.children.borne j own_id parent_id is in
-      let parents = of_parent was in
-      let p = parent_id % NENV in
-      let own : StandsForUnborn (slot_at s j) own_id parent_id =
-      subst (λ (y : AbstractSlot). StandsForSlot names s.spaces (slot_at s j) y) is (h.slots j) in
-      let lives : is_live_slot (slot_at s j) ≡ true = live_stands h j ∙ ap (λ (x : AbstractSlot). is_live x) is in
-      let here : own_id % NENV ≡ j = ap (λ (q : ℕ). q % NENV) (sym own.id_is) ∙ h.tabled.ids j lives in
-      let other_parent : p ≢ n = λ same.
-      let one : own_id ≡ id =
-      same_Some own_id id (sym parents.bears ∙ ap (λ (q : ℕ). borne_in (place_of (slot_at s q))) same ∙ ap borne_in v.place ∙ v.borne) in
-      apart (sym here ∙ ap (λ (q : ℕ). q % NENV) one) in
-      let not_child : p ≢ m = λ same.
-      let contradiction : born parents.b ≡ unborn id v.b.id = sym parents.born_by ∙ ap a.slots same ∙ v.child_is in absurd cc in
-      let its_parent = slot_same p other_parent not_child in
-      borne_moved (slots_after p) (abstract_after p) (slots_after j) (ap (λ (x : Slot). place_of x) its_parent)
-      (ap (λ (x : Slot). x.registers) its_parent) (abstract_same p other_parent not_child)
-      (λ q. ap (λ (x : Slot). rows_of s.spaces x.directory q) its_parent)
-      (same_child (slot_at s j) (slots_after j) (slot_same j ne apart)) (same_space names s.spaces (slot_at s j).directory) was
-
-  borne_still : (j own_id parent_id : ℕ) → abstract_after j ≡ unborn own_id parent_id →
-      IsBorneBy names s.spaces (slots_after (parent_id % NENV)) (abstract_after (parent_id % NENV)) (slots_after j) own_id parent_id
-  borne_still j own_id parent_id is =
-      let ne : j ≢ n = λ same.
-      let contradiction : born back ≡ unborn own_id parent_id = sym abstract_parent ∙ ap abstract_after (sym same) ∙ is in absurd cc in
-      let apart : j ≢ m = λ same.
-      let contradiction : born newborn ≡ unborn own_id parent_id = sym abstract_child ∙ ap abstract_after (sym same) ∙ is in absurd cc in
-      others_borne j own_id parent_id ne apart (sym (abstract_same j ne apart) ∙ is)
-
-  -- at their programs the two bear none
-  bears_none : (q own_id : ℕ) (x : Slot) → slots_after q ≡ x → place_of x ≡ place.Guest → borne_in (place_of (slots_after q)) ≡ Some own_id → ⊥
-  bears_none q own_id x is at bears =
-      none-some own_id (sym (ap (λ (y : Slot). borne_in (place_of y)) is ∙ ap borne_in at) ∙ bears)
-
-  have_still : (q own_id : ℕ) (c : Born) → abstract_after q ≡ born c → borne_in (place_of (slots_after q)) ≡ Some own_id →
-      abstract_after (own_id % NENV) ≡ unborn own_id c.id
-  have_still q own_id c is bears =
-      let ne : q ≢ n = λ same. bears_none q own_id parent (ap slots_after same ∙ slot_parent) parent_at bears in
-      let apart : q ≢ m = λ same. bears_none q own_id child (ap slots_after same ∙ slot_child) child_at bears in
-      let was : a.slots q ≡ born c = sym (abstract_same q ne apart) ∙ is in
-      let has = h.children.have q own_id c was (ap (λ (x : Slot). borne_in (place_of x)) (sym (slot_same q ne apart)) ∙ bears) in
-      let r = own_id % NENV in
-      let not_parent : r ≢ n = λ same.
-      let contradiction : born v.b ≡ unborn own_id c.id = sym v.is ∙ ap a.slots (sym same) ∙ has in absurd cc in
-      let not_child : r ≢ m = λ same.
-      let one = same_unborn id v.b.id own_id c.id (sym v.child_is ∙ ap a.slots (sym same) ∙ has) in
-      let lives : is_live_slot (slot_at s q) ≡ true = live_stands h q ∙ ap (λ (x : AbstractSlot). is_live x) was in
-      let named : c.id % NENV ≡ q = ap (λ (i : ℕ). i % NENV) (sym (ids_stand h q ∙ ap slot_id was)) ∙ h.tabled.ids q lives in
-      ne (sym named ∙ ap (λ (i : ℕ). i % NENV) (sym one.1) ∙ v.named) in
-      abstract_same r not_parent not_child ∙ has
-
   -- ---- the state
 
-  abbrev running : KernelState
-  running = with_slot_at s m child
+  bears : borne_in (place_of k) ≡ Some id
+  bears = ap borne_in v.place ∙ v.borne
 
-  parent_was : slot_at running n ≡ k
-  parent_was = slot_kept s m child n (λ same. v.apart (sym same))
+  child_becomes : Becomes (slot_at s m) child
+  child_becomes = record {
+    live = sym child_lives;
+    directory = refl;
+    counts = λ row p. refl;
+    locked = refl;
+    settles = stopped_settles (slot_at s m) child refl refl refl refl;
+  }
 
-  live_so : is_live_slot parent ≡ is_live_slot (slot_at running n)
-  live_so = ap (λ (x : Slot). is_live_slot x) (sym parent_was)
-
-  space_so : parent.directory ≡ (slot_at running n).directory
-  space_so = ap (λ (x : Slot). x.directory) (sym parent_was)
-
-  counts_so : (row : EntryRow) (p : ℕ) → counted (place_of parent) row p ≡ counted (place_of (slot_at running n)) row p
-  counts_so row p =
-      ap (λ (at : Place). counted at row p) parent_at
-      ∙ runs_counts id row p
-      ∙ ap (λ (at : Place). counted at row p) (sym v.place)
-      ∙ ap (λ (x : Slot). counted (place_of x) row p) (sym parent_was)
-
-  all_count : (j p : ℕ) → logical s.spaces slots_after j p ≡ logical s.spaces s.environments.slots j p
-  all_count j p =
-      set_counts running n parent live_so space_so counts_so j p
-      ∙ set_counts s m child (sym child_lives) refl (λ row q. refl) j p
-
-  rows : RowsStand names s.spaces.pages a.shared (things_in s a) a.next_name (logical s.spaces slots_after)
-  rows = rows_same (logical s.spaces s.environments.slots) (logical s.spaces slots_after) all_count (rows_stand h)
-
-  -- ---- ends of pipes, and locks
+  parent_becomes : Becomes k parent
+  parent_becomes = record {
+    live = refl;
+    directory = refl;
+    counts = λ row p.
+        ap (λ (at : Place). counted at row p) parent_at ∙ runs_counts id row p ∙ ap (λ (at : Place). counted at row p) (sym v.place);
+    locked = ap locked_at parent_at ∙ sym (calm_locked (place_of k) calm);
+    settles = record { id = refl; env_type = refl; turns = refl; calm = λ runs. runs };
+  }
 
   pipe_handed : (fd : ℕ) → fd < DESCRIPTORS → is_of_descriptor (pipe_page fd) ≡ true
   pipe_handed fd below = grind (arith, nat_tests)
@@ -387,77 +279,28 @@ module _ {names : Names} {s : KernelState} {a : AbstractState} (h : StandsFor na
       ends_moved (calm_places calm (ap is_calm parent_at)) (λ fd. refl) (λ fd name is. refl) (λ fd below. refl) (λ fd x below is. refl)
       (ends_at h n v.b v.is)
 
-  ends : (j : ℕ) → EndsStandAt names a.objects (place_of (slots_after j)) (rows_of s.spaces (slots_after j).directory) (abstract_after j)
-  ends =
-      upd-both (λ j (x : Slot) (y : AbstractSlot). EndsStandAt names a.objects (place_of x) (rows_of s.spaces x.directory) y)
-      (upd s.environments.slots m child) (upd a.slots m (born newborn)) n parent (born back) parent_ends
-      (λ j ne. upd-both (λ j (x : Slot) (y : AbstractSlot). EndsStandAt names a.objects (place_of x) (rows_of s.spaces x.directory) y)
-      s.environments.slots a.slots m child (born newborn) child_ends (λ q apart. h.ends q) j)
+  abbrev running : KernelState
+  running = with_slot_at s m child
 
-  same_locked : (j : ℕ) → locked_at (place_of (slots_after j)) ≡ locked_at (place_of (slot_at s j))
-  same_locked j =
-      upd-alike (λ (x : Slot). locked_at (place_of x)) (upd s.environments.slots m child) n parent
-      (ap locked_at parent_at ∙ sym (ap (λ (x : Slot). locked_at (place_of x)) parent_was ∙ calm_locked (place_of k) calm)) j
-      ∙ upd-alike (λ (x : Slot). locked_at (place_of x)) s.environments.slots m child refl j
+  both : StandsFor names (with_slot_at running n parent) (with_born (with_born a m newborn) n back)
+  both =
+      both_stand h n id v.b v.is bears newborn back child parent child_at parent_at child_becomes parent_becomes child_stands parent_stands child_ends
+      parent_ends (λ fd. refl) (λ fd. refl)
 
-  locks : LocksStand s.spaces.pages slots_after (logical s.spaces slots_after)
-  locks = locks_same same_locked (λ j p is. all_count j p) (λ j p x is stands shared_page. refl) h.locks
-
-  -- ---- the whole
-
-  child_settles : Settles (slot_at s m) child
-  child_settles = stopped_settles (slot_at s m) child refl refl refl refl
-
-  parent_settles : Settles (slot_at running n) parent
-  parent_settles = record {
-    id = ap (λ (x : Slot). x.id) (sym parent_was);
-    env_type = ap (λ (x : Slot). x.env_type) (sym parent_was);
-    turns = ap (λ (x : Slot). x.runs) (sym parent_was);
-    calm = λ runs. subst (λ (x : Slot). is_running x.status ≡ true) (sym parent_was) runs;
-  }
-
-  not_first : 0 ≢ m
-  not_first first = let contradiction : serving FIRST_ENV_ID ≡ unborn id v.b.id = sym h.first ∙ ap a.slots first ∙ v.child_is in absurd cc
-
-  first_same : slots_after 0 ≡ slot_at s 0
-  first_same = slot_same 0 (born_not_first h n v.b v.is) not_first
-
-  turned : RowsStand names s.spaces.pages a.shared (things_in (with_slot_at running n parent) a) a.next_name (logical s.spaces slots_after)
-  turned = rows_turned (ap (λ (x : Slot). rows_of s.spaces x.directory) first_same) rows
-
-  both_stand : StandsFor names (with_slot_at running n parent) (with_born (with_born a m newborn) n back)
-  both_stand = record {
-    slots = slots_stand;
-    children = record { borne = borne_still; have = have_still };
-    apart = rows.apart;
-    named = turned.named;
-    users = rows.users;
-    whole = rows.whole;
-    beside = turned.beside;
-    ends = ends;
-    locks = locks;
-    runs = turns_settle (upd s.environments.slots m child) n parent (turns_settle s.environments.slots m child h.runs child_settles) parent_settles;
-    old = old_set (old_stays h.old n v.b v.is m newborn (λ fd. refl)) n back (λ fd name names_it. h.old n fd name v.b v.is names_it);
-    free_slots = h.free_slots;
-    first = abstract_same 0 (born_not_first h n v.b v.is) not_first ∙ h.first;
-    server = server_same first_same h.server;
-    input = h.input;
-    last = h.last;
-    turns = h.turns;
-    tabled = tabled_set (tabled_set h.tabled m child child_lives child_settles) n parent
-        (ap (λ (x : Slot). is_live_slot x) parent_was ∙ born_live v.own) parent_settles;
-    in_order = slot_in_order running n parent live_so space_so (slot_in_order s m child (sym child_lives) refl h.in_order);
-  }
+  still_there : slot_at running n ≡ k
+  still_there =
+      parent_was h n id v.b v.is bears newborn back child parent child_at parent_at child_becomes parent_becomes child_stands parent_stands child_ends
+      parent_ends (λ fd. refl) (λ fd. refl)
 
   -- the child is let run, and its parent is answered its id
   pub birth_stands : StandsFor names (service_answered (with_status s m Runnable) n id) (bear a n v.b k.registers m)
   birth_stands =
       let state : service_answered running n id ≡ with_slot_at running n parent =
-      ap (λ (x : Slot). with_slot_at running n (record x { registers = record x.registers { eax = id }; extra = no_extra })) parent_was in
+      ap (λ (x : Slot). with_slot_at running n (record x { registers = record x.registers { eax = id }; extra = no_extra })) still_there in
       let abstract_is : bear a n v.b k.registers m ≡ with_born (with_born a m newborn) n back =
       ap (λ (q : ℕ). answered (with_born a m (child_of v.b k.registers q)) n v.b k.registers q) (ap slot_id v.child_is) in
       subst (λ (t : KernelState). StandsFor names t (bear a n v.b k.registers m)) (sym state)
-      (subst (λ (c : AbstractState). StandsFor names (with_slot_at running n parent) c) (sym abstract_is) both_stand)
+      (subst (λ (c : AbstractState). StandsFor names (with_slot_at running n parent) c) (sym abstract_is) both)
 
   -- which is the last step of fork
   pub birth_step : abs_step a n ≡ Some (bear a n v.b k.registers m)

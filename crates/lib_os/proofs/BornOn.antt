@@ -1,18 +1,17 @@
 -- A child that an environment bears is born: it may run then, and its parent is back at its program. The two stand for what the abstract system has then, and nothing
 -- is seen of anybody else.
-use Rattle.std.proofs.Common.{◌≡◌, ◌≢◌, ◌∙◌, ◌%◌, ℕ, true, false, Some, refl, sym, ap, subst}
+use Rattle.std.proofs.Common.{◌≡◌, ◌≢◌, ◌∙◌, ◌%◌, ℕ, true, Some, refl, sym, ap, subst}
 use Rattle.std.proofs.lemmas.Option.{none-some, same_Some}
 use Rattle.jos_base.specs.declared.numbers.TheConstants.{NENV}
-use Rattle.jos_base.specs.Environments.{Slot, is_live as is_live_slot, is_running}
+use Rattle.jos_base.specs.Environments.{Slot, is_live as is_live_slot}
 use Rattle.jos_base.specs.KernelState.{KernelState, slot_at, with_slot_at}
-use Rattle.jos_base.specs.SpacesState.{SpacesState}
 use Rattle.jos_base.specs.Words.{upd}
 use Rattle.jos_base.proofs.Maps.{upd-alike, upd-at, upd-other, upd-both}
 use Rattle.lib_os.specs.declared.place.Place.TheVariants as place
 use Rattle.lib_os.specs.AbstractState.{AbstractSlot, AbstractState, Born, born, is_live, slot_id, unborn, with_born}
 use Rattle.lib_os.specs.PipeEnds.{EndsStand, EndsStandAt, LocksStand, locked_at}
 use Rattle.lib_os.specs.Places.{place_of}
-use Rattle.lib_os.specs.Rows.{EntryRow, Names, counted, logical, rows_of}
+use Rattle.lib_os.specs.Rows.{Names, counted, logical, rows_of}
 use Rattle.lib_os.specs.StandsFor.{IsBorneBy, StandsFor, StandsForBorn, StandsForSlot, StandsForUnborn, borne_in, things_in}
 use Rattle.lib_os.proofs.Bearing.{same_unborn}
 use Rattle.lib_os.proofs.BearsOn.{bearer_named, borne_apart, borne_is, borne_lives, borne_not_first}

@@ -20,7 +20,7 @@ use Rattle.lib_os.specs.Places.{place_of}
 use Rattle.lib_os.specs.Rows.{Names}
 use Rattle.lib_os.specs.StandsFor.{StandsFor, borne_in}
 use Rattle.lib_os.specs.UserCalls.{CallStep, asking, called_by, giving, system}
-use Rattle.lib_os.proofs.BearsOn.{bearer_named, borne_apart, borne_is, borne_lives, borne_own}
+use Rattle.lib_os.proofs.BearsOn.{borne_apart, borne_is, borne_lives, borne_own}
 use Rattle.lib_os.proofs.Calls.{PageMade, PageRefused, made_is, made_step, system_is}
 use Rattle.lib_os.proofs.ChildCalls.{found_child}
 use Rattle.lib_os.proofs.ChildRuns.{child_runs_is}

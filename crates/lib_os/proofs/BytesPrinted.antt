@@ -74,7 +74,7 @@ reached_to_read s d va e below stands may =
     ap (λ (o : Option Entry). reach_entry o va Read) (walked_below s d (page_number va) below ∙ stands) ∙ rw may refl
 
 -- a byte of a page that an environment has
-page_byte : (records : ℕ → List ℕ) (s : SpacesState) (d va : ℕ) (row : Entry) → page_number va < page_limit →
+pub page_byte : (records : ℕ → List ℕ) (s : SpacesState) (d va : ℕ) (row : Entry) → page_number va < page_limit →
     rows_of s d (page_number va) ≡ Some row → is_page_perm row.perm ≡ true →
     read_byte records s d va ≡ Ok (slice_index (s.pages row.frame) (page_offset va))
 unfolding read_byte

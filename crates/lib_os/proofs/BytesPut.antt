@@ -25,7 +25,7 @@ unfoldable pub bytes_put : List ℕ → ℕ → List ℕ → List ℕ
 bytes_put page at [] = page
 bytes_put page at (byte ∷ rest) = bytes_put (slice_set page at byte) (at + 1) rest
 
-put_length : (page : List ℕ) (at : ℕ) (bytes : List ℕ) → length (bytes_put page at bytes) ≡ length page
+pub put_length : (page : List ℕ) (at : ℕ) (bytes : List ℕ) → length (bytes_put page at bytes) ≡ length page
 unfolding bytes_put
 put_length page at [] = refl
 put_length page at (byte ∷ rest) = put_length (slice_set page at byte) (at + 1) rest ∙ length-set page at byte

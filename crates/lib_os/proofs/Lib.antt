@@ -198,6 +198,7 @@ pub mod PipeOwners
 pub mod PipeFalls
 pub mod UnseenMoved
 pub mod PagesPut
+pub mod SpawnKeeps
 pub mod SpawnOwnPages
 pub mod SpawnTakesPages
 pub mod SpawnPagesTaken
@@ -229,3 +230,5 @@ pub mod BornOn
 pub mod SpawnBirths
 pub mod SpawnedTurns
 pub mod SpawnGivesStack
+pub mod HereStores
+pub mod RegistersSet

@@ -83,25 +83,26 @@ KeepsCopies n s after =
     is_live (slot_at s n) ≡ true → (a : AbstractState) → Stands s a → (m : ℕ) (b : Born) → m ≢ n → a.slots m ≡ born b →
     SpaceKept (slot_at s m).directory s.spaces after.spaces
 
--- how each other environment is left
+-- how each other environment is left, where the state stands for an abstract one
 abbrev pub KeepsOthers : ℕ → KernelState → KernelState → Type 0
-KeepsOthers n s after = IsInOrder s → IsInOrder after → is_live (slot_at s n) ≡ true → OthersStay s n after
+KeepsOthers n s after =
+    IsInOrder s → IsInOrder after → is_live (slot_at s n) ≡ true → (a : AbstractState) → Stands s a → OthersStay s n after
 
 pub places_kept : (s after : KernelState) (n : ℕ) → KeepsOthers n s after → KeepsPlaces n s after
-places_kept s after n others before then_so live m ne was lives =
-    let all = others before then_so live in
+places_kept s after n others before then_so live a h m ne was lives =
+    let all = others before then_so live a h in
     let kept = all.stay m ne was lives in
     kept.place
 
 pub numbers_kept : (s after : KernelState) (n : ℕ) → KeepsOthers n s after → KeepsCopies n s after → KeepsNumbers n s after
 numbers_kept s after n others copies then_so live a h m b ne at lives =
-    let all = others h.1.in_order then_so live in
+    let all = others h.1.in_order then_so live a h in
     let kept = copies live a h m b ne at in
     stays_lower s after m (all.stay m ne (born_live (born_at h.1 m b at)) lives) kept.fewer
 
 pub working_kept : (s after : KernelState) (n : ℕ) → KeepsOthers n s after → KeepsCopies n s after → KeepsWorking n s after
 working_kept s after n others copies then_so live a h m b ne at lives =
-    let all = others h.1.in_order then_so live in
+    let all = others h.1.in_order then_so live a h in
     let kept = all.stay m ne (born_live (born_at h.1 m b at)) lives in
     let space = copies live a h m b ne at in
     ap (λ (d : ℕ). rows_of after.spaces d (page_number UTEMP)) kept.directory ∙ space.working

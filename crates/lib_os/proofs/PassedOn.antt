@@ -214,7 +214,7 @@ rows_given {names = names} {pages = pages} {shared = shared} {things = things} {
       named_old = λ j r y ne hy shared_page was. was;
     }
 
-or_true : (c t : Bool) → t ≡ true → (c || t) ≡ true
+pub or_true : (c t : Bool) → t ≡ true → (c || t) ≡ true
 or_true true t on = refl
 or_true false t on = on
 

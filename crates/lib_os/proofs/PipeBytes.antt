@@ -22,7 +22,7 @@ use Rattle.lib_os.specs.AbstractPipes.{is_read_end, is_such_held, is_write_end, 
 use Rattle.lib_os.specs.AbstractState.{AbstractState, Born, Object, Stage, file, moving, read_end, terminal, write_end}
 use Rattle.lib_os.specs.Answers.{answered, at_stage}
 use Rattle.lib_os.specs.DescriptorPages.{HasObject, HasPipe, Things, held_of, lock_of, pipe_byte, pipe_bytes, read_of, written_of}
-use Rattle.lib_os.specs.Rows.{IsPage}
+use Rattle.lib_os.specs.Rows.{AreBytes, IsPage}
 use Rattle.lib_os.specs.StandsAtPipe.{stage_put, stage_taken}
 use Rattle.lib_os.proofs.BytesPut.{bytes_put, put_before, put_behind, put_there, put_whole}
 use Rattle.lib_os.proofs.DescriptorWords.{file_beside}
@@ -87,6 +87,11 @@ four_small : (a b c d : ℕ) → a < 256 → b < 256 → c < 256 → d < 256 →
 four_small a b c d first second third fourth = omega (arith, first, second, third, fourth)
 
 -- a word of a page is one
+pub word_under : (bytes : List ℕ) (o : ℕ) → AreBytes bytes → word_at (slice_index bytes) o < 2 ^ 32
+word_under bytes o small =
+    four_small (slice_index bytes o) (slice_index bytes (o + 1)) (slice_index bytes (o + 2)) (slice_index bytes (o + 3))
+    (small o) (small (o + 1)) (small (o + 2)) (small (o + 3))
+
 pub word_small : (page : List ℕ) (o : ℕ) → IsPage page → word_at (slice_index page) o < 2 ^ 32
 word_small page o whole =
     four_small (slice_index page o) (slice_index page (o + 1)) (slice_index page (o + 2)) (slice_index page (o + 3))

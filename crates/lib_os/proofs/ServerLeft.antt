@@ -711,6 +711,13 @@ module _ (s : KernelState) (n number : ℕ) (args : List ℕ) where
       keeps_server s (system s n number args).state n
       (λ order b stood d h. server_by d h (λ is. absurd (let contradiction : true ≡ false = sym is ∙ parts.1 in cc)) (aside a stands)) then_so other live a stands
 
+-- the registers of one that it may change are set
+pub trapframe_server : (s : KernelState) (n : ℕ) (args : List ℕ) → KeepsServer n s (system s n SYS_ENV_SET_TRAPFRAME args).state
+trapframe_server s n args then_so other live a stands =
+    keeps_server s (system s n SYS_ENV_SET_TRAPFRAME args).state n
+    (λ order b stood d h. server_by s n SYS_ENV_SET_TRAPFRAME args d h (λ is. absurd (let contradiction : false ≡ true = is in cc)) refl)
+    then_so other live a stands
+
 -- a child that is made
 pub exofork_server : (s : KernelState) (n : ℕ) → KeepsServer n s (system s n SYS_EXOFORK (given (slot_at s n).registers)).state
 exofork_server s n then_so other live a stands =

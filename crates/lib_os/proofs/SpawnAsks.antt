@@ -200,8 +200,8 @@ module _ (s : KernelState) (n path argv : ℕ) (from pausing awaiting : SpawnSte
     pub spawn_asked_stands : StandsFor names (with_extra (page_asked s sp n word) n (spawn_words awaiting))
         (at_stage (with_request_of a n asks_now.does.request) n (with_spawning b asks_now.found) (service.Spawn path argv) asked)
     spawn_asked_stands =
-        goes.shown names (page_asked s sp n word) (with_request_of a n asks_now.does.request) comes_there (ap (λ (k : Slot). place_of k) kept ∙ stands) b (spawn_there h n path argv from stands).is asks_now.found asked asks_now.loads_on
-        has_asked_there
+        goes.shown names (page_asked s sp n word) (with_request_of a n asks_now.does.request) comes_there
+        (ap (λ (k : Slot). place_of k) kept ∙ stands) b (spawn_there h n path argv from stands).is asks_now.found asked asks_now.loads_on has_asked_there
 
   pub spawn_asked_keeps : IsInOrder mid → (page_ask_call s n word).gives ≡ got (Answered 0) →
       KeepsStanding progress.Visible n s (with_extra mid n (spawn_words awaiting)) []

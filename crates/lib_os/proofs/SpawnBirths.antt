@@ -1,15 +1,14 @@
 -- Spawn's child is born: its parent's last step lets it run and answers. The child has the memory of its image, and what its parent shares, and its parent's
 -- descriptors.
-use Rattle.std.proofs.Common.{◌≡◌, ◌≢◌, ◌∙◌, ◌+◌, ◌-◌, ◌*◌, ◌/◌, ◌%◌, ◌<◌, ◌≤◌, ◌==◌, ◌&&◌, ◌||◌, ◌++◌, ℕ, Bool, true, false, not, List, [], Option, Some, None}
+use Rattle.std.proofs.Common.{◌≡◌, ◌∙◌, ◌-◌, ◌%◌, ◌<◌, ◌==◌, ◌||◌, ℕ, Bool, true, false, not, List, [], Option, Some, None}
 use Rattle.std.proofs.Common.{is_some, refl, sym, ap, subst, arith, if◌then◌else◌}
-use Rattle.std.specs.Prelude.{nat_le, nat_lt, slice_index}
+use Rattle.std.specs.Prelude.{nat_le, slice_index}
 use Rattle.std.proofs.lemmas.Bool.Decides.{nat_tests}
 use Rattle.jos_base.specs.declared.environment.Status.TheVariants.{Runnable}
-use Rattle.jos_base.specs.declared.numbers.TheConstants.{NENV, PGSIZE, USTACKTOP, UTEMP, UTOP}
+use Rattle.jos_base.specs.declared.numbers.TheConstants.{NENV, UTEMP}
 use Rattle.jos_base.specs.declared.registers.Regs.{Regs}
 use Rattle.jos_base.specs.Environments.{Slot, is_live as is_live_slot, no_extra}
 use Rattle.jos_base.specs.KernelState.{KernelState, slot_at, with_slot_at, with_status}
-use Rattle.jos_base.specs.Reach.{Entry}
 use Rattle.jos_base.specs.TrapFrames.{user_flags}
 use Rattle.jos_base.specs.Words.{page_number, upd}
 use Rattle.jos_base.proofs.Maps.{upd-at}
@@ -17,7 +16,7 @@ use Rattle.jos_elf.specs.Headers.{entry_count_of, entry_point_of}
 use Rattle.jos_elf.specs.Parsed.{segments_of}
 use Rattle.jos_elf.specs.StackPage.{stack_pointer}
 use Rattle.jos_elf.specs.Started.{program_registers}
-use Rattle.lib_os.specs.declared.numbers.TheConstants.{DESCRIPTORS, PFTEMP, PGFAULT_UPCALL, SPAWN_GIVEN, SPAWN_HERE, SPAWN_STACK, UXSTACK}
+use Rattle.lib_os.specs.declared.numbers.TheConstants.{DESCRIPTORS, PFTEMP, SPAWN_GIVEN, SPAWN_HERE, SPAWN_STACK}
 use Rattle.lib_os.specs.declared.place.Place.{Place}
 use Rattle.lib_os.specs.declared.place.Place.TheVariants as place
 use Rattle.lib_os.specs.declared.place.Step.TheVariants as step
@@ -28,7 +27,7 @@ use Rattle.lib_os.specs.declared.spawn_steps.SpawnStep.TheVariants as spawn
 use Rattle.lib_os.specs.AbstractMemory.{has_page_in}
 use Rattle.lib_os.specs.AbstractRun.{abs_step}
 use Rattle.lib_os.specs.AbstractSpawn.{all_of, child_born, headers_in, image_memory, packed, spawn_answered, spawn_step, spawned, spawned_memory, under_shared}
-use Rattle.lib_os.specs.AbstractState.{AbstractSlot, AbstractState, Born, ImageRead, Page, Spawning, at_guest, born, closed, guest, slot_id, taking, with_born}
+use Rattle.lib_os.specs.AbstractState.{AbstractState, Born, ImageRead, Page, Spawning, at_guest, born, closed, guest, slot_id, taking, with_born}
 use Rattle.lib_os.specs.Fence.{is_resident}
 use Rattle.lib_os.specs.LibraryCall.{library_step}
 use Rattle.lib_os.specs.LibraryPages.{LibraryPages, is_library_region}
@@ -36,7 +35,7 @@ use Rattle.lib_os.specs.LibrarySteps.{service_answered}
 use Rattle.lib_os.specs.PipeEnds.{EndsStand, locked_at}
 use Rattle.lib_os.specs.Places.{is_handlers, place_of}
 use Rattle.lib_os.specs.ProgramMemory.{program_memory}
-use Rattle.lib_os.specs.Rows.{EntryRow, Names, counted, descriptor_page, descriptor_seen, is_of_descriptor, is_programs, page_seen, pipe_page, rows_of}
+use Rattle.lib_os.specs.Rows.{Names, counted, descriptor_page, descriptor_seen, is_of_descriptor, is_programs, page_seen, pipe_page, rows_of}
 use Rattle.lib_os.specs.SpawnedChild.{Loads, Progress, child_page, handler_of, is_closed, is_loading, own_page, passing, registers_of}
 use Rattle.lib_os.specs.StandsAtSpawn.{IsClosed}
 use Rattle.lib_os.specs.StandsFor.{StandsAt, StandsFor, StandsForBorn, borne_in, upcall_at, view_of}
@@ -47,6 +46,7 @@ use Rattle.lib_os.proofs.PipesStand.{calm_locked, calm_places, descriptors_turne
 use Rattle.lib_os.proofs.Serving.{IsServed, back_at_guest, holds_page, kept_where, service_step, words_of_none}
 use Rattle.lib_os.proofs.SpawnedGoes.{IsSpawner, spawner}
 use Rattle.lib_os.proofs.SpawnedImage.{none_outside, whole_page}
+use Rattle.lib_os.proofs.SpawnKeeps.{none_childs, none_kept}
 use Rattle.lib_os.proofs.SpawnOwnPages.{spawn_there, spawns_at}
 use Rattle.lib_os.proofs.SpawnRefuses.{born_twice, spawning_over}
 use Rattle.lib_os.proofs.StatesStand.{CountsAlike, ends_at, stopped_settles}
@@ -66,22 +66,6 @@ closed_same {pieces = pieces} (is_closed had more) same =
 -- where nothing is shared a page of the child's own is seen
 alone_under : (o q : Option Page) → o ≡ None → under_shared o q ≡ q
 alone_under o q none = ap (λ (x : Option Page). under_shared x q) none
-
-none_kept : (c d e : Bool) → ((c && false) || (d && false) || (e && false)) ≡ false
-none_kept true true true = refl
-none_kept true true false = refl
-none_kept true false true = refl
-none_kept true false false = refl
-none_kept false true true = refl
-none_kept false true false = refl
-none_kept false false true = refl
-none_kept false false false = refl
-
-no_childs : (c d : Bool) → ((c && false) || (d && false)) ≡ false
-no_childs true true = refl
-no_childs true false = refl
-no_childs false true = refl
-no_childs false false = refl
 
 -- a stack pointer below the top of the stack is not the library's
 stack_low : (words : List (List ℕ)) → is_handlers (stack_pointer words) || not (is_resident (stack_pointer words)) ≡ true
@@ -253,7 +237,7 @@ module _ {names : Names} {s : KernelState} {a : AbstractState} (h : StandsFor na
   unfolding counted
   counts_so row p =
       ap (λ (at : Place). counted at row p) parent_at
-      ∙ sym (ap (λ (c : Bool). if c then None else row p) (no_childs (p == page_number SPAWN_HERE) (p == page_number SPAWN_STACK)))
+      ∙ sym (ap (λ (c : Bool). if c then None else row p) (none_childs (p == page_number SPAWN_HERE) (p == page_number SPAWN_STACK)))
       ∙ ap (λ (at : Place). counted at row p) (sym stands)
 
   parent_becomes : Becomes k parent

@@ -1,16 +1,16 @@
 -- Spawn whose child has all bytes drops the descriptor of its file, which is its next step in the abstract system; behind that it passes on what it shares.
-use Rattle.std.proofs.Common.{◌≡◌, ◌≢◌, ◌∙◌, ◌+◌, ◌*◌, ◌/◌, ◌%◌, ◌<◌, ◌≤◌, ◌==◌, ◌&&◌, ◌||◌, ◌++◌, ℕ, Bool, true, false, List, [], ◌∷◌, length, refl, sym, ap, subst, arith, if◌then◌else◌}
-use Rattle.std.specs.Prelude.{drop, is_some, nat_le, nat_lt, slice_index, Option, Some, None}
+use Rattle.std.proofs.Common.{◌≡◌, ◌≢◌, ◌∙◌, ◌+◌, ◌*◌, ◌%◌, ◌<◌, ◌==◌, ◌++◌, ℕ, Bool, true, false, List, [], ◌∷◌, length, refl, sym, ap, subst, arith, if◌then◌else◌}
+use Rattle.std.specs.Prelude.{drop, nat_le, slice_index, Some}
 use Rattle.std.proofs.lemmas.Bool.{false≢true}
 use Rattle.std.proofs.lemmas.Bool.Decides.{nat_tests}
 use Rattle.std.proofs.lemmas.List.{append_assoc, append-nil, drop-drop, length-append}
-use Rattle.jos_base.specs.declared.numbers.TheConstants.{FDTABLE, NENV, NPTENTRIES, USTACKTOP}
-use Rattle.jos_base.specs.Environments.{Slot, is_live as is_live_slot}
+use Rattle.jos_base.specs.declared.numbers.TheConstants.{NENV, NPTENTRIES, USTACKTOP}
+use Rattle.jos_base.specs.Environments.{Slot}
 use Rattle.jos_base.specs.KernelState.{KernelState, slot_at, with_extra, with_spaces}
 use Rattle.jos_base.specs.SpacesState.{SpacesState}
 use Rattle.jos_base.specs.Words.{page_number}
 use Rattle.jos_elf.specs.Headers.{entry_count_of}
-use Rattle.lib_os.specs.declared.numbers.TheConstants.{DESCRIPTORS, SPAWN_HERE, SPAWN_STACK, UXSTACK}
+use Rattle.lib_os.specs.declared.numbers.TheConstants.{SPAWN_HERE, SPAWN_STACK, UXSTACK}
 use Rattle.lib_os.specs.declared.place.Step.TheVariants as step
 use Rattle.lib_os.specs.declared.progress.Progress.TheVariants as progress
 use Rattle.lib_os.specs.declared.service.Service.TheVariants as service
@@ -19,18 +19,16 @@ use Rattle.lib_os.specs.declared.spawn_steps.SpawnStep.{SpawnStep}
 use Rattle.lib_os.specs.declared.spawn_steps.SpawnStep.TheVariants as spawn
 use Rattle.lib_os.specs.AbstractRun.{abs_step}
 use Rattle.lib_os.specs.AbstractSpawn.{Piece, all_of, pieces_left, pieces_wanted, spawn_step, under_shared}
-use Rattle.lib_os.specs.AbstractState.{AbstractState, Born, ImageRead, Phase, Spawning, Stage, closed, in_service, loading, replied, taking, with_born}
+use Rattle.lib_os.specs.AbstractState.{AbstractState, Born, ImageRead, Phase, Spawning, Stage, closed, in_service, loading, taking, with_born}
 use Rattle.lib_os.specs.Fence.{in_fence}
-use Rattle.lib_os.specs.FileServer.{is_count}
 use Rattle.lib_os.specs.InOrder.{IsInOrder}
 use Rattle.lib_os.specs.LibraryCall.{library_step}
 use Rattle.lib_os.specs.LibraryPages.{IsOwnWritable, View, region_index}
 use Rattle.lib_os.specs.LibrarySteps.{GoesOn, KeepsStanding}
 use Rattle.lib_os.specs.Places.{place_of}
-use Rattle.lib_os.specs.ProgramMemory.{stack_of}
 use Rattle.lib_os.specs.Rows.{EntryRow, Names, descriptor_page, is_of_descriptor, is_programs, rows_of}
 use Rattle.lib_os.specs.SpawnedChild.{Loads, Progress, bytes_replied, child_page, handler_of, is_closed, no_page_passed, own_page, passing, registers_of}
-use Rattle.lib_os.specs.StandsAtSpawn.{HasAllBytes, HasPieces, IsClosed, StandsAtSpawn, and_last, none_yet}
+use Rattle.lib_os.specs.StandsAtSpawn.{HasAllBytes, HasPieces, StandsAtSpawn, and_last, none_yet}
 use Rattle.lib_os.specs.StandsFor.{StandsFor, view_of}
 use Rattle.lib_os.proofs.DescriptorsStand.{drop_removes, dropped, removed_puts}
 use Rattle.lib_os.proofs.PagesStand.{others_seen}
@@ -39,7 +37,8 @@ use Rattle.lib_os.proofs.SlotsStand.{SeenAlike, born_live, but_pipes, seen_but_p
 use Rattle.lib_os.proofs.SpawnDrops.{drops_file_bearing, file_gone, no_pipe_there, spawns_object}
 use Rattle.lib_os.proofs.SpawnedGoes.{HasOfImage, IsSpawner, spawner}
 use Rattle.lib_os.proofs.SpawnedMoves.{spawned_lives}
-use Rattle.lib_os.proofs.SpawnedProgress.{loads_same, page_same}
+use Rattle.lib_os.proofs.SpawnedProgress.{loads_same}
+use Rattle.lib_os.proofs.SpawnKeeps.{none_childs}
 use Rattle.lib_os.proofs.SpawnOwnPages.{spawn_there, spawn_words, spawns_at}
 use Rattle.lib_os.proofs.SpawnUndoes.{found_after}
 
@@ -66,12 +65,6 @@ come_so {pieces = pieces} none_yet is =
     ap (λ (p : Phase). all_of pieces ++ bytes_replied p) is ∙ append-nil (all_of pieces)
 come_so {pieces = pieces} (and_last bytes answer piece rest left long counts) is =
     ap (λ (p : Phase). all_of pieces ++ bytes_replied p) is ∙ sym (all_more pieces bytes)
-
-none_childs : (c d : Bool) → ((c && false) || (d && false)) ≡ false
-none_childs true true = refl
-none_childs true false = refl
-none_childs false true = refl
-none_childs false false = refl
 
 -- ---- the step
 

@@ -1,6 +1,5 @@
 -- Spawn destroys the child that it bears: its space is gone, nobody else's is seen to change, its slot is the next to be given, and spawn bears none.
-use Rattle.std.proofs.Common.{◌≡◌, ◌≢◌, ◌∙◌, ◌<◌, ◌==◌, ◌%◌, ℕ, Bool, true, false, List, ◌∷◌, None, Some, refl, sym, ap, subst, arith}
-use Rattle.std.proofs.lemmas.Bool.Decides.{nat_tests}
+use Rattle.std.proofs.Common.{◌≡◌, ◌≢◌, ◌∙◌, ◌<◌, ◌%◌, ℕ, true, false, List, ◌∷◌, None, Some, refl, sym, ap, subst, arith}
 use Rattle.std.proofs.lemmas.Option.{none-some, same_Some}
 use Rattle.jos_base.specs.declared.numbers.TheConstants.{NENV}
 use Rattle.jos_base.specs.Environments.{Slot, free_slot, is_live as is_live_slot}
@@ -12,10 +11,10 @@ use Rattle.jos_base.specs.Words.{upd}
 use Rattle.lib_os.specs.declared.numbers.TheConstants.{DESCRIPTORS}
 use Rattle.lib_os.specs.AbstractState.{AbstractState, AbstractSlot, Born, born, free, is_live, unborn, with_born, with_slot}
 use Rattle.lib_os.specs.InOrder.{IsInOrder}
-use Rattle.lib_os.specs.PipeEnds.{EndsStand, EndsStandAt, LocksStand, locked_at}
+use Rattle.lib_os.specs.PipeEnds.{EndsStandAt, LocksStand, locked_at}
 use Rattle.lib_os.specs.Places.{place_of}
 use Rattle.lib_os.specs.Rows.{EntryRow, IsPage, Names, counted, is_clients, logical, pipe_page, rows_of}
-use Rattle.lib_os.specs.StandsFor.{HasChildren, IsBorneBy, StandsFor, StandsForBorn, StandsForSlot, StandsForUnborn, borne_in, things_in}
+use Rattle.lib_os.specs.StandsFor.{IsBorneBy, StandsFor, StandsForBorn, StandsForSlot, StandsForUnborn, borne_in, things_in}
 use Rattle.lib_os.proofs.Bearing.{of_slots}
 use Rattle.lib_os.proofs.BearsOn.{bearer_named, borne_apart, borne_is, borne_lives, borne_not_first, borne_own, borne_space}
 use Rattle.lib_os.proofs.Children.{borne_moved, of_parent, same_child}
@@ -25,7 +24,7 @@ use Rattle.lib_os.proofs.EntriesStand.{RowsStand, named_bytes, rows_turned}
 use Rattle.lib_os.proofs.Logical.{clients_so, logical_alike, logical_live, logical_some}
 use Rattle.lib_os.proofs.Serving.{words_of_none}
 use Rattle.lib_os.proofs.PipesStand.{calm_locked, calm_places, ends_moved, ends_stay, is_calm}
-use Rattle.lib_os.proofs.SlotsStand.{CountsKept, SeenAlike, born_at, born_live, but_pipes, live_stands, slot_stands}
+use Rattle.lib_os.proofs.SlotsStand.{SeenAlike, born_at, born_live, but_pipes, live_stands, slot_stands}
 use Rattle.lib_os.proofs.StatesStand.{CountsAlike, Settles, born_not_first, clients_live, ends_at, old_gone, old_stays, others_counts, server_alike, server_same}
 use Rattle.lib_os.proofs.StatesStand.{tabled_freed, tabled_set, turns_set, turns_settle}
 use Rattle.jos_base.proofs.Maps.{upd-at, upd-other}

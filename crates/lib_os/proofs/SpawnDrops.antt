@@ -1,6 +1,6 @@
 -- Spawn drops the descriptor of its file, and has found out something else by then: its page is unmapped, and nothing else of anybody is seen to change.
-use Rattle.std.proofs.Common.{◌≡◌, ◌≢◌, ◌∙◌, ◌<◌, ◌==◌, ◌&&◌, ◌||◌, ◌+◌, ◌%◌, ℕ, Bool, true, false, not, List, [], Option, Some, None, refl, sym, ap, subst, arith, if◌then◌else◌}
-use Rattle.std.specs.Prelude.{is_some, nat_lt}
+use Rattle.std.proofs.Common.{◌≡◌, ◌≢◌, ◌∙◌, ◌<◌, ◌==◌, ◌%◌, ℕ, Bool, true, false, Option, Some, None, refl, sym, ap, subst, arith, if◌then◌else◌}
+use Rattle.std.specs.Prelude.{nat_lt}
 use Rattle.std.specs.Option.{option_map}
 use Rattle.std.proofs.lemmas.Bool.Decides.{nat_tests}
 use Rattle.std.proofs.lemmas.Option.{none-some, same_Some}
@@ -9,7 +9,7 @@ use Rattle.jos_base.specs.Environments.{Slot}
 use Rattle.jos_base.specs.KernelState.{KernelState, slot_at, with_extra, with_slot_at, with_spaces}
 use Rattle.jos_base.specs.Reach.{Entry}
 use Rattle.jos_base.specs.SpacesState.{SpacesState, put}
-use Rattle.jos_base.specs.Words.{page_number, upd}
+use Rattle.jos_base.specs.Words.{upd}
 use Rattle.jos_base.proofs.Maps.{upd-all, upd-alike, upd-at, upd-other}
 use Rattle.jos_base.proofs.Puts.{Elsewhere, put-at, put-other}
 use Rattle.lib_os.specs.declared.numbers.TheConstants.{DESCRIPTORS, SERVICE_SPAWN}
@@ -20,12 +20,12 @@ use Rattle.lib_os.specs.declared.service.Service.{Service}
 use Rattle.lib_os.specs.declared.service.Service.TheVariants as service
 use Rattle.lib_os.specs.declared.spawn_steps.SpawnStep.{SpawnStep}
 use Rattle.lib_os.specs.AbstractRun.{pipe_of}
-use Rattle.lib_os.specs.AbstractState.{AbstractState, Born, Object, OpenFile, Stage, Spawning, born, file, in_service, with_born}
+use Rattle.lib_os.specs.AbstractState.{AbstractState, Born, Object, Stage, Spawning, born, file, in_service, with_born}
 use Rattle.lib_os.specs.Descriptors.{object_of, with_descriptor}
 use Rattle.lib_os.specs.InOrder.{IsInOrder}
 use Rattle.lib_os.specs.PipeEnds.{EndsStand, locked_at}
 use Rattle.lib_os.specs.Places.{place_of}
-use Rattle.lib_os.specs.Rows.{EntryRow, Names, Rows, counted, descriptor_page, descriptor_seen, is_clients, is_of_descriptor, is_pipe_page, is_programs, is_shared}
+use Rattle.lib_os.specs.Rows.{Names, Rows, counted, descriptor_page, descriptor_seen, is_clients, is_of_descriptor, is_pipe_page, is_programs}
 use Rattle.lib_os.specs.Rows.{logical, name_of, page_by, page_seen, pipe_page, rows_of, seen_where, shown_at}
 use Rattle.lib_os.specs.SpawnedChild.{spawning_child}
 use Rattle.lib_os.specs.SpawnPages.{is_childs}
@@ -37,17 +37,17 @@ use Rattle.lib_os.proofs.DescriptorsStand.{library_put_there, removed_puts, remo
 use Rattle.lib_os.proofs.DeviceLooks.{NamesFile, names_file_beside}
 use Rattle.lib_os.proofs.Effects.{Removed}
 use Rattle.lib_os.proofs.EntriesStand.{RowsStand, put_is, rows_put, rows_same, rows_stand, shown_same}
-use Rattle.lib_os.proofs.Logical.{clients_so, is_making_pipe, is_plain, is_remapped, logical_live, programs_no_descriptor, unborne_plain}
+use Rattle.lib_os.proofs.Logical.{is_remapped, logical_live, programs_no_descriptor}
 use Rattle.lib_os.proofs.Numbered.{named_at}
 use Rattle.lib_os.proofs.PagesStand.{Puts, bytes_elsewhere, others_seen}
-use Rattle.lib_os.proofs.PipesStand.{calm_made, calm_on_way, calm_places, descriptors_turned, ends_at_one, is_calm, locks_beside}
+use Rattle.lib_os.proofs.PipesStand.{calm_made, calm_on_way, calm_places, ends_at_one, is_calm, locks_beside}
 use Rattle.lib_os.proofs.Serving.{IsServed, holds_page, library_moved, plain_copy, plain_upcall, plain_working}
 use Rattle.lib_os.proofs.Slots.{slot_back, upd-back}
-use Rattle.lib_os.proofs.SlotsStand.{SeenAlike, born_at, born_live, descriptor_shown}
+use Rattle.lib_os.proofs.SlotsStand.{SeenAlike, born_at, descriptor_shown}
 use Rattle.lib_os.proofs.SpawnedGoes.{HasOfImage, spawned_child}
 use Rattle.lib_os.proofs.SpawnedMoves.{descriptor_mine}
 use Rattle.lib_os.proofs.SpawnOwnPages.{spawn_there, spawn_words, spawns_at}
-use Rattle.lib_os.proofs.StatesStand.{born_not_first, clients_live, ends_at, old_with, others_count, others_counts, own_moves, slot_in_order}
+use Rattle.lib_os.proofs.StatesStand.{clients_live, ends_at, old_with, others_count, others_counts, own_moves, slot_in_order}
 use Rattle.lib_os.proofs.WordsTell.{is_in_handler, place_at}
 
 -- ---- the file

@@ -1,10 +1,9 @@
 -- Spawn that bears a child gives it a page: one entry of the child's space is another, and no other entry, nor the bytes of any page. The kernel's state goes on
 -- standing for the same abstract one, where the child has what it is to have.
-use Rattle.std.proofs.Common.{◌≡◌, ◌≢◌, ◌∙◌, ◌%◌, ◌==◌, ℕ, Bool, true, false, List, Some, None, is_some, refl, sym, ap, subst, arith, if◌then◌else◌}
+use Rattle.std.proofs.Common.{◌≡◌, ◌≢◌, ◌∙◌, ◌%◌, ℕ, true, false, Some, None, is_some, refl, sym, ap, subst, if◌then◌else◌}
 use Rattle.std.proofs.lemmas.Bool.{false≢true}
-use Rattle.std.proofs.lemmas.Bool.Decides.{nat_tests}
 use Rattle.jos_base.specs.declared.numbers.TheConstants.{NENV}
-use Rattle.jos_base.specs.Environments.{Slot, is_live as is_live_slot}
+use Rattle.jos_base.specs.Environments.{Slot}
 use Rattle.jos_base.specs.KernelState.{KernelState, slot_at, with_extra, with_spaces}
 use Rattle.jos_base.specs.Reach.{Entry}
 use Rattle.jos_base.specs.SpacesState.{SpacesState, put}
@@ -18,7 +17,7 @@ use Rattle.lib_os.specs.AbstractState.{AbstractState, Born}
 use Rattle.lib_os.specs.DescriptorPages.{lasting_words}
 use Rattle.lib_os.specs.InOrder.{IsInOrder}
 use Rattle.lib_os.specs.Places.{place_of}
-use Rattle.lib_os.specs.Rows.{EntryRow, Names, Rows, counted, is_of_descriptor, is_pipe_page, is_shared, logical, rows_of}
+use Rattle.lib_os.specs.Rows.{EntryRow, Names, Rows, counted, is_shared, logical, rows_of}
 use Rattle.lib_os.specs.SpawnedChild.{spawning_child}
 use Rattle.lib_os.specs.SpawnPages.{is_childs}
 use Rattle.lib_os.specs.StandsAtSpawn.{StandsAtSpawn}
@@ -27,7 +26,7 @@ use Rattle.lib_os.proofs.Bearing.{of_slots}
 use Rattle.lib_os.proofs.EntriesStand.{PutsRow, RowsStand, put_is, rows_put, rows_same, rows_stand}
 use Rattle.lib_os.proofs.Logical.{logical_some}
 use Rattle.lib_os.proofs.Serving.{IsServed, holds_page}
-use Rattle.lib_os.proofs.SlotsStand.{SeenAlike, born_at, born_live, born_stands, counts_unpiped, is_piped}
+use Rattle.lib_os.proofs.SlotsStand.{SeenAlike, born_stands, counts_unpiped, is_piped}
 use Rattle.lib_os.proofs.SpawnedGoes.{HasOfImage, IsSpawner, spawner, went_own}
 use Rattle.lib_os.proofs.SpawnedMoves.{others_spawning, spawned_counted, spawned_counts, spawned_lives, spawner_apart, spawner_counted, spawner_counts, spawning_moves}
 use Rattle.lib_os.proofs.SpawnOwnPages.{spawn_there, spawn_words, spawns_at}

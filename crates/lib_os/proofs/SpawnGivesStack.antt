@@ -6,9 +6,7 @@ use Rattle.std.proofs.lemmas.Bool.{false≢true}
 use Rattle.std.proofs.lemmas.Bool.Decides.{nat_tests}
 use Rattle.std.proofs.lemmas.List.{ext_get_or, length-take}
 use Rattle.std.proofs.lemmas.Option.{none-some, same_Some}
-use Rattle.jos_base.specs.declared.called.Called.{Called}
 use Rattle.jos_base.specs.declared.numbers.TheConstants.{NENV, NPTENTRIES, PGSIZE, SYS_PAGE_MAP, USTACKTOP, UTEMP}
-use Rattle.jos_base.specs.Environments.{Slot}
 use Rattle.jos_base.specs.KernelState.{KernelState, slot_at, with_extra, with_spaces}
 use Rattle.jos_base.specs.Reach.{Entry}
 use Rattle.jos_base.specs.SpacesState.{SpacesState, inserted, overlaid, put, zero_page}
@@ -30,28 +28,28 @@ use Rattle.lib_os.specs.declared.spawn_steps.SpawnStep.TheVariants as spawn
 use Rattle.lib_os.specs.AbstractMemory.{has_page_in}
 use Rattle.lib_os.specs.AbstractSpawn.{under_shared}
 use Rattle.lib_os.specs.AbstractState.{AbstractState, Born, ImageRead, Page, own}
+use Rattle.lib_os.specs.Fence.{in_fence}
 use Rattle.lib_os.specs.InOrder.{IsInOrder}
 use Rattle.lib_os.specs.LibraryPages.{IsOwnWritable, has_spawns, is_library_region}
 use Rattle.lib_os.specs.Places.{place_of}
 use Rattle.lib_os.specs.ProgramMemory.{stack_of}
-use Rattle.lib_os.specs.Rows.{Agree, EntryRow, IsNamed, IsPage, IsUsers, MayBeHad, Names, Rows, counted, is_cow, is_of_descriptor, is_programs, is_shared, lasting, logical}
-use Rattle.lib_os.specs.Rows.{may_write, page_seen, rows_of}
+use Rattle.lib_os.specs.Rows.{IsPage, IsUsers, MayBeHad, Names, Rows, counted, is_cow, is_of_descriptor, is_programs, is_shared, lasting, logical}
+use Rattle.lib_os.specs.Rows.{page_seen, rows_of}
 use Rattle.lib_os.specs.SpawnedChild.{IsHere, Progress, child_page, handler_of, image_page, no_page_passed, own_page, page_here, passing, registers_of, with_handler}
 use Rattle.lib_os.specs.SpawnPages.{is_childs}
-use Rattle.lib_os.specs.StandsAtSpawn.{HasAllBytes, HasStackFor}
+use Rattle.lib_os.specs.StandsAtSpawn.{HasStackFor}
 use Rattle.lib_os.specs.StandsFor.{StandsFor, borne_in, things_in, view_of}
-use Rattle.lib_os.specs.UserCalls.{CallStep, system}
+use Rattle.lib_os.specs.UserCalls.{system}
 use Rattle.lib_os.proofs.Bearing.{of_slots}
 use Rattle.lib_os.proofs.BorneCalls.{borne_map_is}
 use Rattle.lib_os.proofs.Calls.{made_step}
 use Rattle.lib_os.proofs.Effects.{Given}
 use Rattle.lib_os.proofs.EntriesStand.{PutsRow, RowsStand, named_bytes, put_is, rows_put, rows_same, rows_stand, seen_at, seen_by, seen_own}
 use Rattle.lib_os.proofs.EntryWords.{row_entry}
-use Rattle.lib_os.proofs.Logical.{programs_beside}
 use Rattle.lib_os.proofs.PageBytes.{zero_page_whole}
 use Rattle.lib_os.proofs.PagesPut.{overlaid_length}
 use Rattle.lib_os.proofs.PageTaken.{working_perm}
-use Rattle.lib_os.proofs.PassedOn.{given_with}
+use Rattle.lib_os.proofs.PassedOn.{given_with, or_true}
 use Rattle.lib_os.proofs.Placing.{inserted_given}
 use Rattle.lib_os.proofs.Puts.{put-found}
 use Rattle.lib_os.proofs.Remapping.{lasting_write}
@@ -61,7 +59,9 @@ use Rattle.lib_os.proofs.SpawnedProgress.{loads_same}
 use Rattle.lib_os.proofs.SpawnedMoves.{others_spawning, spawned_counted, spawned_counts, spawned_lives, spawner_counted, spawner_counts}
 use Rattle.lib_os.proofs.SpawnGivesChild.{PutsInChild, given_bytes, giver_row, giver_stands, gives_by_rows}
 use Rattle.lib_os.proofs.SpawnHandsOn.{given_puts}
+use Rattle.lib_os.proofs.SpawnKeeps.{none_childs, stack_childs}
 use Rattle.lib_os.proofs.SpawnOwnPages.{spawn_there, spawn_words, spawns_at}
+use Rattle.lib_os.proofs.SpawnPagesTaken.{working_user}
 use Rattle.lib_os.proofs.SpawnReadies.{all_bytes_with}
 
 -- ---- the bytes of a page in which a segment lies
@@ -98,23 +98,13 @@ stack_bytes_long : (words : List (List ℕ)) → length (page_bytes (stack_segme
 unfolding laid_all
 stack_bytes_long words = laid_long (stack_segment words) (stack_contents words) zero_page stack_page zero_page_whole.long
 
-no_childs : (c d : Bool) → ((c && false) || (d && false)) ≡ false
-no_childs true true = refl
-no_childs true false = refl
-no_childs false true = refl
-no_childs false false = refl
-
-only_stack : (c d : Bool) → ((c && false) || (d && true)) ≡ d
-only_stack true true = refl
-only_stack true false = refl
-only_stack false true = refl
-only_stack false false = refl
-
 abbrev pub given_number : ℕ
 given_number = page_number SPAWN_STACK
 
-working_user : IsUsers working_perm
-working_user = record { page = refl; copied = λ is. absurd (let contradiction : false ≡ true = is in cc) }
+-- a program may have the page of its stack
+stack_inside : is_programs stack_page ≡ true
+unfolding in_fence
+stack_inside = refl
 
 -- no page of the server's is had there
 never_had : (c : Bool) (x : Entry) → MayBeHad c given_number x → ⊥
@@ -158,17 +148,17 @@ module _ {names : Names} {s : KernelState} {a : AbstractState} (h : StandsFor na
   pub given_entry : Entry
   given_entry = record { frame = page.entry.frame; perm = working_perm }
 
-  none_childs : (p : ℕ) → is_childs from p ≡ false
-  none_childs p = no_childs (p == page_number SPAWN_HERE) (p == page_number SPAWN_STACK)
+  none_its : (p : ℕ) → is_childs from p ≡ false
+  none_its p = none_childs (p == page_number SPAWN_HERE) (p == page_number SPAWN_STACK)
 
   its_own : (p : ℕ) → is_childs to p ≡ (p == page_number SPAWN_STACK)
-  its_own p = only_stack (p == page_number SPAWN_HERE) (p == page_number SPAWN_STACK)
+  its_own p = stack_childs (p == page_number SPAWN_HERE) (p == page_number SPAWN_STACK)
 
   -- the parent's entry counts
   counts : logical s.spaces s.environments.slots n given_number ≡ Some page.entry
   unfolding counted
   counts =
-      spawner_counted h v given_number ∙ ap (λ (c : Bool). if c then None else rows_of s.spaces home given_number) (none_childs given_number) ∙ page.stands
+      spawner_counted h v given_number ∙ ap (λ (c : Bool). if c then None else rows_of s.spaces home given_number) (none_its given_number) ∙ page.stands
 
   source : (e : Entry) × (s.spaces.entries home given_number ≡ Some e) × (lasting e ≡ page.entry)
   source = row_entry s.spaces home given_number page.entry page.stands
@@ -188,10 +178,10 @@ module _ {names : Names} {s : KernelState} {a : AbstractState} (h : StandsFor na
 
   -- the child had none there
   had_none : page_seen names s.spaces d stack_page ≡ None
-  had_none = v.child.memory stack_page refl ∙ ap (λ (before : Progress). child_page b v.child.image before v.child.file stack_page) v.child.is_so
+  had_none = v.child.memory stack_page stack_inside ∙ ap (λ (before : Progress). child_page b v.child.image before v.child.file stack_page) v.child.is_so
 
   own_there : (x : Entry) → rows_of s.spaces d stack_page ≡ Some x → is_shared x.perm ≡ false
-  own_there x is = absurd (none-some _ (sym had_none ∙ seen_by names s.spaces d stack_page x refl is))
+  own_there x is = absurd (none-some _ (sym had_none ∙ seen_by names s.spaces d stack_page x stack_inside is))
 
   -- the bytes are those of the stack
   bytes_are : s.spaces.pages page.entry.frame ≡ page_bytes (stack_segment stood.has.image.words ∷ []) (stack_contents stood.has.image.words) stack_page
@@ -201,7 +191,13 @@ module _ {names : Names} {s : KernelState} {a : AbstractState} (h : StandsFor na
       let same : stood.stack.kept.entry ≡ page.entry = same_Some stood.stack.kept.entry page.entry (sym stood.stack.kept.stands ∙ page.stands) in
       ext_get_or 0 (s.spaces.pages page.entry.frame) (page_bytes (stack_segment stood.has.image.words ∷ []) (stack_contents stood.has.image.words) stack_page)
       (whole ∙ sym long)
-      (λ i lt. ap (λ (e : Entry). slice_index (s.spaces.pages e.frame) i) (sym same) ∙ stood.stack.kept.same i (omega (arith, lt, whole, long)))
+      (λ i lt.
+      let first : slice_index (s.spaces.pages page.entry.frame) i ≡ slice_index (s.spaces.pages stood.stack.kept.entry.frame) i =
+      ap (λ (e : Entry). slice_index (s.spaces.pages e.frame) i) (sym same) in
+      let from : i ≡ 0 + i = omega arith in
+      let start : slice_index (s.spaces.pages stood.stack.kept.entry.frame) i ≡ slice_index (s.spaces.pages stood.stack.kept.entry.frame) (0 + i) =
+      ap (slice_index (s.spaces.pages stood.stack.kept.entry.frame)) from in
+      first ∙ start ∙ stood.stack.kept.same i (omega (arith, lt, whole, long)))
 
   module _ {sp : SpacesState} (in_order : IsInOrder (with_spaces s sp))
       (is : inserted s.spaces (slot_at s (child % NENV)).directory stack_page given_entry ≡ Some sp) (last : s.last ≡ Some n) where
@@ -232,7 +228,7 @@ module _ {names : Names} {s : KernelState} {a : AbstractState} (h : StandsFor na
     seen_there : page_seen names sp d stack_page ≡ Some (stack_of v.child.image.words)
     unfolding given_entry
     seen_there =
-        seen_own names sp d stack_page given_entry refl puts.there refl
+        seen_own names sp d stack_page given_entry stack_inside puts.there refl
         ∙ ap (λ (l : List ℕ). Some (own l true)) (given.same ∙ bytes_are)
         ∙ ap (λ (words : List (List ℕ)). Some (stack_of words)) (sym same_image)
 
@@ -280,7 +276,7 @@ module _ {names : Names} {s : KernelState} {a : AbstractState} (h : StandsFor na
           handler_stack = λ on. stack_still (x.handler_stack (ap (λ (before : Progress). before.handler_stack) x.is_so));
           no_handler_stack = λ off. absurd (false≢true (sym off));
           none = λ p outside no_desc other.
-              child_row p (λ same. absurd (false≢true (sym outside ∙ ap is_programs same))) ∙ x.none p outside no_desc other;
+              child_row p (λ same. absurd (false≢true (sym outside ∙ ap is_programs same ∙ stack_inside))) ∙ x.none p outside no_desc other;
           tables = tables_so;
           here = λ p childs. here_so p (sym (its_own p) ∙ childs);
         }
@@ -303,10 +299,6 @@ module _ {names : Names} {s : KernelState} {a : AbstractState} (h : StandsFor na
                 ap (λ (e : Entry). is_cow e.perm) (sym one)
             by_page false test = v.child.uncopied p x inside (sym (child_row p (grind (arith, nat_tests, test))) ∙ at) own_page
 
-        or_on : (c t : Bool) → t ≡ true → (c || t) ≡ true
-        or_on true t on = refl
-        or_on false t on = on
-
         tables_so : (r : ℕ) → is_some (sp.regions d r) ≡ true →
             (has_page_in (child_page b v.child.image (passing (entry_count_of (slice_index v.child.image.header)) 0) v.child.file) r || is_library_region r) ≡ true
         tables_so r table = by_region (r == stack_page / NPTENTRIES) refl (sym table_is ∙ table)
@@ -322,7 +314,7 @@ module _ {names : Names} {s : KernelState} {a : AbstractState} (h : StandsFor na
                 || is_library_region r) ≡ true
             by_region true test on =
                 let same : stack_page / NPTENTRIES ≡ r = grind (arith, nat_tests, test) in
-                or_on _ (is_library_region r) (ap is_library_region (sym same))
+                or_true _ (is_library_region r) (ap is_library_region (sym same))
             by_region false test on = v.child.tables r on
 
         here_so : (p : ℕ) → (p == page_number SPAWN_STACK) ≡ true → IsHere (rows_of sp home) (rows_of sp d) p (page_here to)
@@ -331,7 +323,7 @@ module _ {names : Names} {s : KernelState} {a : AbstractState} (h : StandsFor na
             record {
               place = stack_page;
               is_told = λ q told. same_Some stack_page q told;
-              programs = refl;
+              programs = stack_inside;
               here = page.entry;
               there = given_entry;
               here_is = ap (rows_of sp home) same ∙ parent_row given_number ∙ page.stands;
@@ -406,7 +398,7 @@ module _ {names : Names} {s : KernelState} {a : AbstractState} (h : StandsFor na
             spawner_counts h v sp to r
             ∙ ap (λ (c : Bool). if c then None else rows_of sp home r) (its_own r ∙ test)
             ∙ parent_row r
-            ∙ sym (spawner_counted h v r ∙ ap (λ (c : Bool). if c then None else rows_of s.spaces home r) (none_childs r))
+            ∙ sym (spawner_counted h v r ∙ ap (λ (c : Bool). if c then None else rows_of s.spaces home r) (none_its r))
             ∙ sym (put-other before n given_number None n r (λ same. other))
 
     counts_put : (j r : ℕ) → behind j r ≡ put left (child % NENV) stack_page (Some given_entry) j r

@@ -1,17 +1,15 @@
 -- Spawn hands on to its child a page that it shares: the child has it then at the same place, by the same entry, whatever it had there.
-use Rattle.std.proofs.Common.{◌≡◌, ◌≢◌, ◌∙◌, ◌⊎◌, inl, inr, ◌%◌, ◌/◌, ◌*◌, ◌+◌, ◌<◌, ◌≤◌, ◌==◌, ◌&&◌, ◌||◌, ℕ, Bool, true, false, List, [], ◌∷◌, Some, None}
+use Rattle.std.proofs.Common.{◌≡◌, ◌≢◌, ◌∙◌, ◌⊎◌, inl, inr, ◌%◌, ◌/◌, ◌*◌, ◌+◌, ◌<◌, ◌==◌, ◌&&◌, ◌||◌, ℕ, Bool, true, false, List, [], ◌∷◌, Some, None}
 use Rattle.std.proofs.Common.{Option, is_some, refl, sym, ap, subst, arith, if◌then◌else◌}
 use Rattle.std.specs.Prelude.{nat_le, not, slice_index}
 use Rattle.std.proofs.lemmas.Bool.{false≢true}
 use Rattle.std.proofs.lemmas.Bool.Decides.{nat_tests}
 use Rattle.std.proofs.lemmas.Option.{none-some, same_Some}
-use Rattle.jos_base.specs.declared.called.Called.{Called}
-use Rattle.jos_base.specs.declared.numbers.TheConstants.{NENV, NPTENTRIES, SYS_PAGE_MAP, USTACKTOP, UTEMP}
-use Rattle.jos_base.specs.Environments.{Slot}
+use Rattle.jos_base.specs.declared.numbers.TheConstants.{NENV, NPTENTRIES, SYS_PAGE_MAP, UTEMP}
 use Rattle.jos_base.specs.KernelState.{KernelState, slot_at, with_extra, with_spaces}
 use Rattle.jos_base.specs.Reach.{Entry}
 use Rattle.jos_base.specs.SpacesState.{SpacesState, inserted}
-use Rattle.jos_base.specs.SystemCalls.{entry_at, has_write, is_page_address, is_page_perm, shared_entry}
+use Rattle.jos_base.specs.SystemCalls.{has_write, is_page_address, is_page_perm, shared_entry}
 use Rattle.jos_base.specs.Words.{page_number}
 use Rattle.jos_base.proofs.Below.{some_below-at}
 use Rattle.jos_base.proofs.Puts.{Elsewhere, place_cases}
@@ -31,27 +29,27 @@ use Rattle.lib_os.specs.InOrder.{IsInOrder}
 use Rattle.lib_os.specs.LibraryPages.{IsOwnWritable, has_copy, has_spawns, has_working, is_library_region}
 use Rattle.lib_os.specs.Places.{place_of}
 use Rattle.lib_os.specs.ProgramMemory.{stack_of}
-use Rattle.lib_os.specs.Rows.{Agree, EntryRow, IsNamed, IsPage, IsUsers, MayBeHad, Names, counted, is_cow, is_of_descriptor, is_programs, is_shared, lasting, logical}
+use Rattle.lib_os.specs.Rows.{Agree, IsNamed, IsPage, IsUsers, MayBeHad, Names, counted, is_cow, is_of_descriptor, is_programs, is_shared, lasting, logical}
 use Rattle.lib_os.specs.Rows.{page_seen, rows_of}
 use Rattle.lib_os.specs.SpawnedChild.{IsProgress, Progress, child_page, handler_of, is_placed_page, is_settled_page, own_page, passing, registers_of, segments_filled, spawning_child}
 use Rattle.lib_os.specs.SpawnPages.{is_childs}
 use Rattle.lib_os.specs.StandsAtSpawn.{IsClosed, IsPassing, StandsAtSpawn}
-use Rattle.lib_os.specs.StandsFor.{StandsFor, borne_in, things_in, view_of}
-use Rattle.lib_os.specs.UserCalls.{CallStep, system}
+use Rattle.lib_os.specs.StandsFor.{StandsFor, borne_in, things_in, top_page, view_of}
+use Rattle.lib_os.specs.UserCalls.{system}
 use Rattle.lib_os.proofs.BorneCalls.{borne_map_is}
 use Rattle.lib_os.proofs.Calls.{made_step}
 use Rattle.lib_os.proofs.Effects.{Given}
-use Rattle.lib_os.proofs.EntriesStand.{PutsRow, named_bytes, rows_stand, same_entry, seen_at, seen_named}
+use Rattle.lib_os.proofs.EntriesStand.{PutsRow, named_bytes, same_entry, seen_at, seen_named}
 use Rattle.lib_os.proofs.EntryWords.{row_entry}
-use Rattle.lib_os.proofs.Logical.{logical_some}
 use Rattle.lib_os.proofs.PagesStand.{other_regions, row_elsewhere, row_placed}
-use Rattle.lib_os.proofs.PassedOn.{descriptors_region, given_with}
+use Rattle.lib_os.proofs.PassedOn.{descriptors_region, given_with, or_true}
 use Rattle.lib_os.proofs.Placing.{inserted_given}
 use Rattle.lib_os.proofs.Remapping.{lasting_write}
 use Rattle.lib_os.proofs.Serving.{IsServed, holds_page}
 use Rattle.lib_os.proofs.SpawnedGoes.{HasOfImage, IsSpawner, spawner}
 use Rattle.lib_os.proofs.SpawnedMoves.{spawner_apart, spawner_counted}
-use Rattle.lib_os.proofs.SpawnGivesChild.{PutsInChild, given_bytes, giver_row, giver_stands, gives_child}
+use Rattle.lib_os.proofs.SpawnGivesChild.{PutsInChild, given_bytes, giver_row, gives_child}
+use Rattle.lib_os.proofs.SpawnKeeps.{none_childs, none_kept}
 use Rattle.lib_os.proofs.SpawnOwnPages.{spawn_there, spawn_words, spawns_at}
 
 -- ---- a page that stands somewhere already
@@ -97,29 +95,6 @@ unfolding is_own
 own_unnamed image progress file p name writes is =
     let contradiction : true ≡ false = sym (own_is image progress file p) ∙ ap is_own is in cc
 
-or_on : (c t : Bool) → t ≡ true → (c || t) ≡ true
-or_on true t on = refl
-or_on false t on = on
-
-none_kept : (c d e : Bool) → ((c && false) || (d && false) || (e && false)) ≡ false
-none_kept true true true = refl
-none_kept true true false = refl
-none_kept true false true = refl
-none_kept true false false = refl
-none_kept false true true = refl
-none_kept false true false = refl
-none_kept false false true = refl
-none_kept false false false = refl
-
-no_childs : (c d : Bool) → ((c && false) || (d && false)) ≡ false
-no_childs true true = refl
-no_childs true false = refl
-no_childs false true = refl
-no_childs false false = refl
-
-abbrev pub top : ℕ
-top = page_number USTACKTOP
-
 -- ---- the page
 
 module _ {names : Names} {s : KernelState} {a : AbstractState} (h : StandsFor names s a) (n path argv child page perm : ℕ)
@@ -145,7 +120,7 @@ module _ {names : Names} {s : KernelState} {a : AbstractState} (h : StandsFor na
   v : IsSpawner names s a n path argv from child b
   v = spawner h n path argv child from stands refl
 
-  abbrev stood : IsClosed (slot_at s n) b path argv child × (page < top) × IsPassing (view_of s.spaces home) page perm
+  abbrev stood : IsClosed (slot_at s n) b path argv child × (page < top_page) × IsPassing (view_of s.spaces home) page perm
   stood = it.at
 
   abbrev passed : IsPassing (view_of s.spaces home) page perm
@@ -154,14 +129,14 @@ module _ {names : Names} {s : KernelState} {a : AbstractState} (h : StandsFor na
   abbrev entry : Entry
   entry = passed.entry
 
-  none_childs : (p : ℕ) → is_childs from p ≡ false
-  none_childs p = no_childs (p == page_number SPAWN_HERE) (p == page_number SPAWN_STACK)
+  none_its : (p : ℕ) → is_childs from p ≡ false
+  none_its p = none_childs (p == page_number SPAWN_HERE) (p == page_number SPAWN_STACK)
 
   -- the parent's entry counts
   counts : logical s.spaces s.environments.slots n page ≡ Some entry
   unfolding counted
   counts =
-      spawner_counted h v page ∙ ap (λ (c : Bool). if c then None else rows_of s.spaces home page) (none_childs page) ∙ passed.stands
+      spawner_counted h v page ∙ ap (λ (c : Bool). if c then None else rows_of s.spaces home page) (none_its page) ∙ passed.stands
 
   user : IsUsers entry.perm
   user = h.users n page entry counts
@@ -351,7 +326,7 @@ module _ {names : Names} {s : KernelState} {a : AbstractState} (h : StandsFor na
             (some_below-at (λ p. is_some (last_memory (page / NPTENTRIES * NPTENTRIES + p))) NPTENTRIES (page % NPTENTRIES) (omega arith)
             (ap (λ (p : ℕ). is_some (last_memory p)) (let same : page / NPTENTRIES * NPTENTRIES + page % NPTENTRIES ≡ page = omega arith in same)
             ∙ there_is inside))
-        by_tests false true outside desc = or_on _ (is_library_region (page / NPTENTRIES)) (descriptors_region page desc)
+        by_tests false true outside desc = or_true _ (is_library_region (page / NPTENTRIES)) (descriptors_region page desc)
         by_tests false false outside desc = absurd (page_handed outside desc)
 
     tables_so : (r : ℕ) → is_some (sp.regions d r) ≡ true →
@@ -456,4 +431,4 @@ module _ {names : Names} {s : KernelState} {a : AbstractState} (h : StandsFor na
         StandsFor names (with_extra (with_spaces s sp) n (spawn_words to)) a
     hands_on to bears_after held none_then is_so so =
         gives_child h n path argv child from to stands refl page entry puts own_there last bears_after held so (has_passed to none_then is_so) in_order
-        (λ q. none_childs q ∙ sym (none_then q)) row
+        (λ q. none_its q ∙ sym (none_then q)) row

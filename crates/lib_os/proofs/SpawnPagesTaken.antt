@@ -71,7 +71,7 @@ library_region : (p r : ℕ) → p / NPTENTRIES ≡ region_index UTEMP → (r ==
 library_region p r region is =
     ap (λ (c : Bool). (c || (r == region_index FDTABLE)) || (r == region_index USTACKTOP)) (ap (λ (q : ℕ). r == q) (sym region) ∙ is)
 
-working_user : IsUsers working_perm
+pub working_user : IsUsers working_perm
 working_user = record { page = refl; copied = λ is. absurd (let contradiction : false ≡ true = is in cc) }
 
 module _ {names : Names} {s : KernelState} {a : AbstractState} {sp : SpacesState} (h : StandsFor names s a) (n : ℕ) (b : Born) (is : a.slots n ≡ born b)

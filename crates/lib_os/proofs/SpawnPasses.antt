@@ -1,6 +1,6 @@
 -- Spawn passes on to its child what it shares, from the greatest page downwards: where nothing is shared on the way, the child has at a lower page what it had at a
 -- higher one.
-use Rattle.std.proofs.Common.{◌≡◌, ◌+◌, ◌≢◌, ◌∙◌, ◌%◌, ◌<◌, ◌≤◌, ◌==◌, ◌&&◌, ◌||◌, ℕ, Bool, true, false, List, Some, None, is_some, refl, sym, ap, subst, arith, if◌then◌else◌}
+use Rattle.std.proofs.Common.{◌≡◌, ◌+◌, ◌≢◌, ◌∙◌, ◌%◌, ◌<◌, ◌≤◌, ℕ, Bool, true, false, List, Some, None, refl, sym, ap, subst, arith, if◌then◌else◌}
 use Rattle.std.specs.Prelude.{Option, nat_le, slice_index}
 use Rattle.std.proofs.lemmas.Bool.{false≢true}
 use Rattle.std.proofs.lemmas.Bool.Decides.{nat_tests}
@@ -15,7 +15,7 @@ use Rattle.lib_os.specs.declared.place.Step.TheVariants as step
 use Rattle.lib_os.specs.declared.service.Service.TheVariants as service
 use Rattle.lib_os.specs.declared.spawn_steps.SpawnStep.{SpawnStep}
 use Rattle.lib_os.specs.AbstractSpawn.{under_shared}
-use Rattle.lib_os.specs.AbstractState.{AbstractState, Born, ImageRead, Page}
+use Rattle.lib_os.specs.AbstractState.{AbstractState, Born, Page}
 use Rattle.lib_os.specs.Places.{place_of}
 use Rattle.lib_os.specs.Rows.{EntryRow, Names, is_of_descriptor, is_programs, logical, rows_of}
 use Rattle.lib_os.specs.SpawnedChild.{IsProgress, Progress, child_page, handler_of, own_page, passing, registers_of, spawning_child}

@@ -10,7 +10,6 @@ use Rattle.jos_base.specs.KernelState.{KernelState, slot_at, with_extra, with_sl
 use Rattle.jos_base.specs.Reach.{Entry}
 use Rattle.jos_base.specs.SpacesState.{SpacesState}
 use Rattle.jos_base.specs.Words.{page_number, upd}
-use Rattle.jos_base.proofs.Maps.{upd-at, upd-other}
 use Rattle.jos_base.proofs.Puts.{Elsewhere}
 use Rattle.jos_elf.specs.Headers.{entry_count_of}
 use Rattle.lib_os.specs.declared.numbers.TheConstants.{PGFAULT_UPCALL, SPAWN_HERE, SPAWN_STACK, UXSTACK}
@@ -25,12 +24,11 @@ use Rattle.lib_os.specs.AbstractState.{AbstractState, Born}
 use Rattle.lib_os.specs.InOrder.{IsInOrder}
 use Rattle.lib_os.specs.LibraryPages.{View, is_library_region, region_index}
 use Rattle.lib_os.specs.Places.{place_of}
-use Rattle.lib_os.specs.Rows.{EntryRow, IsPage, IsUsers, Names, counted, is_of_descriptor, is_programs, is_shared, logical, page_seen, rows_of}
+use Rattle.lib_os.specs.Rows.{IsPage, IsUsers, Names, is_of_descriptor, is_shared, logical, rows_of}
 use Rattle.lib_os.specs.SpawnedChild.{Progress, child_page, handler_of, passing, registers_of, whole, with_handler, with_handler_stack}
 use Rattle.lib_os.specs.SpawnPages.{is_childs}
 use Rattle.lib_os.specs.StandsAtSpawn.{HasAllBytes, HasStackFor}
-use Rattle.lib_os.specs.StandsFor.{StandsFor, StandsForUnborn, things_in, view_of}
-use Rattle.lib_os.proofs.Bearing.{of_slots}
+use Rattle.lib_os.specs.StandsFor.{StandsFor, StandsForUnborn, things_in}
 use Rattle.lib_os.proofs.Effects.{Made}
 use Rattle.lib_os.proofs.EntriesStand.{PutsRow, named_bytes, rows_same, rows_stand, seen_at}
 use Rattle.lib_os.proofs.Logical.{logical_some, programs_beside}
@@ -39,10 +37,12 @@ use Rattle.lib_os.proofs.PagesStand.{other_regions, row_elsewhere, row_placed}
 use Rattle.lib_os.proofs.PageTaken.{working_perm}
 use Rattle.lib_os.proofs.Serving.{IsServed}
 use Rattle.lib_os.proofs.Slots.{slot_kept}
-use Rattle.lib_os.proofs.SlotsStand.{SeenAlike}
 use Rattle.lib_os.proofs.SpawnedGoes.{HasOfImage, IsSpawner, childs_alike, spawner, went_own, went_place}
-use Rattle.lib_os.proofs.SpawnedMoves.{spawned_lives, spawner_apart, spawner_lives, spawning_stands}
+use Rattle.lib_os.proofs.SpawnedMoves.{spawning_stands}
 use Rattle.lib_os.proofs.SpawnGivesChild.{PutsInChild, given_bytes, giver_row, giver_stands, gives_child}
+use Rattle.lib_os.proofs.SpawnKeeps.{none_childs}
+use Rattle.lib_os.proofs.SpawnPagesTaken.{working_user}
+use Rattle.lib_os.proofs.PassedOn.{or_true}
 use Rattle.lib_os.proofs.SpawnOwnPages.{spawn_there, spawn_words, spawns_at}
 use Rattle.lib_os.proofs.StatesStand.{CountsAlike, same_space, set_counts, slot_in_order}
 
@@ -140,17 +140,11 @@ module _ {names : Names} {s : KernelState} {a : AbstractState} (h : StandsFor na
         no_handler_stack = λ off. absurd (false≢true (sym off));
         none = x.none;
         tables = x.tables;
-        here = λ p is. absurd (false≢true (sym (none_childs p) ∙ is));
+        here = λ p is. absurd (false≢true (sym (none_its p) ∙ is));
       }
     where
-      none_childs : (p : ℕ) → is_childs to p ≡ false
-      none_childs p = by_tests (p == page_number SPAWN_HERE) (p == page_number SPAWN_STACK)
-        where
-          by_tests : (c d : Bool) → ((c && false) || (d && false)) ≡ false
-          by_tests true true = refl
-          by_tests true false = refl
-          by_tests false true = refl
-          by_tests false false = refl
+      none_its : (p : ℕ) → is_childs to p ≡ false
+      none_its p = none_childs (p == page_number SPAWN_HERE) (p == page_number SPAWN_STACK)
 
   abbrev running : KernelState
   running = with_slot_at s m handled
@@ -187,9 +181,6 @@ module _ {names : Names} {s : KernelState} {a : AbstractState} (h : StandsFor na
 abbrev pub handlers_page : ℕ
 handlers_page = page_number UXSTACK
 
-handlers_user : IsUsers working_perm
-handlers_user = record { page = refl; copied = λ is. absurd (let contradiction : false ≡ true = is in cc) }
-
 -- its region is one of the library's
 handlers_region : (r : ℕ) → (r == handlers_page / NPTENTRIES) ≡ true → is_library_region r ≡ true
 handlers_region r is = last ((r == region_index UTEMP) || (r == region_index FDTABLE)) (r == region_index USTACKTOP) is
@@ -197,10 +188,6 @@ handlers_region r is = last ((r == region_index UTEMP) || (r == region_index FDT
     last : (c t : Bool) → t ≡ true → (c || t) ≡ true
     last true t on = refl
     last false t on = on
-
-or_true : (c t : Bool) → t ≡ true → (c || t) ≡ true
-or_true true t on = refl
-or_true false t on = on
 
 module _ {names : Names} {s : KernelState} {a : AbstractState} {sp : SpacesState} (h : StandsFor names s a) (n path argv fd child : ℕ)
     (stands : place_of (slot_at s n) ≡ spawns_at path argv (spawn.Finishing (finishing.ChildStack fd child)))
@@ -293,13 +280,7 @@ module _ {names : Names} {s : KernelState} {a : AbstractState} {sp : SpacesState
       by_region r false test is = u.child.tables r is
 
       none_here : (p : ℕ) → is_childs then_at p ≡ false
-      none_here p = by_tests (p == page_number SPAWN_HERE) (p == page_number SPAWN_STACK)
-        where
-          by_tests : (x y : Bool) → ((x && false) || (y && false)) ≡ false
-          by_tests true true = refl
-          by_tests true false = refl
-          by_tests false true = refl
-          by_tests false false = refl
+      none_here p = none_childs (p == page_number SPAWN_HERE) (p == page_number SPAWN_STACK)
 
   stack_row : PutsRow names names s.spaces.pages a.shared sp.pages a.shared (things_in s a) a.next_name a.next_name
       (logical s.spaces s.environments.slots) (child % NENV) handlers_page (Some new_entry)
@@ -308,7 +289,7 @@ module _ {names : Names} {s : KernelState} {a : AbstractState} {sp : SpacesState
     agree = λ j q x e ne hx is same.
         let found = (logical_some s.spaces s.environments.slots j q x hx).1 in
         absurd (made.new _ q found.entry found.stands (found.frame ∙ same ∙ ap (λ (y : Entry). y.frame) (sym (same_Some new_entry e is))));
-    user = λ e is. subst (λ (y : Entry). IsUsers y.perm) (same_Some new_entry e is) handlers_user;
+    user = λ e is. subst (λ (y : Entry). IsUsers y.perm) (same_Some new_entry e is) working_user;
     whole = λ e is. subst (λ (y : Entry). IsPage (sp.pages y.frame)) (same_Some new_entry e is)
         (subst (λ (page : List ℕ). IsPage page) (sym made.zero) zero_page_whole);
     beside = λ q e y is at same.

@@ -1,12 +1,10 @@
 -- Spawn that is refused has given back all but the page of its path, and answers an error: its next step in the abstract system is that answer, and the state
 -- behind the call that gives back the page stands for the one behind it.
-use Rattle.std.proofs.Common.{◌≡◌, ◌≢◌, ◌∙◌, ◌+◌, ◌-◌, ◌*◌, ◌%◌, ◌^◌, ◌<◌, ◌≤◌, ◌==◌, ◌&&◌, ◌||◌, ◌++◌, ℕ, Bool, true, false, List, [], ◌∷◌, length, refl, sym, ap, subst, arith}
-use Rattle.std.specs.Prelude.{nat_le, nat_lt, not, slice_index, Option, Some, None, if◌then◌else◌}
-use Rattle.std.specs.List.{before_first}
-use Rattle.std.proofs.lemmas.Bool.{false≢true}
+use Rattle.std.proofs.Common.{◌≡◌, ◌≢◌, ◌∙◌, ◌+◌, ◌-◌, ◌%◌, ◌^◌, ◌==◌, ◌++◌, ℕ, Bool, true, false, List, [], ◌∷◌, length, refl, sym, ap, subst, arith}
+use Rattle.std.specs.Prelude.{nat_le, nat_lt, slice_index, Option, Some, None, if◌then◌else◌}
 use Rattle.std.proofs.lemmas.Bool.Decides.{nat_tests}
 use Rattle.std.proofs.lemmas.List.{get_or_at, length-append}
-use Rattle.jos_base.specs.declared.numbers.TheConstants.{E_INVAL, PGSIZE, UTEMP}
+use Rattle.jos_base.specs.declared.numbers.TheConstants.{E_INVAL, PGSIZE}
 use Rattle.jos_base.specs.declared.registers.Regs.{Regs}
 use Rattle.jos_base.specs.Environments.{Slot, no_extra}
 use Rattle.jos_base.specs.KernelState.{KernelState, slot_at, with_slot_at, with_spaces}
@@ -25,17 +23,15 @@ use Rattle.lib_os.specs.declared.spawn_steps.SpawnStep.TheVariants as spawn
 use Rattle.lib_os.specs.declared.spawn_steps.SpawnStep.{SpawnStep}
 use Rattle.lib_os.specs.declared.spawn_steps.UndoingStep.TheVariants as undoing
 use Rattle.lib_os.specs.AbstractRun.{abs_step}
-use Rattle.lib_os.specs.AbstractSpawn.{more_gathered, spawn_answered, spawn_step, string_gathered, words_given}
+use Rattle.lib_os.specs.AbstractSpawn.{more_gathered, spawn_answered, spawn_step}
 use Rattle.lib_os.specs.AbstractState.{AbstractState, Born, Stage, at_guest, born, guest, quoting, with_born}
 use Rattle.lib_os.specs.Answers.{back_with}
-use Rattle.lib_os.specs.Fence.{is_inside}
 use Rattle.lib_os.specs.InOrder.{IsInOrder}
 use Rattle.lib_os.specs.LibraryCall.{library_step}
 use Rattle.lib_os.specs.LibrarySteps.{KeepsStanding, service_answered}
 use Rattle.lib_os.specs.Places.{place_of}
 use Rattle.lib_os.specs.Rows.{Names}
 use Rattle.lib_os.specs.SpawnGiven.{Lists, Quotes, amid, amid_word, behind, behind_addresses, behind_path, behind_word}
-use Rattle.lib_os.specs.SpawnPages.{keeps_page_at}
 use Rattle.lib_os.specs.StandsAtSpawn.{IsGivenWrongly, IsIn, Refuses, address_outside, by_drop, by_file, by_given, no_fit, string_endless, string_outside, too_many}
 use Rattle.lib_os.specs.StandsFor.{StandsAt, StandsFor, StandsForBorn, borne_in, view_of}
 use Rattle.lib_os.specs.StandsInHandler.{IsAtGuest}
@@ -47,6 +43,7 @@ use Rattle.lib_os.proofs.PipesStand.{is_calm, same_places}
 use Rattle.lib_os.proofs.Serving.{IsServed, others_kept, printed_nothing, service_step, words_of_none}
 use Rattle.lib_os.proofs.SlotsStand.{born_at}
 use Rattle.lib_os.proofs.SpawnGathers.{list_steps, quote_steps}
+use Rattle.lib_os.proofs.SpawnKeeps.{none_kept}
 use Rattle.lib_os.proofs.SpawnOwnPages.{spawn_there, spawns_at}
 use Rattle.lib_os.proofs.StatesStand.{slot_changed}
 
@@ -199,16 +196,6 @@ module _ {names : Names} {s : KernelState} {a : AbstractState} (h : StandsFor na
       (same_places refl) (λ fd. refl))
 
 -- ---- the state behind the call
-
-none_kept : (c d e : Bool) → ((c && false) || (d && false) || (e && false)) ≡ false
-none_kept true true true = refl
-none_kept true true false = refl
-none_kept true false true = refl
-none_kept true false false = refl
-none_kept false true true = refl
-none_kept false true false = refl
-none_kept false false true = refl
-none_kept false false false = refl
 
 module _ {names : Names} {s : KernelState} {a : AbstractState} {sp : SpacesState} (h : StandsFor names s a) (n path argv error : ℕ)
     (stands : place_of (slot_at s n) ≡ spawns_at path argv (spawn.Undoing (undoing.UndoingPath error)))

@@ -1,6 +1,6 @@
 -- Spawn that bears a child gives back a page that it kept for itself: nothing of it is seen, and the child has what it had.
-use Rattle.std.proofs.Common.{◌≡◌, ◌≢◌, ◌∙◌, ◌==◌, ◌&&◌, ◌||◌, ◌%◌, ℕ, Bool, true, false, List, None, Some, is_some, refl, sym, ap, subst, arith, if◌then◌else◌}
-use Rattle.std.specs.Prelude.{nat_le, slice_index}
+use Rattle.std.proofs.Common.{◌≡◌, ◌≢◌, ◌∙◌, ◌==◌, ◌%◌, ℕ, Bool, true, false, List, None, Some, refl, sym, ap, subst, arith, if◌then◌else◌}
+use Rattle.std.specs.Prelude.{slice_index}
 use Rattle.std.proofs.lemmas.Bool.{false≢true}
 use Rattle.std.proofs.lemmas.Bool.Decides.{nat_tests}
 use Rattle.jos_base.specs.declared.numbers.TheConstants.{NENV, UTEMP}
@@ -11,23 +11,23 @@ use Rattle.jos_base.specs.SpacesState.{SpacesState, put}
 use Rattle.jos_base.specs.Words.{page_number, upd}
 use Rattle.jos_base.proofs.Puts.{Elsewhere, put-at, put-other}
 use Rattle.jos_elf.specs.Headers.{entry_count_of}
-use Rattle.lib_os.specs.declared.numbers.TheConstants.{DESCRIPTORS, PFTEMP, SERVICE_SPAWN, UXSTACK}
+use Rattle.lib_os.specs.declared.numbers.TheConstants.{PFTEMP, SERVICE_SPAWN, UXSTACK}
 use Rattle.lib_os.specs.declared.place.Place.{Place}
 use Rattle.lib_os.specs.declared.place.Place.TheVariants as place
 use Rattle.lib_os.specs.declared.place.Step.TheVariants as step
 use Rattle.lib_os.specs.declared.service.Service.{Service}
 use Rattle.lib_os.specs.declared.service.Service.TheVariants as service
 use Rattle.lib_os.specs.declared.spawn_steps.SpawnStep.{SpawnStep}
-use Rattle.lib_os.specs.AbstractState.{AbstractState, Born, born}
+use Rattle.lib_os.specs.AbstractState.{AbstractState, Born}
 use Rattle.lib_os.specs.DescriptorPages.{device_of}
 use Rattle.lib_os.specs.InOrder.{IsInOrder}
-use Rattle.lib_os.specs.LibraryPages.{IsOwnWritable, LibraryPages, View, has_spawns, has_working}
+use Rattle.lib_os.specs.LibraryPages.{IsOwnWritable, LibraryPages, View}
 use Rattle.lib_os.specs.Places.{place_of}
-use Rattle.lib_os.specs.Rows.{EntryRow, Names, Rows, counted, descriptor_page, is_of_descriptor, is_pipe_page, is_programs, is_shared, logical, pipe_page, rows_of}
+use Rattle.lib_os.specs.Rows.{EntryRow, Names, Rows, counted, descriptor_page, is_of_descriptor, is_pipe_page, is_programs, is_shared, logical, rows_of}
 use Rattle.lib_os.specs.Rows.{page_seen, seen_where, shown_at}
 use Rattle.lib_os.specs.SpawnedChild.{IsProgress, Progress, spawning_child}
 use Rattle.lib_os.specs.SpawnPages.{is_childs, keeps_page_at, keeps_request_page}
-use Rattle.lib_os.specs.StandsAtSpawn.{Found, HasAllBytes, IsIn, IsOfFile, StandsAtSpawn}
+use Rattle.lib_os.specs.StandsAtSpawn.{HasAllBytes, IsOfFile, StandsAtSpawn}
 use Rattle.lib_os.specs.StandsFor.{StandsAt, StandsFor, StandsForBorn, seen_unless, things_in, view_of}
 use Rattle.lib_os.specs.PipeEnds.{is_made}
 use Rattle.lib_os.proofs.DescriptorLooks.{is_descriptors}
@@ -36,8 +36,8 @@ use Rattle.lib_os.proofs.EntriesStand.{RowsStand, put_is, rows_put, rows_same, r
 use Rattle.lib_os.proofs.Numbered.{named_at}
 use Rattle.lib_os.proofs.PagesStand.{Puts, others_seen}
 use Rattle.lib_os.proofs.PipesStand.{descriptors_turned, is_calm}
-use Rattle.lib_os.proofs.Serving.{IsServed, plain_copy, plain_upcall}
-use Rattle.lib_os.proofs.SlotsStand.{SeenAlike, born_at, born_live, but_pipes, descriptors_off, seen_but_pipes}
+use Rattle.lib_os.proofs.Serving.{IsServed, plain_upcall}
+use Rattle.lib_os.proofs.SlotsStand.{SeenAlike, born_live, but_pipes, descriptors_off, seen_but_pipes}
 use Rattle.lib_os.proofs.SpawnedGoes.{HasOfImage, IsSpawner, spawner}
 use Rattle.lib_os.proofs.SpawnedMoves.{others_spawning, spawned_lives, spawner_counted, spawner_counts, spawning_moves}
 use Rattle.lib_os.proofs.SpawnOwnPages.{spawn_there, spawn_words, spawns_at}

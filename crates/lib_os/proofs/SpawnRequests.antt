@@ -101,7 +101,7 @@ behind_one zero (x ∷ pieces) piece rest is = ap behind_first is
     behind_first (y ∷ more) = more
 behind_one (suc n) (x ∷ pieces) piece rest is = behind_one n pieces piece rest is
 
-left_behind : (n m : ℕ) (pieces : List Piece) (piece : Piece) (rest : List Piece) → m ≡ n + 1 → drop n pieces ≡ piece ∷ rest → drop m pieces ≡ rest
+pub left_behind : (n m : ℕ) (pieces : List Piece) (piece : Piece) (rest : List Piece) → m ≡ n + 1 → drop n pieces ≡ piece ∷ rest → drop m pieces ≡ rest
 left_behind n m pieces piece rest more is =
     let one : m ≡ suc n = omega (arith, more) in ap (λ (j : ℕ). drop j pieces) one ∙ behind_one n pieces piece rest is
 

@@ -665,7 +665,7 @@ module _ (v w : View) (row : w.row ≡ v.row) (told : SameTold v w) (given_own :
 
     record_kept : (fd headers child : ℕ) → HasRecord v k b path argv fd headers child → HasRecord w slot_after born_after path argv fd headers child
     record_kept fd headers child h =
-        record { image = h.image; has = child_kept fd headers child h.image h.has; kept = path_page_kept v w row path_own 0 _ h.kept }
+        record { image = h.image; has = child_kept fd headers child h.image h.has; begins = h.begins; kept = path_page_kept v w row path_own 0 _ h.kept }
 
     placing_kept : (fd headers child header : ℕ) (known : ProgramHeader → Type 0) → IsPlacing v k b path argv fd headers child header known →
         IsPlacing w slot_after born_after path argv fd headers child header known

@@ -1,19 +1,18 @@
 -- Spawn undoes what it has done: it destroys the child that is not finished, and drops the descriptor of its file. Each is its step in the abstract system, and
 -- the state behind the call stands for the one behind that.
 use Rattle.std.proofs.Common.{◌≡◌, ◌≢◌, ◌∙◌, ◌⊎◌, inl, inr, ◌<◌, ◌==◌, ◌&&◌, ◌||◌, ◌%◌, ℕ, Bool, true, false, List, [], ◌∷◌, length, refl, sym, ap, subst, arith}
-use Rattle.std.specs.Prelude.{nat_lt, is_none, slice_index, Option, Some, None, if◌then◌else◌}
+use Rattle.std.specs.Prelude.{nat_lt, is_none, slice_index, Option, Some, None}
 use Rattle.std.proofs.lemmas.Bool.Decides.{nat_tests}
-use Rattle.jos_base.specs.declared.called.Called.{Called}
 use Rattle.jos_base.specs.declared.called.Called.TheVariants.{Answered}
 use Rattle.jos_base.specs.declared.numbers.TheConstants.{NENV, SYS_ENV_DESTROY}
 use Rattle.jos_base.specs.Environments.{Slot, is_live}
 use Rattle.jos_base.specs.KernelState.{KernelState, slot_at, with_extra, with_slot_at, with_spaces}
 use Rattle.jos_base.specs.SpacesState.{destroyed}
 use Rattle.jos_base.specs.SystemCalls.{without_environment}
-use Rattle.jos_base.specs.Words.{negated, page_number}
+use Rattle.jos_base.specs.Words.{page_number}
 use Rattle.jos_base.proofs.Maps.{upd-other}
 use Rattle.jos_base.proofs.Uses.{directory_is}
-use Rattle.jos_elf.specs.declared.numbers.TheConstants.{EHDR_LEN, E_NOT_EXEC}
+use Rattle.jos_elf.specs.declared.numbers.TheConstants.{EHDR_LEN}
 use Rattle.jos_elf.specs.Headers.{entry_count_of}
 use Rattle.jos_elf.specs.Tests.{first_failed, header_tests, table_tests}
 use Rattle.lib_os.specs.declared.numbers.TheConstants.{DESCRIPTORS, SERVICE_SPAWN, SPAWN_HERE, SPAWN_STACK}
@@ -27,8 +26,8 @@ use Rattle.lib_os.specs.declared.spawn_steps.SpawnStep.{SpawnStep}
 use Rattle.lib_os.specs.declared.spawn_steps.SpawnStep.TheVariants as spawn
 use Rattle.lib_os.specs.declared.spawn_steps.UndoingStep.TheVariants as undoing
 use Rattle.lib_os.specs.AbstractRun.{abs_step}
-use Rattle.lib_os.specs.AbstractSpawn.{headers_in, pieces_left, spawn_step, table_size}
-use Rattle.lib_os.specs.AbstractState.{AbstractState, AbstractSlot, Born, OpenFile, Spawning, Stage, dropping, free, in_service, loading, refusing, replied, slot_id}
+use Rattle.lib_os.specs.AbstractSpawn.{headers_in, spawn_step, table_size}
+use Rattle.lib_os.specs.AbstractState.{AbstractState, Born, OpenFile, Spawning, Stage, dropping, free, in_service, refusing, replied, slot_id}
 use Rattle.lib_os.specs.AbstractState.{taking, with_born, with_slot}
 use Rattle.lib_os.specs.FileServer.{is_count}
 use Rattle.lib_os.specs.InOrder.{IsInOrder}
@@ -36,11 +35,11 @@ use Rattle.lib_os.specs.LibraryPages.{View}
 use Rattle.lib_os.specs.LibraryCall.{library_step}
 use Rattle.lib_os.specs.LibrarySteps.{GoesOn, KeepsStanding}
 use Rattle.lib_os.specs.Places.{place_of}
-use Rattle.lib_os.specs.Rows.{EntryRow, Names, counted, rows_of}
+use Rattle.lib_os.specs.Rows.{Names, rows_of}
 use Rattle.lib_os.specs.StandsAtSpawn.{Found, IsCutShort, IsIn, IsNoPiece, IsOfFile, IsOfFileWith, IsToDrop, Refuses, StandsAtSpawn, by_drop, header_unread}
 use Rattle.lib_os.specs.StandsAtSpawn.{is_error, is_short, no_child, no_header, no_table, table_unread, too_short}
 use Rattle.lib_os.specs.StandsFor.{StandsAt, StandsFor, StandsForBorn, borne_in, view_of}
-use Rattle.lib_os.specs.UserCalls.{CallStep, giving, system}
+use Rattle.lib_os.specs.UserCalls.{giving, system}
 use Rattle.lib_os.proofs.BearsOn.{borne_apart, borne_is, borne_lives}
 use Rattle.lib_os.proofs.BorneCalls.{borne_destroyed_is}
 use Rattle.lib_os.proofs.DescriptorsStand.{drop_removes, dropped}
@@ -49,7 +48,7 @@ use Rattle.lib_os.proofs.Numbered.{named_at}
 use Rattle.lib_os.proofs.PipesStand.{descriptors_turned, is_calm}
 use Rattle.lib_os.proofs.Removing.{destroyed_gone}
 use Rattle.lib_os.proofs.Serving.{IsServed, holds_page, library_moved, plain_copy, plain_upcall, plain_working, printed_nothing, service_step}
-use Rattle.lib_os.proofs.SlotsStand.{born_at, born_live, born_stands, counts_unpiped, is_piped}
+use Rattle.lib_os.proofs.SlotsStand.{born_at, born_stands, counts_unpiped, is_piped}
 use Rattle.lib_os.proofs.SpawnDestroys.{bearer_seen, destroyed_stands}
 use Rattle.lib_os.proofs.SpawnDrops.{drops_file, file_gone, no_pipe_there, spawns_file, spawns_object}
 use Rattle.lib_os.proofs.SpawnGathers.{spawn_found}

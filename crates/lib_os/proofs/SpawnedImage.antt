@@ -1,10 +1,10 @@
 -- The child that has all of its image, and the page of its stack, has the pages with which a program of that image begins; and none of those lies where a program may
 -- have none.
-use Rattle.std.proofs.Common.{◌≡◌, ◌≢◌, ◌∙◌, ◌⊎◌, inl, inr, ◌+◌, ◌-◌, ◌*◌, ◌/◌, ◌<◌, ◌≤◌, ◌==◌, ◌&&◌, ◌||◌, ◌++◌, ℕ, zero, suc, Bool, true, false, not, List, [], ◌∷◌}
-use Rattle.std.proofs.Common.{Option, Some, None, refl, sym, ap, subst, arith, if◌then◌else◌}
-use Rattle.std.specs.Prelude.{get_or, nat_le, nat_lt, slice_index}
-use Rattle.std.specs.List.{All, list_any}
+use Rattle.std.proofs.Common.{◌≡◌, ◌∙◌, ◌⊎◌, inl, inr, ◌+◌, ◌-◌, ◌*◌, ◌<◌, ◌≤◌, ◌==◌, ◌&&◌, ◌||◌, ◌++◌, ℕ, zero, suc, Bool, true, false, not, List, [], ◌∷◌}
+use Rattle.std.proofs.Common.{Option, Some, None, refl, sym, ap, arith, if◌then◌else◌}
+use Rattle.std.specs.Prelude.{get_or, nat_lt, slice_index}
 use Rattle.std.proofs.lemmas.Bool.{eqb-true}
+use Rattle.std.proofs.Math.Bool.{and-false, or-false}
 use Rattle.std.proofs.lemmas.Bool.Decides.{nat_tests}
 use Rattle.std.proofs.lemmas.List.Folds.{list_any-append, list_any_none}
 use Rattle.jos_base.specs.declared.numbers.TheConstants.{FDTABLE, PGSIZE, USTABDATA, UTEMP, UTEXT}
@@ -22,15 +22,7 @@ use Rattle.lib_os.specs.AbstractState.{ImageRead, Page, own}
 use Rattle.lib_os.specs.Fence.{in_fence}
 use Rattle.lib_os.specs.ProgramMemory.{page_of, program_memory, stack_of}
 use Rattle.lib_os.specs.Rows.{is_programs}
-use Rattle.lib_os.specs.SpawnedChild.{headers_filled, header_touches, is_placed_page, is_settled_page, own_page, passing, segments_filled}
-
-or_none : (c : Bool) → (c || false) ≡ c
-or_none true = refl
-or_none false = refl
-
-and_none : (c : Bool) → (c && false) ≡ false
-and_none true = refl
-and_none false = refl
+use Rattle.lib_os.specs.SpawnedChild.{Progress, headers_filled, header_touches, is_placed_page, is_settled_page, own_page, passing, segments_filled}
 
 -- ---- segments of program headers
 
@@ -42,7 +34,7 @@ same_segments f g (suc n) same =
     (λ i. same_segments f g n (λ m below. same m (omega (arith, below))) i ++ (if is_loaded (same n (omega arith) i) then segment_of (same n (omega arith) i) ∷ [] else []))
 
 touches_one : (f : ℕ → ProgramHeader) (p n : ℕ) (c : Bool) → any_touches p (if c then segment_of (f n) ∷ [] else []) ≡ (c && touches p (segment_of (f n)))
-touches_one f p n true = or_none (touches p (segment_of (f n)))
+touches_one f p n true = or-false (touches p (segment_of (f n)))
 touches_one f p n false = refl
 
 -- whether one of them touches a page
@@ -90,21 +82,26 @@ module _ (image : ImageRead) (file : List ℕ) where
   none_behind : (p : ℕ) → (header_touches image p n && nat_lt p 0) ≡ false
   none_behind p =
       let none : nat_lt p 0 ≡ false = grind (arith, nat_tests) in
-      ap (λ (c : Bool). header_touches image p n && c) none ∙ and_none (header_touches image p n)
+      ap (λ (c : Bool). header_touches image p n && c) none ∙ and-false (header_touches image p n)
 
   placed_all : (p : ℕ) → is_placed_page image (passing n 0) p ≡ any_touches p segments
   placed_all p =
-      ap (λ (c : Bool). some_below n (header_touches image p) || c) (none_behind p) ∙ or_none (some_below n (header_touches image p)) ∙ all_below p
+      ap (λ (c : Bool). some_below n (header_touches image p) || c) (none_behind p) ∙ or-false (some_below n (header_touches image p)) ∙ all_below p
 
   settled_all : (p : ℕ) → is_settled_page image (passing n 0) p ≡ any_touches p segments
   settled_all p =
-      ap (λ (c : Bool). some_below n (header_touches image p) || c) (none_behind p) ∙ or_none (some_below n (header_touches image p)) ∙ all_below p
+      ap (λ (c : Bool). some_below n (header_touches image p) || c) (none_behind p) ∙ or-false (some_below n (header_touches image p)) ∙ all_below p
+
+  -- all bytes are there
+  pub filled_whole : (progress : Progress) → progress.filled ≡ entry_count_of (slice_index image.header) →
+      segments_filled image progress ≡ segments_of (packed (headers_in image.table)) (entry_count_of (slice_index image.header))
+  filled_whole progress all =
+      same_segments (headers_filled image progress) (packed headers) n
+      (λ m below. let on : nat_lt m progress.filled ≡ true = grind (arith, nat_tests, below, all) in
+      ap (λ (c : Bool). if c then packed headers m else record (packed headers m) { file_len = if m == progress.filled then progress.bytes else 0 }) on)
 
   filled_all : segments_filled image (passing n 0) ≡ segments
-  filled_all =
-      same_segments (headers_filled image (passing n 0)) (packed headers) n
-      (λ m below. let on : nat_lt m n ≡ true = grind (arith, nat_tests, below) in
-      ap (λ (c : Bool). if c then packed headers m else record (packed headers m) { file_len = if m == n then 0 else 0 }) on)
+  filled_all = filled_whole (passing n 0) refl
 
   -- so the child's own are those of the program
   pub whole_page : (p : ℕ) → own_page image (passing (entry_count_of (slice_index image.header)) 0) file p
@@ -116,7 +113,7 @@ module _ (image : ImageRead) (file : List ℕ) where
     where
       by_touch : (c : Bool) → (if c then Some (own (page_bytes segments file p) (any_writes p segments || not c)) else None)
           ≡ (if c then Some (own (page_bytes segments file p) (any_writes p segments)) else None)
-      by_touch true = ap (λ (w : Bool). Some (own (page_bytes segments file p) w)) (or_none (any_writes p segments))
+      by_touch true = ap (λ (w : Bool). Some (own (page_bytes segments file p) w)) (or-false (any_writes p segments))
       by_touch false = refl
 
   -- ---- which lies where a program may have pages

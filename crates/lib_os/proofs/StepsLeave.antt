@@ -43,7 +43,7 @@ SendsAside s number args = (a : AbstractState) → Stands s a → sends_aside nu
 pub behind_calm : (s : KernelState) (n number : ℕ) (args : List ℕ) → wakes number ≡ false → sets_others number ≡ false →
     KeepsCopies n s (system s n number args).state → SendsAside s number args → Behind s n (system s n number args).state
 behind_calm s n number args asleep calm copies aside =
-    behind s n number args asleep (λ before after live. system_stay s n number args calm) copies (system_server s n number args calm aside)
+    behind s n number args asleep (λ before after live a h. system_stay s n number args calm) copies (system_server s n number args calm aside)
 
 pub behind_plain : (s : KernelState) (n number : ℕ) (args : List ℕ) → wakes number ≡ false → sets_others number ≡ false →
     maps_no_copy number args ≡ true → SendsAside s number args → Behind s n (system s n number args).state
@@ -56,8 +56,8 @@ pub behind_own : (s : KernelState) (n : ℕ) (mid : KernelState) (slot : Slot) �
 behind_own s n mid slot status directory h = record {
   left = put_left _ s n mid h.left n slot status;
   used = h.used;
-  others = λ before after live.
-      own_stay s n mid (h.others before (slot_was_in_order mid n slot (λ i. is_live (record slot { status = status i })) directory after) live) slot;
+  others = λ before after live a stands.
+      own_stay s n mid (h.others before (slot_was_in_order mid n slot (λ i. is_live (record slot { status = status i })) directory after) live a stands) slot;
   copies = h.copies;
   server = own_server s n mid slot status directory h.server;
 }

@@ -31,7 +31,7 @@ pub record IsAnswered (call : CallStep Called) (n : ℕ) (regs : Regs) : Type 0 
   pub registers : (slot_at call.state n).registers ≡ regs
   pub written : call.written ≡ []
 
-live_after : (k : KernelState) (n m : ℕ) (slot : Slot) → is_live slot ≡ true → is_live (slot_at k m) ≡ true → is_live (slot_at (with_slot_at k n slot) m) ≡ true
+pub live_after : (k : KernelState) (n m : ℕ) (slot : Slot) → is_live slot ≡ true → is_live (slot_at k m) ≡ true → is_live (slot_at (with_slot_at k n slot) m) ≡ true
 live_after k n m slot lives before =
     upd-all (λ q (x : Slot). q ≡ m → is_live x ≡ true) k.environments.slots n slot (λ e. lives)
     (λ q ne e. subst (λ r. is_live (slot_at k r) ≡ true) (sym e) before) m refl

@@ -609,10 +609,10 @@ GivesUp (Err _) before after = Unit {0}
 
 -- ---- what a step leaves to the others
 
--- An environment beside the one whose step it is stands where it stood, if it is there before and after.
+-- Where the state stands for an abstract one, an environment beside the one whose step it is stands where it stood, if it is there before and after.
 abbrev pub KeepsPlaces : ℕ → KernelState → KernelState → Type 0
 KeepsPlaces n before after =
-    IsInOrder before → IsInOrder after → is_live (slot_at before n) ≡ true →
+    IsInOrder before → IsInOrder after → is_live (slot_at before n) ≡ true → (a : AbstractState) → Stands before a →
     (m : ℕ) → m ≢ n → is_live (slot_at before m) ≡ true → is_live (slot_at after m) ≡ true →
     place_of (slot_at after m) ≡ place_of (slot_at before m)
 

@@ -466,13 +466,17 @@ pub record IsNextPiece (image : ImageRead) (header done end : ℕ) : Type 0 wher
   pub end_is : end ≡ min (done + TRANSFER_MAX) (headers_in image.table header).file_len
   pub begins : done % TRANSFER_MAX ≡ 0
 
+-- the header says that a program's first instruction stands at this address
+abbrev pub BeginsAt : List ℕ → ℕ → Type 0
+BeginsAt header entry_point = (entry_point ≡ entry_point_of (slice_index header)) × (entry_point < 2 ^ 32)
+
 -- What is known before a part is asked for: by which descriptor, how many bytes are wanted, and from which place on.
 pub data IsBefore (v : View) (k : Slot) (b : Born) (path argv : ℕ) : FilePart → ℕ → ℕ → ℕ → Type 0 where
   before_header : (esp fd size : ℕ) → (so : HasFile v k b path argv esp fd) → IsOfFileWith v fd size → EHDR_LEN ≤ size →
       IsBefore v k b path argv (part.Header esp fd size) fd EHDR_LEN 0
   before_table : (esp fd size entry_point headers place : ℕ) (words : List (List ℕ)) (header : List ℕ) (answer : ℕ) →
       Found k b path argv (replied header answer) (heading fd words) → IsOfFileWith v fd size → HasStack v words esp →
-      entry_point ≡ entry_point_of (slice_index header) → headers ≡ entry_count_of (slice_index header) → place ≡ table_of (slice_index header) →
+      BeginsAt header entry_point → headers ≡ entry_count_of (slice_index header) → place ≡ table_of (slice_index header) →
       headers ≤ ARGS_MAX → place + PHDR_LEN * headers ≤ size → length header ≡ EHDR_LEN →
       first_failed (header_tests size (slice_index header)) ≡ None → is_count answer ≡ true →
       IsBefore v k b path argv (part.Table esp fd size entry_point headers place) fd (PHDR_LEN * headers) place
@@ -510,7 +514,7 @@ pub data IsFor (v : View) (b : Born) : FilePart → ℕ → Type 0 where
   for_header : (esp fd size : ℕ) (words : List (List ℕ)) → b.spawning ≡ Some (heading fd words) → IsOfFileWith v fd size → HasStack v words esp →
       EHDR_LEN ≤ size → IsFor v b (part.Header esp fd size) EHDR_LEN
   for_table : (esp fd size entry_point headers place : ℕ) (words : List (List ℕ)) (header : List ℕ) → b.spawning ≡ Some (tabling fd words header) →
-      IsOfFileWith v fd size → HasStack v words esp → entry_point ≡ entry_point_of (slice_index header) →
+      IsOfFileWith v fd size → HasStack v words esp → BeginsAt header entry_point →
       headers ≡ entry_count_of (slice_index header) → headers ≤ ARGS_MAX →
       IsFor v b (part.Table esp fd size entry_point headers place) (PHDR_LEN * headers)
   for_piece : (fd headers child header done end place : ℕ) (image : ImageRead) (pieces : List (List ℕ)) →
@@ -585,7 +589,7 @@ pub record HasHeaders (v : View) (k : Slot) (b : Born) (path argv esp fd size en
   pub come : is_count answer ≡ true
   pub stack : HasStack v words esp
   pub of_file : IsOfFileWith v fd size
-  pub entry_point_is : entry_point ≡ entry_point_of (slice_index header)
+  pub entry_point_is : BeginsAt header entry_point
   pub many : headers ≡ entry_count_of (slice_index header)
   pub few : headers ≤ ARGS_MAX
   pub whole : length table ≡ table_size header
@@ -699,7 +703,7 @@ pub record IsRecording (v : View) (k : Slot) (b : Born) (path argv esp fd entry_
   pub image : ImageRead
   pub has : HasChild v k b path argv fd headers child image
   pub esp_is : esp ≡ stack_pointer image.words
-  pub entry_point_is : entry_point ≡ entry_point_of (slice_index image.header)
+  pub entry_point_is : BeginsAt image.header entry_point
   pub below : index < 17
   pub kept : PageHas v (page_number UTEMP) 0 (bytes_of_words (register_words entry_point esp index))
 
@@ -707,6 +711,7 @@ pub record IsRecording (v : View) (k : Slot) (b : Born) (path argv esp fd entry_
 pub record HasRecord (v : View) (k : Slot) (b : Born) (path argv fd headers child : ℕ) : Type 0 where
   pub image : ImageRead
   pub has : HasChild v k b path argv fd headers child image
+  pub begins : entry_point_of (slice_index image.header) < 2 ^ 32
   pub kept : PageHas v (page_number UTEMP) 0
       (bytes_of_words (register_words (entry_point_of (slice_index image.header)) (stack_pointer image.words) 17))
 

@@ -94,11 +94,12 @@ IsAsideAsk s (ask.Touch ip va true) = (a : AbstractState) → Stands s a → is_
 IsAsideAsk s _ = Unit {0}
 
 -- A plain one, or one of which it is known by where the service stands that others' pages are left, and that nothing is sent to the file
--- server, or what is done to it.
+-- server, or what is done to it; or one of which all is known that is left behind it.
 pub data IsPlain (s : KernelState) (n : ℕ) (a : Ask) : Type 0 where
   plainly : is_plain a ≡ true → IsPlain s n a
   knowingly : is_calm a ≡ true → KeepsCopies n s (performed s n a).state → IsAsideAsk s a → IsPlain s n a
   kept_so : is_calm a ≡ true → KeepsCopies n s (performed s n a).state → KeepsServer n s (performed s n a).state → IsPlain s n a
+  behind_so : Behind s n (performed s n a).state → IsPlain s n a
 
 neither : (t u : Bool) → not t && not u ≡ true → (t ≡ false) × (u ≡ false)
 neither false false is = (refl, refl)
@@ -122,7 +123,7 @@ moved_behind s n ip after h used others wait server = record {
         );
   };
   used = λ in_order live each. used in_order each;
-  others = λ before then_so live.
+  others = λ before then_so live a h.
       own_before s n (record (slot_at s n) { registers = record (slot_at s n).registers { eip = ip } }) after others;
   copies = copies_kept s after n wait;
   server = server;
@@ -144,7 +145,7 @@ reached_behind : (s : KernelState) (n : ℕ) (after : KernelState) → Left ((sl
 reached_behind s n after h used others wait server = record {
   left = h;
   used = λ in_order live each. used in_order each;
-  others = λ before then_so live. others;
+  others = λ before then_so live a h. others;
   copies = copies_kept s after n wait;
   server = server;
 }
@@ -227,7 +228,7 @@ plain_behind s n (ask.System number args) plain =
     let both = neither (wakes number) (sets_others number) parts.0 in
     behind_plain s n number args both.0 both.1 rest.1 (λ a h. rest.0)
 plain_behind s n ask.Exofork plain =
-    behind s n SYS_EXOFORK (as_given (slot_at s n).registers) refl (λ before then_so live. exofork_stays s n before live then_so)
+    behind s n SYS_EXOFORK (as_given (slot_at s n).registers) refl (λ before then_so live a h. exofork_stays s n before live then_so)
     (copies_kept s (system s n SYS_EXOFORK (as_given (slot_at s n).registers)).state n
     (plain_wait s n SYS_EXOFORK (as_given (slot_at s n).registers) refl)) (exofork_server s n)
 plain_behind s n (ask.Load va) plain =
@@ -328,6 +329,7 @@ pub known_behind : (s : KernelState) (n : ℕ) (a : Ask) → IsPlain s n a → B
 known_behind s n a (plainly plain) = plain_behind s n a plain
 known_behind s n a (knowingly calm copies aside) = calm_behind s n a calm copies aside
 known_behind s n a (kept_so calm copies server) = kept_behind s n a calm copies server
+known_behind s n a (behind_so h) = h
 
 pub settled_leaves : (s mid : KernelState) (n number : ℕ) (x : Next) → Behind s n mid → Leaves (Ok (seen_as x)) n s (settled number x mid n)
 settled_leaves s mid n number (next.Answer word) h = answers s mid _ n word progress.Finished h refl
@@ -397,7 +399,7 @@ left_least service at copies = by_counting (counts_copies at)
     by_counting false = omega (arith)
 
 -- a service that goes on at a step has a lower number, whatever pages wait to be copied
-service_lowers : (s after : KernelState) (n : ℕ) (service : Service) (from to : Step) → place_of (slot_at s n) ≡ place.InService service from →
+pub service_lowers : (s after : KernelState) (n : ℕ) (service : Service) (from to : Step) → place_of (slot_at s n) ≡ place.InService service from →
     place_of (slot_at after n) ≡ place.InService service to → most_left to < steps_left from → LowersOrAsksAgain n s after
 service_lowers s after n service from to was is less =
     let most = left_most service to (rows_of after.spaces (slot_at after n).directory) in
@@ -798,9 +800,9 @@ module _ (s : KernelState) (n : ℕ) (service : Service) (from to : Step) (numbe
           rest = record { last = rest.last; turns = rest.turns; frames = rest.frames; refused = rest.refused; told = rest.told };
           turn = λ a stands_for running silent runs. ap is_pausing stands ∙ pausing;
           uses = used;
-          places = places_kept s after n (λ before then_so live. others);
-          numbers = numbers_kept s after n (λ before then_so live. others) (copies_kept s after n (same_wait (IsBeside s n) s.spaces));
-          working = working_kept s after n (λ before then_so live. others) (copies_kept s after n (same_wait (IsBeside s n) s.spaces));
+          places = places_kept s after n (λ before then_so live b stood. others);
+          numbers = numbers_kept s after n (λ before then_so live b stood. others) (copies_kept s after n (same_wait (IsBeside s n) s.spaces));
+          working = working_kept s after n (λ before then_so live b stood. others) (copies_kept s after n (same_wait (IsBeside s n) s.spaces));
           server = own_server s n ran (record (slot_at ran n) { extra = words_at number to }) refl refl server;
         };
         lowers = falling_lowers s n pause call service from stands numbered
