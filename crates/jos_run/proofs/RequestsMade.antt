@@ -21,9 +21,10 @@ use Rattle.jos_base.specs.Words.{page_number, word_at}
 use Rattle.jos_base.proofs.Below.{some_below-at, is-values}
 use Rattle.jos_base.proofs.Maps.{upd-at}
 use Rattle.jos_elf.specs.declared.fault.ElfFault.{ElfFault}
+use Rattle.jos_elf.specs.declared.fault.ElfFault.TheVariants.{SegmentRange, Truncated}
 use Rattle.jos_elf.specs.declared.header.ProgramHeader.{ProgramHeader}
 use Rattle.jos_elf.specs.declared.numbers.TheConstants.{PHDR_LEN}
-use Rattle.jos_elf.specs.Tests.{FaultTest, first_failed, is_loaded, segment_tests, table_tests}
+use Rattle.jos_elf.specs.Tests.{FaultTest, first_failed, is_loaded, is_placed, overlap_tests, segment_tests, table_tests}
 use Rattle.fs_layout.specs.FileTree.{open_path, read_file, remove_path, set_file_size, stat_file, write_file}
 use Rattle.fs_runs.specs.TreeRuns.{HasPath, bytes_given}
 use Rattle.fs_serving.specs.ServerRuns.{AsksFor, IsOpenAs, opens, reads, reads_at, removes, seeks, sizes, stats, writes}
@@ -197,9 +198,18 @@ one_passed : (c : Bool) (fault : ElfFault) (rest : List FaultTest) → first_fai
 one_passed true fault rest is = refl
 one_passed false fault rest is = absurd (none-some fault (sym is))
 
+segment_lies : (total : ℕ) (headers : ℕ → ProgramHeader) (n : ℕ) → first_failed (segment_tests total headers n) ≡ None →
+    (headers n).file_at + (headers n).file_len ≤ total
+unfolding segment_tests
+segment_lies total headers n passed =
+    let test : nat_le ((headers n).file_at + (headers n).file_len) total ≡ true =
+    one_passed (nat_le ((headers n).file_at + (headers n).file_len) total) (Truncated total)
+    ((is_placed (headers n), SegmentRange n) ∷ overlap_tests headers n n) passed in
+    grind (arith, nat_tests, test)
+
 segment_within : (total : ℕ) (headers : ℕ → ProgramHeader) (n m : ℕ) → m < n → first_failed (table_tests total headers n) ≡ None →
     is_loaded (headers m) ≡ true → (headers m).file_at + (headers m).file_len ≤ total
-unfolding table_tests segment_tests
+unfolding table_tests
 segment_within total headers zero m below passed loaded = absurd (omega (arith, below))
 segment_within total headers (suc n) m below passed loaded =
     by_last (nat_lt m n) refl (λ lower. segment_within total headers n m lower both.0 loaded)
@@ -214,10 +224,7 @@ segment_within total headers (suc n) m below passed loaded =
 
     its_own : is_loaded (headers n) ≡ true → (headers n).file_at + (headers n).file_len ≤ total
     its_own loads =
-        let own : first_failed (segment_tests total headers n) ≡ None =
-        sym (ap (λ (c : Bool). first_failed (if c then segment_tests total headers n else [])) loads) ∙ both.1 in
-        let test = one_passed (nat_le ((headers n).file_at + (headers n).file_len) total) _ _ own in
-        grind (arith, nat_tests, test)
+        segment_lies total headers n (sym (ap (λ (c : Bool). first_failed (if c then segment_tests total headers n else [])) loads) ∙ both.1)
 
     by_last : (c : Bool) → nat_lt m n ≡ c → (m < n → (headers m).file_at + (headers m).file_len ≤ total) →
         (headers m).file_at + (headers m).file_len ≤ total
