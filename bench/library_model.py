@@ -490,15 +490,17 @@ class Run:
     def is_closed(self, descriptor, reads):
         """The closed test: the other end is closed where the page of the own one is mapped as often as that of the pipe. In between others may have
         had turns, and dropped one of the two or passed it on: so it counts only where the own turns are the same before and behind it, and is
-        made again else. It includes whether the pipe is still empty, or full."""
+        made again else. It includes whether the pipe is still empty, or full, for which the own end's position is read before the other's."""
         stage, (done, identity, *found) = self.now.stage, self.now.found
         if stage == "runs":
-            self.now.go_on("still from", done, identity, self.now.runs)
-        elif stage == "still from":
-            self.now.go_on("still to", done, identity, *found, self.pipe_word(descriptor, PIPE_READ))
-        elif stage == "still to":
-            *found, begins = found
-            if self.is_stuck(begins, self.pipe_word(descriptor, PIPE_WRITE), reads):
+            self.now.go_on("own position", done, identity, self.now.runs)
+        elif stage == "own position":
+            self.now.go_on("other position", done, identity, *found, self.pipe_word(descriptor, PIPE_READ if reads else PIPE_WRITE))
+        elif stage == "other position":
+            *found, own = found
+            other = self.pipe_word(descriptor, PIPE_WRITE if reads else PIPE_READ)
+            begins, ends = (own, other) if reads else (other, own)
+            if self.is_stuck(begins, ends, reads):
                 self.now.go_on("entry of the end", done, identity, *found)
             else:
                 self.now.go_on("locking", done, identity)

@@ -71,8 +71,8 @@ module _ (v : View) (k : Slot) (b : Born) where
   moving_silent s (pipe.TestIdentifying done) h = moved_silent v k b s done h.0
   moving_silent s (pipe.TestRuns done id) h = moved_silent v k b s done h.0.0
   moving_silent s (pipe.TestAgain done id runs) h = moved_silent v k b s done h.0.0
-  moving_silent s (pipe.TestFrom done id runs) h = moved_silent v k b s done h.0.0
-  moving_silent s (pipe.TestTo done id runs from) h = moved_silent v k b s done h.0.0
+  moving_silent s (pipe.TestOwn done id runs) h = moved_silent v k b s done h.0.0
+  moving_silent s (pipe.TestOther done id runs own) h = moved_silent v k b s done h.0.0
   moving_silent s (pipe.TestDescriptor done id runs) h = moved_silent v k b s done h.0.0
   moving_silent s (pipe.TestDescriptorCount done id runs word) h = moved_silent v k b s done h.0.0
   moving_silent s (pipe.TestPipe done id runs count) h = moved_silent v k b s done h.0.0

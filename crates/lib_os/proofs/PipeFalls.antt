@@ -210,19 +210,19 @@ module _ (done id : ℕ) where
   pub identified_falls : PipeFallsTo (pipe.TestIdentifying done) (pipe.TestRuns done id)
   identified_falls = omega arith
 
-  pub runs_falls : (word : ℕ) → PipeFallsTo (pipe.TestRuns done id) (pipe.TestFrom done id word)
+  pub runs_falls : (word : ℕ) → PipeFallsTo (pipe.TestRuns done id) (pipe.TestOwn done id word)
   runs_falls word = omega arith
 
 module _ (done id runs : ℕ) where
-  pub test_from_falls : (word : ℕ) → PipeFallsTo (pipe.TestFrom done id runs) (pipe.TestTo done id runs word)
-  test_from_falls word = omega arith
+  pub test_own_falls : (word : ℕ) → PipeFallsTo (pipe.TestOwn done id runs) (pipe.TestOther done id runs word)
+  test_own_falls word = omega arith
 
-  pub still_falls : (from : ℕ) → PipeFallsTo (pipe.TestTo done id runs from) (pipe.TestDescriptor done id runs)
-  still_falls from = omega arith
+  pub still_falls : (own : ℕ) → PipeFallsTo (pipe.TestOther done id runs own) (pipe.TestDescriptor done id runs)
+  still_falls own = omega arith
 
   -- a byte can be moved: it tries again, with its id
-  pub tries_again_falls : (from : ℕ) → id ≢ 0 → PipeFallsTo (pipe.TestTo done id runs from) (pipe.Locking done id runs)
-  tries_again_falls from some =
+  pub tries_again_falls : (own : ℕ) → id ≢ 0 → PipeFallsTo (pipe.TestOther done id runs own) (pipe.Locking done id runs)
+  tries_again_falls own some =
       let other : (id == 0) ≡ false = grind (arith, nat_tests, some) in
       subst (λ (c : Bool). (if c then 30 else 17) + 0 < 23) (sym other) (omega arith)
 
@@ -244,7 +244,7 @@ module _ (done id runs : ℕ) where
   again_asks call now closed other = (tests call done id runs closed other, omega arith)
 
   -- and so it is behind a try in vain
-  pub tried_asks : (call : Service) (now word : ℕ) → now ≢ runs → AsksTo now call (pipe.TestAgain done id runs) (pipe.TestFrom done id word)
+  pub tried_asks : (call : Service) (now word : ℕ) → now ≢ runs → AsksTo now call (pipe.TestAgain done id runs) (pipe.TestOwn done id word)
   tried_asks call now word other = (tries call done id runs other, omega arith)
 
 -- ---- where the state stands for an abstract one
@@ -258,16 +258,16 @@ module _ {names : Names} {s : KernelState} {a : AbstractState} (h : StandsFor na
 
   module _ (call : Service) (moves : moves_bytes call ≡ true) where
     -- the test lets it try again
-    pub test_again_falls : (done id runs from : ℕ) → place_of (slot_at s n) ≡ place.InService call (step.Piped (pipe.TestTo done id runs from)) →
-        PipeFallsTo (pipe.TestTo done id runs from) (pipe.Locking done id runs)
-    test_again_falls done id runs from stands =
-        let v = here.here h n call moves (pipe.TestTo done id runs from) stands refl refl in
-        let it = here.stands_here h n call moves (pipe.TestTo done id runs from) stands refl refl in
-        tries_again_falls done id runs from (λ none. own_id v.b v.is (sym it.1 ∙ none))
+    pub test_again_falls : (done id runs own : ℕ) → place_of (slot_at s n) ≡ place.InService call (step.Piped (pipe.TestOther done id runs own)) →
+        PipeFallsTo (pipe.TestOther done id runs own) (pipe.Locking done id runs)
+    test_again_falls done id runs own stands =
+        let v = here.here h n call moves (pipe.TestOther done id runs own) stands refl refl in
+        let it = here.stands_here h n call moves (pipe.TestOther done id runs own) stands refl refl in
+        tries_again_falls done id runs own (λ none. own_id v.b v.is (sym it.1 ∙ none))
 
     -- it tried in vain, so that the turn is another
     pub test_tried_asks : (done id runs word : ℕ) → place_of (slot_at s n) ≡ place.InService call (step.Piped (pipe.TestAgain done id runs)) →
-        AsksTo (slot_at s n).runs call (pipe.TestAgain done id runs) (pipe.TestFrom done id word)
+        AsksTo (slot_at s n).runs call (pipe.TestAgain done id runs) (pipe.TestOwn done id word)
     test_tried_asks done id runs word stands =
         let it = here.stands_here h n call moves (pipe.TestAgain done id runs) stands refl refl in
         let later = it.2 in

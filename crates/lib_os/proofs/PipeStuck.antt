@@ -18,7 +18,7 @@ use Rattle.lib_os.specs.AbstractRun.{abs_step, is_moved_by_another, may_be_open,
 use Rattle.lib_os.specs.AbstractRun.{waits_to_ask}
 use Rattle.lib_os.specs.AbstractState.{AbstractSlot, AbstractState, Born, Object, Phase, Stage, born, entered, in_service, read_end, write_end}
 use Rattle.lib_os.specs.Answers.{answered, refused}
-use Rattle.lib_os.specs.DescriptorPages.{HasPipe, held_of, read_of, written_of}
+use Rattle.lib_os.specs.DescriptorPages.{HasPipe, held_of}
 use Rattle.lib_os.specs.Descriptors.{object_of}
 use Rattle.lib_os.specs.Fence.{is_buffer}
 use Rattle.lib_os.specs.FileServices.{read_begun, write_gathering, write_moving}
@@ -26,7 +26,7 @@ use Rattle.lib_os.specs.LibraryCall.{library_step}
 use Rattle.lib_os.specs.LibraryPages.{View}
 use Rattle.lib_os.specs.Places.{place_of}
 use Rattle.lib_os.specs.Rows.{IsPage, Names}
-use Rattle.lib_os.specs.StandsAtPipe.{AreCounted, IsTesting, OfPipe, end_given, is_still}
+use Rattle.lib_os.specs.StandsAtPipe.{AreCounted, IsTesting, OfPipe, end_given, is_still, other_position, own_position}
 use Rattle.lib_os.specs.StandsAtPipe.{stage_put, stage_taken}
 use Rattle.lib_os.specs.StandsFor.{StandsFor, borne_in, things_in, view_of}
 use Rattle.lib_os.proofs.ClosedTold as told
@@ -94,14 +94,19 @@ module _ (a : AbstractState) (n : ℕ) (b : Born) (regs : Regs) (fd va len of : 
 
 -- ---- no byte can be moved
 
--- by how many have been taken from the pipe, and put into it
+-- by how many its own end has moved, and how many the other
 abbrev pub is_still_by : Service → ℕ → ℕ → Bool
-is_still_by (service.Write fd va len) from to = nat_le PIPEBUFSIZ ((to + (2 ^ 32 - from)) % 2 ^ 32)
-is_still_by _ from to = to == from
+is_still_by (service.Write fd va len) own other = (own + (2 ^ 32 - other)) % 2 ^ 32 == PIPEBUFSIZ
+is_still_by _ own other = other == own
 
-pub still_so : (s : Service) (page : List ℕ) → IsPage page → is_still s page ≡ is_still_by s (read_of page) (written_of page)
-still_so (service.Write fd va len) page whole = ap (nat_le PIPEBUFSIZ) (sym (wrapped_held page whole))
-still_so _ page whole = empty_test page whole
+-- it holds no more than it can
+full_test : (held : ℕ) → held ≤ PIPEBUFSIZ → nat_le PIPEBUFSIZ held ≡ (held == PIPEBUFSIZ)
+full_test held few = grind (arith, nat_tests, few)
+
+pub still_so : (s : Service) (page : List ℕ) → IsPage page → held_of page ≤ PIPEBUFSIZ →
+    is_still s page ≡ is_still_by s (own_position s page) (other_position s page)
+still_so (service.Write fd va len) page whole few = full_test (held_of page) few ∙ ap (λ (k : ℕ). k == PIPEBUFSIZ) (sym (wrapped_held page whole))
+still_so _ page whole few = empty_test page whole
 
 -- What comes of that, by whether the counts are the same.
 pub record IsStuck (a : AbstractState) (n : ℕ) (b : Born) (regs : Regs) (done closed : ℕ) : Type 0 where

@@ -1,6 +1,6 @@
 -- The test for a closed pipe, which read and write make where they can move no byte: what each of its loads gives, and how they go on behind it.
 -- What is told counts in the turn in which it is read alone. And how they go on behind their turn.
-use Rattle.std.proofs.Common.{◌≡◌, ◌≢◌, ◌∙◌, ◌+◌, ◌*◌, ◌/◌, ◌%◌, ◌^◌, ◌<◌, ◌==◌, ℕ, zero, suc, Bool, true, false, not, Option, Some}
+use Rattle.std.proofs.Common.{◌≡◌, ◌≢◌, ◌∙◌, ◌+◌, ◌*◌, ◌/◌, ◌%◌, ◌^◌, ◌<◌, ◌≤◌, ◌==◌, ℕ, zero, suc, Bool, true, false, not, Option, Some}
 use Rattle.std.proofs.Common.{List, [], refl, sym, ap, subst, arith, get_or, if◌then◌else◌}
 use Rattle.std.specs.Prelude.{slice_index}
 use Rattle.std.proofs.lemmas.Option.{same_Some}
@@ -14,24 +14,25 @@ use Rattle.jos_base.specs.Reach.{Entry}
 use Rattle.jos_base.specs.SpacesState.{reference_count}
 use Rattle.jos_base.specs.Windows.{entry_word}
 use Rattle.jos_base.specs.Words.{word_at}
-use Rattle.lib_os.specs.declared.numbers.TheConstants.{DESCRIPTORS, ENV_RUNS, PIPE_READ, PIPE_WRITE, SHORT_QUANTUM}
+use Rattle.lib_os.specs.declared.numbers.TheConstants.{DESCRIPTORS, ENV_RUNS, PIPEBUFSIZ, PIPE_READ, PIPE_WRITE, SHORT_QUANTUM}
 use Rattle.lib_os.specs.declared.place.Place.TheVariants as place
 use Rattle.lib_os.specs.declared.place.PipeStep.{PipeStep}
 use Rattle.lib_os.specs.declared.place.PipeStep.TheVariants as pipe
 use Rattle.lib_os.specs.declared.place.Step.TheVariants as step
 use Rattle.lib_os.specs.declared.progress.Progress.TheVariants as progress
 use Rattle.lib_os.specs.declared.service.Service.{Service}
+use Rattle.lib_os.specs.declared.service.Service.TheVariants as service
 use Rattle.lib_os.specs.AbstractRun.{may_wait}
 use Rattle.lib_os.specs.AbstractState.{AbstractState, Born, born}
 use Rattle.lib_os.specs.Answers.{answered}
-use Rattle.lib_os.specs.DescriptorPages.{read_of, written_of}
+use Rattle.lib_os.specs.DescriptorPages.{held_of}
 use Rattle.lib_os.specs.InOrder.{IsInOrder}
 use Rattle.lib_os.specs.LibraryPages.{View, keeps_moved}
 use Rattle.lib_os.specs.LibrarySteps.{GoesOn, HasCounts, KeepsStanding}
 use Rattle.lib_os.specs.Places.{place_of, words_at}
 use Rattle.lib_os.specs.Rows.{IsPage, Names, descriptor_page, pipe_page}
 use Rattle.lib_os.specs.StandsAtPipe.{AreCounted, HasEntryWord, HasMoved, OfPipe, StandsOnPipe, Told, TriesAgain, end_given, is_still}
-use Rattle.lib_os.specs.StandsAtPipe.{mode_wanted, most_moved}
+use Rattle.lib_os.specs.StandsAtPipe.{mode_wanted, most_moved, other_position, own_position}
 use Rattle.lib_os.specs.StandsFor.{StandsFor, view_of}
 use Rattle.lib_os.specs.StandsInHandler.{IsEndOpen}
 use Rattle.lib_os.specs.UserCalls.{load}
@@ -66,6 +67,39 @@ end_entry_at fd = UVPT + 4 * descriptor_page (fd % DESCRIPTORS)
 
 abbrev pub pipe_entry_at : ℕ → ℕ
 pipe_entry_at fd = UVPT + 4 * descriptor_page (DESCRIPTORS + fd % DESCRIPTORS)
+
+-- where that page has how many bytes its own end has moved, and how many the other
+abbrev pub own_at : Service → ℕ
+own_at (service.Write fd va len) = PIPE_WRITE
+own_at _ = PIPE_READ
+
+abbrev pub other_at : Service → ℕ
+other_at (service.Write fd va len) = PIPE_READ
+other_at _ = PIPE_WRITE
+
+own_aligned : (s : Service) → own_at s % 4 ≡ 0
+own_aligned (service.Write fd va len) = refl
+own_aligned _ = refl
+
+own_inside : (s : Service) → own_at s < 4096
+own_inside (service.Write fd va len) = omega arith
+own_inside _ = omega arith
+
+own_word_is : (s : Service) (page : List ℕ) → word_at (slice_index page) (own_at s) ≡ own_position s page
+own_word_is (service.Write fd va len) page = refl
+own_word_is _ page = refl
+
+other_aligned : (s : Service) → other_at s % 4 ≡ 0
+other_aligned (service.Write fd va len) = refl
+other_aligned _ = refl
+
+other_inside : (s : Service) → other_at s < 4096
+other_inside (service.Write fd va len) = omega arith
+other_inside _ = omega arith
+
+other_word_is : (s : Service) (page : List ℕ) → word_at (slice_index page) (other_at s) ≡ other_position s page
+other_word_is (service.Write fd va len) page = refl
+other_word_is _ page = refl
 
 runs_word : (k : Slot) → get_or (record_words k) ENV_RUNS 0 ≡ k.runs
 unfolding record_words
@@ -206,9 +240,9 @@ module _ {names : Names} {s : KernelState} {a : AbstractState} (h : StandsFor na
     pub runs_gives : HasCounts s n → load s n (runs_at id) ≡ read_at s n (runs_at id) (slot_at s n).runs
     runs_gives words = runs_loaded h n runs_v.b runs_v.is id runs_here.1 words.runs
 
-    pub runs_on : IsInOrder (loaded s n (runs_at id)) → GoesTo (runs_at id) (pipe.TestFrom done id (slot_at s n).runs)
+    pub runs_on : IsInOrder (loaded s n (runs_at id)) → GoesTo (runs_at id) (pipe.TestOwn done id (slot_at s n).runs)
     runs_on order =
-        let to : PipeStep = pipe.TestFrom done id (slot_at s n).runs in
+        let to : PipeStep = pipe.TestOwn done id (slot_at s n).runs in
         here.loads_on h n call moves (pipe.TestRuns done id) stands refl refl (runs_at id) order to refl refl (
           here.testing_with_words (view_of s.spaces (slot_at s n).directory) (slot_at s n) runs_v.b (words_of to) call done runs_here.0,
           runs_here.1,
@@ -226,94 +260,105 @@ module _ {names : Names} {s : KernelState} {a : AbstractState} (h : StandsFor na
     pub tried_gives : HasCounts s n → load s n (runs_at id) ≡ read_at s n (runs_at id) (slot_at s n).runs
     tried_gives words = runs_loaded h n tried_v.b tried_v.is id tried_here.1 words.runs
 
-    pub tried_on : IsInOrder (loaded s n (runs_at id)) → GoesTo (runs_at id) (pipe.TestFrom done id (slot_at s n).runs)
+    pub tried_on : IsInOrder (loaded s n (runs_at id)) → GoesTo (runs_at id) (pipe.TestOwn done id (slot_at s n).runs)
     tried_on order =
-        let to : PipeStep = pipe.TestFrom done id (slot_at s n).runs in
+        let to : PipeStep = pipe.TestOwn done id (slot_at s n).runs in
         here.loads_on h n call moves (pipe.TestAgain done id runs) stands refl refl (runs_at id) order to refl refl (
           here.testing_with_words (view_of s.spaces (slot_at s n).directory) (slot_at s n) tried_v.b (words_of to) call done tried_here.0,
           tried_here.1,
           omega arith,
         )
 
-  -- ---- how many bytes have been taken from the pipe, and put into it
+  -- ---- how many bytes its own end has moved, and how many the other
 
-  module _ (done id runs : ℕ) (stands : stands_at (pipe.TestFrom done id runs)) where
-    abbrev from_v : IsServed names s a n call (step.Piped (pipe.TestFrom done id runs))
-    from_v = here.here h n call moves (pipe.TestFrom done id runs) stands refl refl
+  module _ (done id runs : ℕ) (stands : stands_at (pipe.TestOwn done id runs)) where
+    abbrev own_v : IsServed names s a n call (step.Piped (pipe.TestOwn done id runs))
+    own_v = here.here h n call moves (pipe.TestOwn done id runs) stands refl refl
 
-    abbrev from_here : StandsOnPipe (view_of s.spaces (slot_at s n).directory) (slot_at s n) from_v.b call (pipe.TestFrom done id runs)
-    from_here = here.stands_here h n call moves (pipe.TestFrom done id runs) stands refl refl
+    abbrev own_here : StandsOnPipe (view_of s.spaces (slot_at s n).directory) (slot_at s n) own_v.b call (pipe.TestOwn done id runs)
+    own_here = here.stands_here h n call moves (pipe.TestOwn done id runs) stands refl refl
 
-    abbrev from_end : IsEndOpen (view_of s.spaces (slot_at s n).directory) fd (mode_wanted call)
-    from_end = here.moved_open (view_of s.spaces (slot_at s n).directory) (slot_at s n) from_v.b call done from_here.0.0
+    abbrev own_end : IsEndOpen (view_of s.spaces (slot_at s n).directory) fd (mode_wanted call)
+    own_end = here.moved_open (view_of s.spaces (slot_at s n).directory) (slot_at s n) own_v.b call done own_here.0.0
 
-    abbrev pub from_word : ℕ
-    from_word = read_of (s.spaces.pages from_end.page.frame)
+    abbrev pub own_word : ℕ
+    own_word = own_position call (s.spaces.pages own_end.page.frame)
 
-    pub from_gives : load s n (pipe_at fd PIPE_READ) ≡ read_at s n (pipe_at fd PIPE_READ) from_word
-    from_gives = word_loaded (pipe.TestFrom done id runs) stands refl refl done from_here.0.0 PIPE_READ refl (omega arith)
+    pub own_gives : load s n (pipe_at fd (own_at call)) ≡ read_at s n (pipe_at fd (own_at call)) own_word
+    own_gives =
+        word_loaded (pipe.TestOwn done id runs) stands refl refl done own_here.0.0 (own_at call) (own_aligned call) (own_inside call)
+        ∙ ap (λ (w : ℕ). read_at s n (pipe_at fd (own_at call)) w) (own_word_is call (s.spaces.pages own_end.page.frame))
 
-    pub from_on : IsInOrder (loaded s n (pipe_at fd PIPE_READ)) → GoesTo (pipe_at fd PIPE_READ) (pipe.TestTo done id runs from_word)
-    from_on order =
-        let to : PipeStep = pipe.TestTo done id runs from_word in
-        here.loads_on h n call moves (pipe.TestFrom done id runs) stands refl refl (pipe_at fd PIPE_READ) order to refl refl (
-          here.testing_with_words (view_of s.spaces (slot_at s n).directory) (slot_at s n) from_v.b (words_of to) call done from_here.0,
-          from_here.1,
-          (from_here.2, λ running same. record { page = from_end.page; lies = from_end.lies; so = refl }),
+    pub own_on : IsInOrder (loaded s n (pipe_at fd (own_at call))) → GoesTo (pipe_at fd (own_at call)) (pipe.TestOther done id runs own_word)
+    own_on order =
+        let to : PipeStep = pipe.TestOther done id runs own_word in
+        here.loads_on h n call moves (pipe.TestOwn done id runs) stands refl refl (pipe_at fd (own_at call)) order to refl refl (
+          here.testing_with_words (view_of s.spaces (slot_at s n).directory) (slot_at s n) own_v.b (words_of to) call done own_here.0,
+          own_here.1,
+          (own_here.2, λ running same. record { page = own_end.page; lies = own_end.lies; so = refl }),
         )
 
-  module _ (done id runs from : ℕ) (stands : stands_at (pipe.TestTo done id runs from)) where
-    abbrev to_v : IsServed names s a n call (step.Piped (pipe.TestTo done id runs from))
-    to_v = here.here h n call moves (pipe.TestTo done id runs from) stands refl refl
+  module _ (done id runs own : ℕ) (stands : stands_at (pipe.TestOther done id runs own)) where
+    abbrev other_v : IsServed names s a n call (step.Piped (pipe.TestOther done id runs own))
+    other_v = here.here h n call moves (pipe.TestOther done id runs own) stands refl refl
 
-    abbrev to_here : StandsOnPipe (view_of s.spaces (slot_at s n).directory) (slot_at s n) to_v.b call (pipe.TestTo done id runs from)
-    to_here = here.stands_here h n call moves (pipe.TestTo done id runs from) stands refl refl
+    abbrev other_here : StandsOnPipe (view_of s.spaces (slot_at s n).directory) (slot_at s n) other_v.b call (pipe.TestOther done id runs own)
+    other_here = here.stands_here h n call moves (pipe.TestOther done id runs own) stands refl refl
 
-    abbrev to_end : IsEndOpen (view_of s.spaces (slot_at s n).directory) fd (mode_wanted call)
-    to_end = here.moved_open (view_of s.spaces (slot_at s n).directory) (slot_at s n) to_v.b call done to_here.0.0
+    abbrev other_end : IsEndOpen (view_of s.spaces (slot_at s n).directory) fd (mode_wanted call)
+    other_end = here.moved_open (view_of s.spaces (slot_at s n).directory) (slot_at s n) other_v.b call done other_here.0.0
 
-    abbrev pub to_word : ℕ
-    to_word = written_of (s.spaces.pages to_end.page.frame)
+    abbrev pub other_word : ℕ
+    other_word = other_position call (s.spaces.pages other_end.page.frame)
 
-    pub to_gives : load s n (pipe_at fd PIPE_WRITE) ≡ read_at s n (pipe_at fd PIPE_WRITE) to_word
-    to_gives = word_loaded (pipe.TestTo done id runs from) stands refl refl done to_here.0.0 PIPE_WRITE refl (omega arith)
+    pub other_gives : load s n (pipe_at fd (other_at call)) ≡ read_at s n (pipe_at fd (other_at call)) other_word
+    other_gives =
+        word_loaded (pipe.TestOther done id runs own) stands refl refl done other_here.0.0 (other_at call) (other_aligned call) (other_inside call)
+        ∙ ap (λ (w : ℕ). read_at s n (pipe_at fd (other_at call)) w) (other_word_is call (s.spaces.pages other_end.page.frame))
+
+    -- no more than it can
+    holds_few : held_of (s.spaces.pages other_end.page.frame) ≤ PIPEBUFSIZ
+    holds_few =
+        let below : fd < DESCRIPTORS = here.moved_below (view_of s.spaces (slot_at s n).directory) (slot_at s n) other_v.b call done other_here.0.0 in
+        (here.pipe_shows h n call moves (pipe.TestOther done id runs own) stands refl refl other_end.page below other_end.lies).few
 
     -- in its turn the words tell whether a byte can be moved
-    tells_still : (c : Bool) → is_still_by call from to_word ≡ c →
+    tells_still : (c : Bool) → is_still_by call own other_word ≡ c →
         Told (slot_at s n) runs (OfPipe (view_of s.spaces (slot_at s n).directory) call (λ page. is_still call page ≡ c))
-    tells_still c test = (to_here.2.0, λ running same. by_pipe (to_here.2.1 running same))
+    tells_still c test = (other_here.2.0, λ running same. by_pipe (other_here.2.1 running same))
       where
-        by_pipe : OfPipe (view_of s.spaces (slot_at s n).directory) call (λ page. read_of page ≡ from) →
+        by_pipe : OfPipe (view_of s.spaces (slot_at s n).directory) call (λ page. own_position call page ≡ own) →
             OfPipe (view_of s.spaces (slot_at s n).directory) call (λ page. is_still call page ≡ c)
         by_pipe old =
-            let same_page : old.page ≡ to_end.page = same_Some old.page to_end.page (sym old.lies ∙ to_end.lies) in
-            let reads : read_of (s.spaces.pages to_end.page.frame) ≡ from = sym (ap (λ (e : Entry). read_of (s.spaces.pages e.frame)) same_page) ∙ old.so in
+            let same_page : old.page ≡ other_end.page = same_Some old.page other_end.page (sym old.lies ∙ other_end.lies) in
+            let moved : own_position call (s.spaces.pages other_end.page.frame) ≡ own =
+            sym (ap (λ (e : Entry). own_position call (s.spaces.pages e.frame)) same_page) ∙ old.so in
             record {
-              page = to_end.page;
-              lies = to_end.lies;
-              so = still_so call (s.spaces.pages to_end.page.frame) (whole (pipe.TestTo done id runs from) stands refl refl done to_here.0.0)
-                  ∙ ap (λ (k : ℕ). is_still_by call k to_word) reads ∙ test;
+              page = other_end.page;
+              lies = other_end.lies;
+              so = still_so call (s.spaces.pages other_end.page.frame) (whole (pipe.TestOther done id runs own) stands refl refl done other_here.0.0) holds_few
+                  ∙ ap (λ (k : ℕ). is_still_by call k other_word) moved ∙ test;
             }
 
-    module _ (order : IsInOrder (loaded s n (pipe_at fd PIPE_WRITE))) where
+    module _ (order : IsInOrder (loaded s n (pipe_at fd (other_at call)))) where
       -- still none can be moved
-      pub to_still : is_still_by call from to_word ≡ true → GoesTo (pipe_at fd PIPE_WRITE) (pipe.TestDescriptor done id runs)
-      to_still test =
+      pub other_still : is_still_by call own other_word ≡ true → GoesTo (pipe_at fd (other_at call)) (pipe.TestDescriptor done id runs)
+      other_still test =
           let to : PipeStep = pipe.TestDescriptor done id runs in
-          here.loads_on h n call moves (pipe.TestTo done id runs from) stands refl refl (pipe_at fd PIPE_WRITE) order to refl refl (
-            here.testing_with_words (view_of s.spaces (slot_at s n).directory) (slot_at s n) to_v.b (words_of to) call done to_here.0,
-            to_here.1,
+          here.loads_on h n call moves (pipe.TestOther done id runs own) stands refl refl (pipe_at fd (other_at call)) order to refl refl (
+            here.testing_with_words (view_of s.spaces (slot_at s n).directory) (slot_at s n) other_v.b (words_of to) call done other_here.0,
+            other_here.1,
             tells_still true test,
           )
 
       -- one can, and it tries again
-      pub to_again : is_still_by call from to_word ≡ false → GoesTo (pipe_at fd PIPE_WRITE) (pipe.Locking done id runs)
-      to_again test =
+      pub other_again : is_still_by call own other_word ≡ false → GoesTo (pipe_at fd (other_at call)) (pipe.Locking done id runs)
+      other_again test =
           let to : PipeStep = pipe.Locking done id runs in
           let v = view_of s.spaces (slot_at s n).directory in
-          here.loads_on h n call moves (pipe.TestTo done id runs from) stands refl refl (pipe_at fd PIPE_WRITE) order to refl refl (
-            here.moving_with_words v (slot_at s n) to_v.b (words_of to) call done (here.testing_moves v (slot_at s n) to_v.b call done to_here.0),
-            tries_so v (record (slot_at s n) { extra = words_of to }) call id runs to_here.1 (tells_still false test),
+          here.loads_on h n call moves (pipe.TestOther done id runs own) stands refl refl (pipe_at fd (other_at call)) order to refl refl (
+            here.moving_with_words v (slot_at s n) other_v.b (words_of to) call done (here.testing_moves v (slot_at s n) other_v.b call done other_here.0),
+            tries_so v (record (slot_at s n) { extra = words_of to }) call id runs other_here.1 (tells_still false test),
           )
 
   -- ---- how often the page of its end is mapped
@@ -558,11 +603,11 @@ module _ (s : KernelState) (n : ℕ) (call : Service) (moves : moves_bytes call 
   identifying_keeps done stands a h turn quiet = (refl, (h.0, identifying_on h.1 n call moves done stands))
 
   pub runs_keeps : (done id : ℕ) → is_at (pipe.TestRuns done id) → IsInOrder (loaded s n (runs_at id)) →
-      KeepsStanding progress.Hidden n s (goes_to (loaded s n (runs_at id)) (pipe.TestFrom done id (slot_at s n).runs)) []
+      KeepsStanding progress.Hidden n s (goes_to (loaded s n (runs_at id)) (pipe.TestOwn done id (slot_at s n).runs)) []
   runs_keeps done id stands order a h turn quiet = (refl, (h.0, runs_on h.1 n call moves done id stands order))
 
   pub tried_keeps : (done id runs : ℕ) → is_at (pipe.TestAgain done id runs) → IsInOrder (loaded s n (runs_at id)) →
-      KeepsStanding progress.Hidden n s (goes_to (loaded s n (runs_at id)) (pipe.TestFrom done id (slot_at s n).runs)) []
+      KeepsStanding progress.Hidden n s (goes_to (loaded s n (runs_at id)) (pipe.TestOwn done id (slot_at s n).runs)) []
   tried_keeps done id runs stands order a h turn quiet = (refl, (h.0, tried_on h.1 n call moves done id runs stands order))
 
   pub again_keeps : (done id runs closed : ℕ) → is_at (pipe.TestRunsAgain done id runs closed) → IsInOrder (loaded s n (runs_at id)) →

@@ -1045,9 +1045,9 @@ module _ (v w : View) (k : Slot) (b : Born) (status : Status) (runs : ℕ) (memo
     moves_kept (pipe.TestRuns done id) same h = (testing_kept done h.0, h.1)
     moves_kept (pipe.TestAgain done id read) same h =
         (testing_kept done h.0, h.1, let was = h.2 in let later = turn.later in omega (arith, was, later))
-    moves_kept (pipe.TestFrom done id read) same h =
+    moves_kept (pipe.TestOwn done id read) same h =
         (testing_kept done h.0, h.1, let was = h.2 in let later = turn.later in omega (arith, was, later))
-    moves_kept (pipe.TestTo done id read from) same h = tested_both done id read is_still_both h
+    moves_kept (pipe.TestOther done id read word) same h = tested_both done id read is_still_both h
     moves_kept (pipe.TestDescriptor done id read) same h = tested_both done id read is_still_both h
     moves_kept (pipe.TestDescriptorCount done id read word) same h =
         let tested = tested_both done id read is_still_both (h.0, h.1, h.3) in (tested.0, tested.1, word_still _ word row h.2, tested.2)

@@ -293,8 +293,8 @@ pipe_steps_left (pipe.UnlockingTest done id runs) = if id == 0 then 27 else 14
 pipe_steps_left (pipe.TestIdentifying done) = 26
 pipe_steps_left (pipe.TestRuns done id) = TEST_STEPS_MAX
 pipe_steps_left (pipe.TestAgain done id runs) = 13
-pipe_steps_left (pipe.TestFrom done id runs) = 24
-pipe_steps_left (pipe.TestTo done id runs from) = 23
+pipe_steps_left (pipe.TestOwn done id runs) = 24
+pipe_steps_left (pipe.TestOther done id runs own) = 23
 pipe_steps_left (pipe.TestDescriptor done id runs) = 22
 pipe_steps_left (pipe.TestDescriptorCount done id runs entry) = 21
 pipe_steps_left (pipe.TestPipe done id runs count) = 20

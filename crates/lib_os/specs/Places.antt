@@ -46,7 +46,7 @@ use Rattle.lib_os.specs.declared.pipe_numbers.TheConstants.{STEP_PIPE_READ_FROM,
 use Rattle.lib_os.specs.declared.pipe_numbers.TheConstants.{STEP_PIPE_KEEPING_HELD, STEP_PIPE_TAKING_HELD, STEP_PIPE_LOADING_OWN}
 use Rattle.lib_os.specs.declared.pipe_numbers.TheConstants.{STEP_PIPE_PUTTING_OWN, STEP_PIPE_PUTTING, STEP_PIPE_UNLOCKING_MOVED}
 use Rattle.lib_os.specs.declared.pipe_numbers.TheConstants.{STEP_PIPE_UNLOCKING_END, STEP_PIPE_UNLOCKING_TEST, STEP_PIPE_TEST_IDENTIFYING}
-use Rattle.lib_os.specs.declared.pipe_numbers.TheConstants.{STEP_PIPE_TEST_RUNS, STEP_PIPE_TEST_FROM, STEP_PIPE_TEST_TO}
+use Rattle.lib_os.specs.declared.pipe_numbers.TheConstants.{STEP_PIPE_TEST_RUNS, STEP_PIPE_TEST_OWN, STEP_PIPE_TEST_OTHER}
 use Rattle.lib_os.specs.declared.pipe_numbers.TheConstants.{STEP_PIPE_TEST_DESCRIPTOR, STEP_PIPE_TEST_DESCRIPTOR_COUNT, STEP_PIPE_TEST_PIPE}
 use Rattle.lib_os.specs.declared.pipe_numbers.TheConstants.{STEP_PIPE_TEST_PIPE_COUNT, STEP_PIPE_TEST_RUNS_AGAIN, STEP_PIPE_TEST_PAUSING}
 use Rattle.lib_os.specs.declared.pipe_numbers.TheConstants.{STEP_PIPE_STAT_LOCKING, STEP_PIPE_STAT_PAUSING, STEP_PIPE_STAT_FROM}
@@ -119,8 +119,8 @@ end_step_in words =
     else if n == STEP_PIPE_TEST_IDENTIFYING then pipe.TestIdentifying (first_word words)
     else if n == STEP_PIPE_TEST_RUNS then pipe.TestRuns (first_word words) (second_word words)
     else if n == STEP_PIPE_TEST_AGAIN then pipe.TestAgain (first_word words) (second_word words) (third_word words)
-    else if n == STEP_PIPE_TEST_FROM then pipe.TestFrom (first_word words) (second_word words) (third_word words)
-    else if n == STEP_PIPE_TEST_TO then pipe.TestTo (first_word words) (second_word words) (third_word words) (fourth_word words)
+    else if n == STEP_PIPE_TEST_OWN then pipe.TestOwn (first_word words) (second_word words) (third_word words)
+    else if n == STEP_PIPE_TEST_OTHER then pipe.TestOther (first_word words) (second_word words) (third_word words) (fourth_word words)
     else if n == STEP_PIPE_TEST_DESCRIPTOR then pipe.TestDescriptor (first_word words) (second_word words) (third_word words)
     else if n == STEP_PIPE_TEST_DESCRIPTOR_COUNT
     then pipe.TestDescriptorCount (first_word words) (second_word words) (third_word words) (fourth_word words)
@@ -269,8 +269,8 @@ pipe_words_at number (pipe.UnlockingTest done id runs) = pipe_place_words number
 pipe_words_at number (pipe.TestIdentifying done) = pipe_place_words number STEP_PIPE_TEST_IDENTIFYING done 0 0 0 0
 pipe_words_at number (pipe.TestRuns done id) = pipe_place_words number STEP_PIPE_TEST_RUNS done id 0 0 0
 pipe_words_at number (pipe.TestAgain done id runs) = pipe_place_words number STEP_PIPE_TEST_AGAIN done id runs 0 0
-pipe_words_at number (pipe.TestFrom done id runs) = pipe_place_words number STEP_PIPE_TEST_FROM done id runs 0 0
-pipe_words_at number (pipe.TestTo done id runs from) = pipe_place_words number STEP_PIPE_TEST_TO done id runs from 0
+pipe_words_at number (pipe.TestOwn done id runs) = pipe_place_words number STEP_PIPE_TEST_OWN done id runs 0 0
+pipe_words_at number (pipe.TestOther done id runs own) = pipe_place_words number STEP_PIPE_TEST_OTHER done id runs own 0
 pipe_words_at number (pipe.TestDescriptor done id runs) = pipe_place_words number STEP_PIPE_TEST_DESCRIPTOR done id runs 0 0
 pipe_words_at number (pipe.TestDescriptorCount done id runs entry) = pipe_place_words number STEP_PIPE_TEST_DESCRIPTOR_COUNT done id runs entry 0
 pipe_words_at number (pipe.TestPipe done id runs count) = pipe_place_words number STEP_PIPE_TEST_PIPE done id runs count 0

@@ -139,6 +139,15 @@ abbrev pub is_still : Service → List ℕ → Bool
 is_still (service.Write fd va len) page = nat_le PIPEBUFSIZ (held_of page)
 is_still _ page = held_of page == 0
 
+-- how many bytes its own end has moved, and how many the other
+abbrev pub own_position : Service → List ℕ → ℕ
+own_position (service.Write fd va len) page = written_of page
+own_position _ page = read_of page
+
+abbrev pub other_position : Service → List ℕ → ℕ
+other_position (service.Write fd va len) page = read_of page
+other_position _ page = written_of page
+
 -- the descriptor of a service on a pipe
 abbrev pub end_given : Service → ℕ
 end_given (service.Read fd va len) = fd
@@ -227,9 +236,9 @@ StandsMoving v k b s (pipe.UnlockingTest done id runs) = IsTesting v k b s done 
 StandsMoving v k b s (pipe.TestIdentifying done) = IsTesting v k b s done
 StandsMoving v k b s (pipe.TestRuns done id) = IsTesting v k b s done × (id ≡ k.id)
 StandsMoving v k b s (pipe.TestAgain done id runs) = IsTesting v k b s done × (id ≡ k.id) × (runs < k.runs)
-StandsMoving v k b s (pipe.TestFrom done id runs) = IsTesting v k b s done × (id ≡ k.id) × (runs ≤ k.runs)
-StandsMoving v k b s (pipe.TestTo done id runs from) =
-    IsTesting v k b s done × (id ≡ k.id) × Told k runs (OfPipe v s (λ page. read_of page ≡ from))
+StandsMoving v k b s (pipe.TestOwn done id runs) = IsTesting v k b s done × (id ≡ k.id) × (runs ≤ k.runs)
+StandsMoving v k b s (pipe.TestOther done id runs own) =
+    IsTesting v k b s done × (id ≡ k.id) × Told k runs (OfPipe v s (λ page. own_position s page ≡ own))
 StandsMoving v k b s (pipe.TestDescriptor done id runs) =
     IsTesting v k b s done × (id ≡ k.id) × Told k runs (OfPipe v s (λ page. is_still s page ≡ true))
 StandsMoving v k b s (pipe.TestDescriptorCount done id runs word) =

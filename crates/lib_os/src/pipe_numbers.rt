@@ -97,11 +97,11 @@ pub const STEP_PIPE_TEST_IDENTIFYING: u32 = 130;
 /// Where they read how often the environment has got a turn.
 pub const STEP_PIPE_TEST_RUNS: u32 = 131;
 
-/// Where they read again how many bytes have been taken from the pipe.
-pub const STEP_PIPE_TEST_FROM: u32 = 132;
+/// Where they read how many bytes their own end has moved.
+pub const STEP_PIPE_TEST_OWN: u32 = 132;
 
-/// Where they read again how many have been put into it.
-pub const STEP_PIPE_TEST_TO: u32 = 133;
+/// Where they read how many the other end has moved.
+pub const STEP_PIPE_TEST_OTHER: u32 = 133;
 
 /// Where they read the entry of their descriptor's page.
 pub const STEP_PIPE_TEST_DESCRIPTOR: u32 = 134;

@@ -14,9 +14,9 @@ use crate::pipe_numbers::{
     STEP_PIPE_STORING_READING, STEP_PIPE_STORING_WRITING, STEP_PIPE_TAKING_BYTES,
     STEP_PIPE_TAKING_HELD, STEP_PIPE_TAKING_PIPE, STEP_PIPE_TAKING_READING,
     STEP_PIPE_TAKING_WRITING, STEP_PIPE_TEST_AGAIN, STEP_PIPE_TEST_DESCRIPTOR,
-    STEP_PIPE_TEST_DESCRIPTOR_COUNT, STEP_PIPE_TEST_FROM, STEP_PIPE_TEST_IDENTIFYING,
-    STEP_PIPE_TEST_PAUSING, STEP_PIPE_TEST_PIPE, STEP_PIPE_TEST_PIPE_COUNT, STEP_PIPE_TEST_RUNS,
-    STEP_PIPE_TEST_RUNS_AGAIN, STEP_PIPE_TEST_TO, STEP_PIPE_UNDOING_READING,
+    STEP_PIPE_TEST_DESCRIPTOR_COUNT, STEP_PIPE_TEST_IDENTIFYING, STEP_PIPE_TEST_OTHER,
+    STEP_PIPE_TEST_OWN, STEP_PIPE_TEST_PAUSING, STEP_PIPE_TEST_PIPE, STEP_PIPE_TEST_PIPE_COUNT,
+    STEP_PIPE_TEST_RUNS, STEP_PIPE_TEST_RUNS_AGAIN, STEP_PIPE_UNDOING_READING,
     STEP_PIPE_UNDOING_WRITING, STEP_PIPE_UNLOCKING_END, STEP_PIPE_UNLOCKING_MOVED,
     STEP_PIPE_UNLOCKING_TEST,
 };
@@ -92,16 +92,16 @@ fn find_end_step(words: &Extra) -> PipeStep
             id: second,
             runs: third,
         },
-        STEP_PIPE_TEST_FROM => PipeStep::TestFrom {
+        STEP_PIPE_TEST_OWN => PipeStep::TestOwn {
             done: first,
             id: second,
             runs: third,
         },
-        STEP_PIPE_TEST_TO => PipeStep::TestTo {
+        STEP_PIPE_TEST_OTHER => PipeStep::TestOther {
             done: first,
             id: second,
             runs: third,
-            from: fourth,
+            own: fourth,
         },
         STEP_PIPE_TEST_DESCRIPTOR => PipeStep::TestDescriptor {
             done: first,
@@ -318,13 +318,13 @@ pub(crate) fn pipe_words_at(number: u32, at: PipeStep) -> Extra
         PipeStep::TestIdentifying { done } => (STEP_PIPE_TEST_IDENTIFYING, done, 0, 0, 0, 0),
         PipeStep::TestRuns { done, id } => (STEP_PIPE_TEST_RUNS, done, id, 0, 0, 0),
         PipeStep::TestAgain { done, id, runs } => (STEP_PIPE_TEST_AGAIN, done, id, runs, 0, 0),
-        PipeStep::TestFrom { done, id, runs } => (STEP_PIPE_TEST_FROM, done, id, runs, 0, 0),
-        PipeStep::TestTo {
+        PipeStep::TestOwn { done, id, runs } => (STEP_PIPE_TEST_OWN, done, id, runs, 0, 0),
+        PipeStep::TestOther {
             done,
             id,
             runs,
-            from,
-        } => (STEP_PIPE_TEST_TO, done, id, runs, from, 0),
+            own,
+        } => (STEP_PIPE_TEST_OTHER, done, id, runs, own, 0),
         PipeStep::TestDescriptor { done, id, runs } => (
             STEP_PIPE_TEST_DESCRIPTOR,
             done,

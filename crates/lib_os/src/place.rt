@@ -460,18 +460,18 @@ pub enum PipeStep {
         id: u32,
         runs: u32,
     },
-    /// read and write: they are about to read how many bytes have been taken from the pipe.
-    TestFrom {
+    /// read and write: they are about to read how many bytes their own end has moved: read's has taken them, and write's has put them.
+    TestOwn {
         done: u32,
         id: u32,
         runs: u32,
     },
-    /// read and write: they are about to read how many have been put into it.
-    TestTo {
+    /// read and write: they are about to read how many the other end has moved.
+    TestOther {
         done: u32,
         id: u32,
         runs: u32,
-        from: u32,
+        own: u32,
     },
     /// read and write: still no byte can be moved, and they are about to read the entry of their descriptor's page.
     TestDescriptor {

@@ -58,7 +58,7 @@ use Rattle.lib_os.proofs.PipeStored.{HasPipeOf, end_unlocked, moved_pipe, moved_
 use Rattle.lib_os.proofs.PipeStuck.{is_still_by}
 use Rattle.lib_os.proofs.PipeTaking.{read_taking_keeps, write_taking_keeps}
 use Rattle.lib_os.proofs.PipeTested as test
-use Rattle.lib_os.proofs.PipeTested.{count_at, end_entry_at, pipe_at, pipe_entry_at, runs_at}
+use Rattle.lib_os.proofs.PipeTested.{count_at, end_entry_at, other_at, own_at, pipe_at, pipe_entry_at, runs_at}
 use Rattle.lib_os.proofs.PipeWritten.{IsWritten, is_on_pipes, pipe_address, written_keeps}
 use Rattle.lib_os.proofs.Serving.{IsServed, holds_page, served}
 use Rattle.lib_os.proofs.PipesStand.{is_calm}
@@ -274,10 +274,10 @@ module _ (s : KernelState) (n : ℕ) (call : Service) (moves : moves_bytes call 
       plan = staged call (ask.System SYS_GETENVID no_args) (λ own. stages.piped (pipe.TestRuns done own))
 
   pub runs_holds : (done id : ℕ) → IsThere (pipe.TestRuns done id) →
-      ServiceHolds s n (staged call (ask.Load (stages.runs_place id)) (λ word. stages.piped (pipe.TestFrom done id word)))
+      ServiceHolds s n (staged call (ask.Load (stages.runs_place id)) (λ word. stages.piped (pipe.TestOwn done id word)))
   runs_holds done id stands =
       turn_load_holds s n call live (step.Piped (pipe.TestRuns done id)) stands (moving_steady call moves (pipe.TestRuns done id) refl) (runs_at id)
-      (λ word. stages.piped (pipe.TestFrom done id word)) (falls.runs_falls done id)
+      (λ word. stages.piped (pipe.TestOwn done id word)) (falls.runs_falls done id)
       (λ names a h turn. (
         record { word = (slot_at s n).runs; is = test.runs_gives h n call moves done id stands turn.words },
         λ order. (refl, (names, test.runs_on h n call moves done id stands order)),
@@ -285,10 +285,10 @@ module _ (s : KernelState) (n : ℕ) (call : Service) (moves : moves_bytes call 
 
   -- behind a try in vain
   pub again_holds : (done id runs : ℕ) → IsThere (pipe.TestAgain done id runs) →
-      ServiceHolds s n (staged call (ask.Load (stages.runs_place id)) (λ word. stages.piped (pipe.TestFrom done id word)))
+      ServiceHolds s n (staged call (ask.Load (stages.runs_place id)) (λ word. stages.piped (pipe.TestOwn done id word)))
   again_holds done id runs stands =
       known_load_holds s n call live (step.Piped (pipe.TestAgain done id runs)) stands (moving_steady call moves (pipe.TestAgain done id runs) refl)
-      (runs_at id) (λ word. stages.piped (pipe.TestFrom done id word))
+      (runs_at id) (λ word. stages.piped (pipe.TestOwn done id word))
       (λ word known a h turn. inr (falls.test_tried_asks h.1 n call moves done id runs word stands))
       (λ names a h turn. (
         record { word = (slot_at s n).runs; is = test.tried_gives h n call moves done id runs stands turn.words },
@@ -377,36 +377,39 @@ module _ (s : KernelState) (n : ℕ) (call : Service) (moves : moves_bytes call 
           λ order. again_follows names a h turn order ((slot_at s n).runs == runs) refl (closed == 0) refl,
         ))
 
-  pub test_from_holds : (done id runs : ℕ) → IsThere (pipe.TestFrom done id runs) →
-      ServiceHolds s n (staged call (stages.from_asked fd) (λ word. stages.piped (pipe.TestTo done id runs word)))
-  test_from_holds done id runs stands =
-      load_holds s n call live (step.Piped (pipe.TestFrom done id runs)) stands (moving_steady call moves (pipe.TestFrom done id runs) refl)
-      (pipe_at fd PIPE_READ) (λ word. stages.piped (pipe.TestTo done id runs word)) (falls.test_from_falls done id runs)
+  -- how many bytes its own end has moved, and how many the other
+  pub test_own_holds : (done id runs : ℕ) → IsThere (pipe.TestOwn done id runs) →
+      ServiceHolds s n (staged call (ask.Load (pipe_va fd + own_at call)) (λ word. stages.piped (pipe.TestOther done id runs word)))
+  test_own_holds done id runs stands =
+      load_holds s n call live (step.Piped (pipe.TestOwn done id runs)) stands (moving_steady call moves (pipe.TestOwn done id runs) refl)
+      (pipe_at fd (own_at call)) (λ word. stages.piped (pipe.TestOther done id runs word)) (falls.test_own_falls done id runs)
       (λ names a h. (
-        record { word = test.from_word h n call moves done id runs stands; is = test.from_gives h n call moves done id runs stands },
-        λ turn order. (refl, (names, test.from_on h n call moves done id runs stands order)),
+        record { word = test.own_word h n call moves done id runs stands; is = test.own_gives h n call moves done id runs stands },
+        λ turn order. (refl, (names, test.own_on h n call moves done id runs stands order)),
       ))
 
-  module _ (done id runs from : ℕ) (stands : place_of (slot_at s n) ≡ place.InService call (step.Piped (pipe.TestTo done id runs from))) where
+  module _ (done id runs own : ℕ) (stands : place_of (slot_at s n) ≡ place.InService call (step.Piped (pipe.TestOther done id runs own))) where
     abbrev pub by_still : Bool → Next
     by_still still = if still then stages.piped (pipe.TestDescriptor done id runs) else stages.piped (pipe.Locking done id runs)
 
-    still_lowers : (still : Bool) → FallsOrAsks s n call (step.Piped (pipe.TestTo done id runs from)) (by_still still)
-    still_lowers true = λ a h turn. inl (falls.still_falls done id runs from)
-    still_lowers false = λ a h turn. inl (falls.test_again_falls h.1 n call moves done id runs from stands)
+    still_lowers : (still : Bool) → FallsOrAsks s n call (step.Piped (pipe.TestOther done id runs own)) (by_still still)
+    still_lowers true = λ a h turn. inl (falls.still_falls done id runs own)
+    still_lowers false = λ a h turn. inl (falls.test_again_falls h.1 n call moves done id runs own stands)
 
-    still_follows : (names : Names) (a : AbstractState) (h : StandsFor names s a) → IsInOrder (loaded s n (pipe_at fd PIPE_WRITE)) → (still : Bool) →
-        is_still_by call from (test.to_word h n call moves done id runs from stands) ≡ still → Follows (loaded s n (pipe_at fd PIPE_WRITE)) n call a (by_still still)
-    still_follows names a h order true told = (refl, (names, test.to_still h n call moves done id runs from stands order told))
-    still_follows names a h order false told = (refl, (names, test.to_again h n call moves done id runs from stands order told))
+    still_follows : (names : Names) (a : AbstractState) (h : StandsFor names s a) → IsInOrder (loaded s n (pipe_at fd (other_at call))) →
+        (still : Bool) → is_still_by call own (test.other_word h n call moves done id runs own stands) ≡ still →
+        Follows (loaded s n (pipe_at fd (other_at call))) n call a (by_still still)
+    still_follows names a h order true told = (refl, (names, test.other_still h n call moves done id runs own stands order told))
+    still_follows names a h order false told = (refl, (names, test.other_again h n call moves done id runs own stands order told))
 
-    pub test_to_holds : ServiceHolds s n (staged call (stages.to_asked fd) (λ word. by_still (is_still_by call from word)))
-    test_to_holds =
-        known_load_holds s n call live (step.Piped (pipe.TestTo done id runs from)) stands (moving_steady call moves (pipe.TestTo done id runs from) refl)
-        (pipe_at fd PIPE_WRITE) (λ word. by_still (is_still_by call from word)) (λ word known. still_lowers (is_still_by call from word))
+    pub test_other_holds :
+        ServiceHolds s n (staged call (ask.Load (pipe_va fd + other_at call)) (λ word. by_still (is_still_by call own word)))
+    test_other_holds =
+        known_load_holds s n call live (step.Piped (pipe.TestOther done id runs own)) stands (moving_steady call moves (pipe.TestOther done id runs own) refl)
+        (pipe_at fd (other_at call)) (λ word. by_still (is_still_by call own word)) (λ word known. still_lowers (is_still_by call own word))
         (λ names a h turn. (
-          record { word = test.to_word h n call moves done id runs from stands; is = test.to_gives h n call moves done id runs from stands },
-          λ order. still_follows names a h order (is_still_by call from (test.to_word h n call moves done id runs from stands)) refl,
+          record { word = test.other_word h n call moves done id runs own stands; is = test.other_gives h n call moves done id runs own stands },
+          λ order. still_follows names a h order (is_still_by call own (test.other_word h n call moves done id runs own stands)) refl,
         ))
 
   pub test_descriptor_holds : (done id runs : ℕ) → IsThere (pipe.TestDescriptor done id runs) →
@@ -487,7 +490,7 @@ module _ (s : KernelState) (n fd va len : ℕ) (live : is_live (slot_at s n) ≡
     read_mode_follows names a h order false test false is =
         (refl, (names, read_end_takes s n fd va len stands h order test (grind (arith, nat_tests, is))))
 
-    pub read_mode_holds : ServiceHolds s n (staged reading (stages.ask_of fd stage.EndMode) (stages.next_of (of.Read len) va stage.EndMode))
+    pub read_mode_holds : ServiceHolds s n (staged reading (stages.ask_of (of.Read len) fd stage.EndMode) (stages.next_of (of.Read len) va stage.EndMode))
     read_mode_holds =
         load_holds s n reading live (step.Piped pipe.EndMode) stands refl (mode_va fd) (stages.next_of_mode (of.Read len) va)
         (λ word. read_mode_falls ((word == 1) || not (is_buffer va (wanted_of len))) (wanted_of len == 0))
@@ -498,14 +501,14 @@ module _ (s : KernelState) (n fd va len : ℕ) (live : is_live (slot_at s n) ≡
 
   module _ (stands : ReadAt pipe.TakingBytes) where
     abbrev pub read_taking : Plan
-    read_taking = staged reading (stages.ask_of fd stage.TakingBytes) (stages.next_of (of.Read len) va stage.TakingBytes)
+    read_taking = staged reading (stages.ask_of (of.Read len) fd stage.TakingBytes) (stages.next_of (of.Read len) va stage.TakingBytes)
 
     read_taking_falls : (word : ℕ) → (none : Bool) → Falls reading (step.Piped pipe.TakingBytes)
         (if not none then next.Answer word else stages.piped (pipe.Locking 0 0 0))
     read_taking_falls word true = falls.read_taking_falls
     read_taking_falls word false = tt
 
-    pub read_taking_holds : ServiceHolds s n (staged reading (stages.ask_of fd stage.TakingBytes) (stages.next_of (of.Read len) va stage.TakingBytes))
+    pub read_taking_holds : ServiceHolds s n (staged reading (stages.ask_of (of.Read len) fd stage.TakingBytes) (stages.next_of (of.Read len) va stage.TakingBytes))
     read_taking_holds =
         law_of_call s n read_taking reading (step.Piped pipe.TakingBytes) (record {
           stands = stands;
@@ -651,7 +654,7 @@ module _ (s : KernelState) (n fd va len : ℕ) (live : is_live (slot_at s n) ≡
     write_mode_follows names a h order false test false is =
         (refl, (names, write_end_takes s n fd va len stands h order test (grind (arith, nat_tests, is))))
 
-    pub write_mode_holds : ServiceHolds s n (staged writing (stages.ask_of fd stage.EndMode) (stages.next_of (of.Write len) va stage.EndMode))
+    pub write_mode_holds : ServiceHolds s n (staged writing (stages.ask_of (of.Write len) fd stage.EndMode) (stages.next_of (of.Write len) va stage.EndMode))
     write_mode_holds =
         load_holds s n writing live (step.Piped pipe.EndMode) stands refl (mode_va fd) (stages.next_of_mode (of.Write len) va)
         (λ word. write_mode_falls ((word == 0) || not (is_buffer va (wanted_of len))) (wanted_of len == 0))
@@ -662,14 +665,14 @@ module _ (s : KernelState) (n fd va len : ℕ) (live : is_live (slot_at s n) ≡
 
   module _ (stands : WriteAt pipe.TakingBytes) where
     abbrev pub write_taking : Plan
-    write_taking = staged writing (stages.ask_of fd stage.TakingBytes) (stages.next_of (of.Write len) va stage.TakingBytes)
+    write_taking = staged writing (stages.ask_of (of.Write len) fd stage.TakingBytes) (stages.next_of (of.Write len) va stage.TakingBytes)
 
     write_taking_falls : (word : ℕ) → (none : Bool) → Falls writing (step.Piped pipe.TakingBytes)
         (if not none then next.Answer word else next.GoOn (step.BufferRegion 0 PGSIZE))
     write_taking_falls word true = falls.write_taking_falls
     write_taking_falls word false = tt
 
-    pub write_taking_holds : ServiceHolds s n (staged writing (stages.ask_of fd stage.TakingBytes) (stages.next_of (of.Write len) va stage.TakingBytes))
+    pub write_taking_holds : ServiceHolds s n (staged writing (stages.ask_of (of.Write len) fd stage.TakingBytes) (stages.next_of (of.Write len) va stage.TakingBytes))
     write_taking_holds =
         law_of_call s n write_taking writing (step.Piped pipe.TakingBytes) (record {
           stands = stands;

@@ -94,7 +94,7 @@ module _ (s : KernelState) (n fd va len : ℕ) (live : is_live (slot_at s n) ≡
   reading = service.Read fd va len
 
   abbrev pub reading_at : PipeStage → Plan
-  reading_at at = staged (service.Read fd va len) (stages.ask_of fd at) (stages.next_of (of.Read len) va at)
+  reading_at at = staged (service.Read fd va len) (stages.ask_of (of.Read len) fd at) (stages.next_of (of.Read len) va at)
 
   no_read : (at : PipeStep) → place_of (slot_at s n) ≡ place.InService (service.Read fd va len) (step.Piped at) →
       is_pausing (place.InService reading (step.Piped at)) ≡ false → ((v : View) (k : Slot) (b : Born) → StandsAtStep v k b reading (step.Piped at) → ⊥) →
@@ -127,8 +127,8 @@ module _ (s : KernelState) (n fd va len : ℕ) (live : is_live (slot_at s n) ≡
   read_end_holds (pipe.TestIdentifying done) stands = ends.identifying_holds s n reading refl live done stands
   read_end_holds (pipe.TestRuns done id) stands = ends.runs_holds s n reading refl live done id stands
   read_end_holds (pipe.TestAgain done id runs) stands = ends.again_holds s n reading refl live done id runs stands
-  read_end_holds (pipe.TestFrom done id runs) stands = ends.test_from_holds s n reading refl live done id runs stands
-  read_end_holds (pipe.TestTo done id runs from) stands = ends.test_to_holds s n reading refl live done id runs from stands
+  read_end_holds (pipe.TestOwn done id runs) stands = ends.test_own_holds s n reading refl live done id runs stands
+  read_end_holds (pipe.TestOther done id runs own) stands = ends.test_other_holds s n reading refl live done id runs own stands
   read_end_holds (pipe.TestDescriptor done id runs) stands = ends.test_descriptor_holds s n reading refl live done id runs stands
   read_end_holds (pipe.TestDescriptorCount done id runs entry) stands = ends.descriptor_count_holds s n reading refl live done id runs entry stands
   read_end_holds (pipe.TestPipe done id runs count) stands = ends.test_pipe_holds s n reading refl live done id runs count stands
@@ -170,7 +170,7 @@ module _ (s : KernelState) (n fd va len : ℕ) (live : is_live (slot_at s n) ≡
   writing = service.Write fd va len
 
   abbrev pub writing_at : PipeStage → Plan
-  writing_at at = staged (service.Write fd va len) (stages.ask_of fd at) (stages.next_of (of.Write len) va at)
+  writing_at at = staged (service.Write fd va len) (stages.ask_of (of.Write len) fd at) (stages.next_of (of.Write len) va at)
 
   no_write : (at : PipeStep) → place_of (slot_at s n) ≡ place.InService (service.Write fd va len) (step.Piped at) →
       is_pausing (place.InService writing (step.Piped at)) ≡ false → ((v : View) (k : Slot) (b : Born) → StandsAtStep v k b writing (step.Piped at) → ⊥) →
@@ -205,8 +205,8 @@ module _ (s : KernelState) (n fd va len : ℕ) (live : is_live (slot_at s n) ≡
   write_end_holds (pipe.TestIdentifying done) stands = ends.identifying_holds s n writing refl live done stands
   write_end_holds (pipe.TestRuns done id) stands = ends.runs_holds s n writing refl live done id stands
   write_end_holds (pipe.TestAgain done id runs) stands = ends.again_holds s n writing refl live done id runs stands
-  write_end_holds (pipe.TestFrom done id runs) stands = ends.test_from_holds s n writing refl live done id runs stands
-  write_end_holds (pipe.TestTo done id runs from) stands = ends.test_to_holds s n writing refl live done id runs from stands
+  write_end_holds (pipe.TestOwn done id runs) stands = ends.test_own_holds s n writing refl live done id runs stands
+  write_end_holds (pipe.TestOther done id runs own) stands = ends.test_other_holds s n writing refl live done id runs own stands
   write_end_holds (pipe.TestDescriptor done id runs) stands = ends.test_descriptor_holds s n writing refl live done id runs stands
   write_end_holds (pipe.TestDescriptorCount done id runs entry) stands = ends.descriptor_count_holds s n writing refl live done id runs entry stands
   write_end_holds (pipe.TestPipe done id runs count) stands = ends.test_pipe_holds s n writing refl live done id runs count stands
@@ -248,7 +248,7 @@ module _ (s : KernelState) (n fd va : ℕ) (live : is_live (slot_at s n) ≡ tru
   telling = service.Stat fd va
 
   abbrev pub telling_at : PipeStage → Plan
-  telling_at at = staged (service.Stat fd va) (stages.ask_of fd at) (stages.next_of of.Stat va at)
+  telling_at at = staged (service.Stat fd va) (stages.ask_of of.Stat fd at) (stages.next_of of.Stat va at)
 
   abbrev StatAt : PipeStep → Type 0
   StatAt at = place_of (slot_at s n) ≡ place.InService (service.Stat fd va) (step.Piped at)
@@ -338,11 +338,11 @@ module _ (s : KernelState) (n fd va : ℕ) (live : is_live (slot_at s n) ≡ tru
       known_load_holds s n telling live (step.Piped at) stands steady va next (λ word known. less (stat_none at stands none) word)
       (λ names a h turn. absurd (stat_none at stands none a (names, h)))
 
-  still_lowers : (done id runs from : ℕ) → ((a : AbstractState) → Stands s a → ⊥) → (still : Bool) →
-      FallsOrAsks s n telling (step.Piped (pipe.TestTo done id runs from))
+  still_lowers : (done id runs own : ℕ) → ((a : AbstractState) → Stands s a → ⊥) → (still : Bool) →
+      FallsOrAsks s n telling (step.Piped (pipe.TestOther done id runs own))
       (if still then stages.piped (pipe.TestDescriptor done id runs) else stages.piped (pipe.Locking done id runs))
-  still_lowers done id runs from none true = λ a h turn. absurd (none a h)
-  still_lowers done id runs from none false = λ a h turn. absurd (none a h)
+  still_lowers done id runs own none true = λ a h turn. absurd (none a h)
+  still_lowers done id runs own none false = λ a h turn. absurd (none a h)
 
   runs_lower : (done id runs closed : ℕ) → ((a : AbstractState) → Stands s a → ⊥) → (same opened : Bool) →
       FallsOrAsks s n telling (step.Piped (pipe.TestRunsAgain done id runs closed))
@@ -401,16 +401,16 @@ module _ (s : KernelState) (n fd va : ℕ) (live : is_live (slot_at s n) ≡ tru
   stat_end_holds (pipe.TestIdentifying done) stands = stat_identifies done stands
   stat_end_holds (pipe.TestRuns done id) stands =
       nobody_loads s n telling live (step.Piped (pipe.TestRuns done id)) stands (λ v k b h. h) refl _
-      (λ word. stages.piped (pipe.TestFrom done id word)) (falls.runs_falls done id)
+      (λ word. stages.piped (pipe.TestOwn done id word)) (falls.runs_falls done id)
   stat_end_holds (pipe.TestAgain done id runs) stands =
-      stat_loads (pipe.TestAgain done id runs) _ (λ word. stages.piped (pipe.TestFrom done id word)) stands refl (λ v k b h. h)
+      stat_loads (pipe.TestAgain done id runs) _ (λ word. stages.piped (pipe.TestOwn done id word)) stands refl (λ v k b h. h)
       (λ none word a h turn. absurd (none a h))
-  stat_end_holds (pipe.TestFrom done id runs) stands =
-      nobody_loads s n telling live (step.Piped (pipe.TestFrom done id runs)) stands (λ v k b h. h) refl _
-      (λ word. stages.piped (pipe.TestTo done id runs word)) (falls.test_from_falls done id runs)
-  stat_end_holds (pipe.TestTo done id runs from) stands =
-      stat_loads (pipe.TestTo done id runs from) _ (stages.next_of_test of.Stat done id runs from) stands refl (λ v k b h. h)
-      (λ none word. still_lowers done id runs from none (word == from))
+  stat_end_holds (pipe.TestOwn done id runs) stands =
+      nobody_loads s n telling live (step.Piped (pipe.TestOwn done id runs)) stands (λ v k b h. h) refl _
+      (λ word. stages.piped (pipe.TestOther done id runs word)) (falls.test_own_falls done id runs)
+  stat_end_holds (pipe.TestOther done id runs own) stands =
+      stat_loads (pipe.TestOther done id runs own) _ (stages.next_of_test of.Stat done id runs own) stands refl (λ v k b h. h)
+      (λ none word. still_lowers done id runs own none (word == own))
   stat_end_holds (pipe.TestDescriptor done id runs) stands =
       nobody_loads s n telling live (step.Piped (pipe.TestDescriptor done id runs)) stands (λ v k b h. h) refl _
       (λ word. stages.piped (pipe.TestDescriptorCount done id runs word)) (falls.descriptor_falls done id runs)

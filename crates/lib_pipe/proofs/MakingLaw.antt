@@ -266,8 +266,8 @@ module _ (s : KernelState) (n : ℕ) (live : is_live (slot_at s n) ≡ true) whe
   piped_holds (pipe.TestIdentifying done) stands = no_step (step.Piped (pipe.TestIdentifying done)) stands (λ view k b h. h)
   piped_holds (pipe.TestRuns done id) stands = no_step (step.Piped (pipe.TestRuns done id)) stands (λ view k b h. h)
   piped_holds (pipe.TestAgain done id runs) stands = no_step (step.Piped (pipe.TestAgain done id runs)) stands (λ view k b h. h)
-  piped_holds (pipe.TestFrom done id runs) stands = no_step (step.Piped (pipe.TestFrom done id runs)) stands (λ view k b h. h)
-  piped_holds (pipe.TestTo done id runs from) stands = no_step (step.Piped (pipe.TestTo done id runs from)) stands (λ view k b h. h)
+  piped_holds (pipe.TestOwn done id runs) stands = no_step (step.Piped (pipe.TestOwn done id runs)) stands (λ view k b h. h)
+  piped_holds (pipe.TestOther done id runs own) stands = no_step (step.Piped (pipe.TestOther done id runs own)) stands (λ view k b h. h)
   piped_holds (pipe.TestDescriptor done id runs) stands = no_step (step.Piped (pipe.TestDescriptor done id runs)) stands (λ view k b h. h)
   piped_holds (pipe.TestDescriptorCount done id runs word) stands =
       no_step (step.Piped (pipe.TestDescriptorCount done id runs word)) stands (λ view k b h. h)

@@ -11,7 +11,7 @@ use Rattle.lib_pipe.specs.declared.ends.PipeService.{PipeService}
 use Rattle.lib_pipe.specs.declared.ends.PipeService.TheVariants as of
 use Rattle.lib_pipe.specs.declared.ends.PipeStage.{PipeStage}
 use Rattle.lib_pipe.specs.declared.ends.PipeStage.TheVariants as stage
-use Rattle.lib_pipe.specs.PipeStages.{all_moved, is_stuck, next_of, next_of_stuck, next_to_move, piped, stage_of, wanted}
+use Rattle.lib_pipe.specs.PipeStages.{all_moved, is_stuck, next_of, next_of_stuck, next_to_move, piped, seems_stuck, stage_of, wanted}
 use Rattle.lib_pipe.specs.ShortLocks.{LocksAreShort, TestsAreShort, left_behind, left_in, locked_steps, test_steps, waits}
 
 -- so much is left behind what is done next, which waits for nothing
@@ -37,8 +37,8 @@ held_there (pipe.UnlockingTest done id runs) = refl
 held_there (pipe.TestIdentifying done) = refl
 held_there (pipe.TestRuns done id) = refl
 held_there (pipe.TestAgain done id runs) = refl
-held_there (pipe.TestFrom done id runs) = refl
-held_there (pipe.TestTo done id runs from) = refl
+held_there (pipe.TestOwn done id runs) = refl
+held_there (pipe.TestOther done id runs own) = refl
 held_there (pipe.TestDescriptor done id runs) = refl
 held_there (pipe.TestDescriptorCount done id runs entry) = refl
 held_there (pipe.TestPipe done id runs count) = refl
@@ -85,8 +85,8 @@ few (stage.UnlockingTest done id runs) = omega arith
 few (stage.TestIdentifying done) = omega arith
 few (stage.TestRuns done id) = omega arith
 few (stage.TestAgain done id runs) = omega arith
-few (stage.TestFrom done id runs) = omega arith
-few (stage.TestTo done id runs from) = omega arith
+few (stage.TestOwn done id runs) = omega arith
+few (stage.TestOther done id runs own) = omega arith
 few (stage.TestDescriptor done id runs) = omega arith
 few (stage.TestDescriptorCount done id runs entry) = omega arith
 few (stage.TestPipe done id runs count) = omega arith
@@ -156,8 +156,8 @@ locked_goes service va word (stage.UnlockingTest done id runs) some = unlocked_g
 locked_goes service va word (stage.TestIdentifying done) some = absurd (omega (arith, some))
 locked_goes service va word (stage.TestRuns done id) some = absurd (omega (arith, some))
 locked_goes service va word (stage.TestAgain done id runs) some = absurd (omega (arith, some))
-locked_goes service va word (stage.TestFrom done id runs) some = absurd (omega (arith, some))
-locked_goes service va word (stage.TestTo done id runs from) some = absurd (omega (arith, some))
+locked_goes service va word (stage.TestOwn done id runs) some = absurd (omega (arith, some))
+locked_goes service va word (stage.TestOther done id runs own) some = absurd (omega (arith, some))
 locked_goes service va word (stage.TestDescriptor done id runs) some = absurd (omega (arith, some))
 locked_goes service va word (stage.TestDescriptorCount done id runs entry) some = absurd (omega (arith, some))
 locked_goes service va word (stage.TestPipe done id runs count) some = absurd (omega (arith, some))
@@ -199,8 +199,8 @@ test_few (stage.UnlockingTest done id runs) = omega arith
 test_few (stage.TestIdentifying done) = omega arith
 test_few (stage.TestRuns done id) = omega arith
 test_few (stage.TestAgain done id runs) = omega arith
-test_few (stage.TestFrom done id runs) = omega arith
-test_few (stage.TestTo done id runs from) = omega arith
+test_few (stage.TestOwn done id runs) = omega arith
+test_few (stage.TestOther done id runs own) = omega arith
 test_few (stage.TestDescriptor done id runs) = omega arith
 test_few (stage.TestDescriptorCount done id runs entry) = omega arith
 test_few (stage.TestPipe done id runs count) = omega arith
@@ -237,8 +237,8 @@ test_goes service va word (stage.UnlockingTest done id runs) some = absurd (omeg
 test_goes service va word (stage.TestIdentifying done) some = absurd (omega (arith, some))
 test_goes service va word (stage.TestRuns done id) some = (omega arith, refl)
 test_goes service va word (stage.TestAgain done id runs) some = (omega arith, refl)
-test_goes service va word (stage.TestFrom done id runs) some = (omega arith, refl)
-test_goes service va word (stage.TestTo done id runs from) some = still_goes done id runs (is_stuck service from word)
+test_goes service va word (stage.TestOwn done id runs) some = (omega arith, refl)
+test_goes service va word (stage.TestOther done id runs own) some = still_goes done id runs (seems_stuck service own word)
 test_goes service va word (stage.TestDescriptor done id runs) some = (omega arith, refl)
 test_goes service va word (stage.TestDescriptorCount done id runs entry) some = (omega arith, refl)
 test_goes service va word (stage.TestPipe done id runs count) some = (omega arith, refl)

@@ -44,8 +44,8 @@ stage_of (pipe.UnlockingTest done id runs) = Some (stage.UnlockingTest done id r
 stage_of (pipe.TestIdentifying done) = Some (stage.TestIdentifying done)
 stage_of (pipe.TestRuns done id) = Some (stage.TestRuns done id)
 stage_of (pipe.TestAgain done id runs) = Some (stage.TestAgain done id runs)
-stage_of (pipe.TestFrom done id runs) = Some (stage.TestFrom done id runs)
-stage_of (pipe.TestTo done id runs from) = Some (stage.TestTo done id runs from)
+stage_of (pipe.TestOwn done id runs) = Some (stage.TestOwn done id runs)
+stage_of (pipe.TestOther done id runs own) = Some (stage.TestOther done id runs own)
 stage_of (pipe.TestDescriptor done id runs) = Some (stage.TestDescriptor done id runs)
 stage_of (pipe.TestDescriptorCount done id runs entry) = Some (stage.TestDescriptorCount done id runs entry)
 stage_of (pipe.TestPipe done id runs count) = Some (stage.TestPipe done id runs count)
@@ -81,6 +81,11 @@ abbrev pub is_stuck : PipeService → ℕ → ℕ → Bool
 is_stuck (of.Write len) from to = nat_le PIPEBUFSIZ (held_of from to)
 is_stuck _ from to = to == from
 
+-- the test finds so, without the lock: by how many the own end has moved, which is read first, and how many the other end has
+abbrev pub seems_stuck : PipeService → ℕ → ℕ → Bool
+seems_stuck (of.Write len) own other = held_of other own == PIPEBUFSIZ
+seems_stuck _ own other = other == own
+
 -- the other end is closed, by how often this end's descriptor is mapped, and how often the pipe's page
 abbrev pub is_closed : ℕ → ℕ → Bool
 is_closed descriptors pages = descriptors == pages
@@ -113,38 +118,47 @@ from_asked fd = ask.Load (pipe_va fd + PIPE_READ)
 abbrev pub to_asked : ℕ → Ask
 to_asked fd = ask.Load (pipe_va fd + PIPE_WRITE)
 
-abbrev pub ask_of : ℕ → PipeStage → Ask
-ask_of fd stage.EndMode = ask.Load (descriptor_va fd + FD_MODE)
-ask_of fd stage.TakingBytes = ask.System SYS_PAGE_ALLOC (0 ∷ UTEMP ∷ request_perm ∷ 0 ∷ 0 ∷ [])
-ask_of fd (stage.Locking done id runs) = lock_asked fd
-ask_of fd (stage.LockPausing done) = ask.System SYS_YIELD no_args
-ask_of fd (stage.ReadFrom done id runs) = from_asked fd
-ask_of fd (stage.ReadTo done id runs from) = to_asked fd
-ask_of fd (stage.LoadingHeld done from) = ask.LoadByte (byte_place fd from)
-ask_of fd (stage.KeepingHeld done from byte) = ask.StoreByte (own_place done) (byte % 256)
-ask_of fd (stage.TakingHeld done from) = ask.Store (pipe_va fd + PIPE_READ) ((from + 1) % 2 ^ 32)
-ask_of fd (stage.LoadingOwn done to) = ask.LoadByte (own_place done)
-ask_of fd (stage.PuttingOwn done to byte) = ask.StoreByte (byte_place fd to) (byte % 256)
-ask_of fd (stage.Putting done to) = ask.Store (pipe_va fd + PIPE_WRITE) ((to + 1) % 2 ^ 32)
-ask_of fd (stage.UnlockingMoved done) = unlock_asked fd
-ask_of fd (stage.UnlockingEnd done) = unlock_asked fd
-ask_of fd (stage.UnlockingTest done id runs) = unlock_asked fd
-ask_of fd (stage.TestIdentifying done) = ask.System SYS_GETENVID no_args
-ask_of fd (stage.TestRuns done id) = ask.Load (runs_place id)
-ask_of fd (stage.TestAgain done id runs) = ask.Load (runs_place id)
-ask_of fd (stage.TestFrom done id runs) = from_asked fd
-ask_of fd (stage.TestTo done id runs from) = to_asked fd
-ask_of fd (stage.TestDescriptor done id runs) = entry_asked fd
-ask_of fd (stage.TestDescriptorCount done id runs entry) = ask.Load (count_place entry)
-ask_of fd (stage.TestPipe done id runs count) = pipe_entry_asked fd
-ask_of fd (stage.TestPipeCount done id runs count entry) = ask.Load (count_place entry)
-ask_of fd (stage.TestRunsAgain done id runs closed) = ask.Load (runs_place id)
-ask_of fd (stage.TestPausing done) = ask.System SYS_YIELD no_args
-ask_of fd stage.StatLocking = lock_asked fd
-ask_of fd stage.StatPausing = ask.System SYS_YIELD no_args
-ask_of fd stage.StatFrom = from_asked fd
-ask_of fd (stage.StatTo from) = to_asked fd
-ask_of fd (stage.StatUnlocking held) = unlock_asked fd
+-- where that page has how many bytes the own end has moved, and how many the other
+abbrev pub own_offset : PipeService → ℕ
+own_offset (of.Write len) = PIPE_WRITE
+own_offset _ = PIPE_READ
+
+abbrev pub other_offset : PipeService → ℕ
+other_offset (of.Write len) = PIPE_READ
+other_offset _ = PIPE_WRITE
+
+abbrev pub ask_of : PipeService → ℕ → PipeStage → Ask
+ask_of service fd stage.EndMode = ask.Load (descriptor_va fd + FD_MODE)
+ask_of service fd stage.TakingBytes = ask.System SYS_PAGE_ALLOC (0 ∷ UTEMP ∷ request_perm ∷ 0 ∷ 0 ∷ [])
+ask_of service fd (stage.Locking done id runs) = lock_asked fd
+ask_of service fd (stage.LockPausing done) = ask.System SYS_YIELD no_args
+ask_of service fd (stage.ReadFrom done id runs) = from_asked fd
+ask_of service fd (stage.ReadTo done id runs from) = to_asked fd
+ask_of service fd (stage.LoadingHeld done from) = ask.LoadByte (byte_place fd from)
+ask_of service fd (stage.KeepingHeld done from byte) = ask.StoreByte (own_place done) (byte % 256)
+ask_of service fd (stage.TakingHeld done from) = ask.Store (pipe_va fd + PIPE_READ) ((from + 1) % 2 ^ 32)
+ask_of service fd (stage.LoadingOwn done to) = ask.LoadByte (own_place done)
+ask_of service fd (stage.PuttingOwn done to byte) = ask.StoreByte (byte_place fd to) (byte % 256)
+ask_of service fd (stage.Putting done to) = ask.Store (pipe_va fd + PIPE_WRITE) ((to + 1) % 2 ^ 32)
+ask_of service fd (stage.UnlockingMoved done) = unlock_asked fd
+ask_of service fd (stage.UnlockingEnd done) = unlock_asked fd
+ask_of service fd (stage.UnlockingTest done id runs) = unlock_asked fd
+ask_of service fd (stage.TestIdentifying done) = ask.System SYS_GETENVID no_args
+ask_of service fd (stage.TestRuns done id) = ask.Load (runs_place id)
+ask_of service fd (stage.TestAgain done id runs) = ask.Load (runs_place id)
+ask_of service fd (stage.TestOwn done id runs) = ask.Load (pipe_va fd + own_offset service)
+ask_of service fd (stage.TestOther done id runs own) = ask.Load (pipe_va fd + other_offset service)
+ask_of service fd (stage.TestDescriptor done id runs) = entry_asked fd
+ask_of service fd (stage.TestDescriptorCount done id runs entry) = ask.Load (count_place entry)
+ask_of service fd (stage.TestPipe done id runs count) = pipe_entry_asked fd
+ask_of service fd (stage.TestPipeCount done id runs count entry) = ask.Load (count_place entry)
+ask_of service fd (stage.TestRunsAgain done id runs closed) = ask.Load (runs_place id)
+ask_of service fd (stage.TestPausing done) = ask.System SYS_YIELD no_args
+ask_of service fd stage.StatLocking = lock_asked fd
+ask_of service fd stage.StatPausing = ask.System SYS_YIELD no_args
+ask_of service fd stage.StatFrom = from_asked fd
+ask_of service fd (stage.StatTo from) = to_asked fd
+ask_of service fd (stage.StatUnlocking held) = unlock_asked fd
 
 -- ---- what it does next
 
@@ -198,8 +212,8 @@ next_of_unlocked done id runs = if id == 0 then piped (pipe.TestIdentifying done
 
 -- at the test a byte can be moved, or not
 abbrev pub next_of_test : PipeService → ℕ → ℕ → ℕ → ℕ → ℕ → Next
-next_of_test service done id runs from to =
-    if is_stuck service from to then piped (pipe.TestDescriptor done id runs) else piped (pipe.Locking done id runs)
+next_of_test service done id runs own other =
+    if seems_stuck service own other then piped (pipe.TestDescriptor done id runs) else piped (pipe.Locking done id runs)
 
 -- the environment has got another turn meanwhile; the other end is open, or closed
 abbrev pub next_of_runs : ℕ → ℕ → ℕ → ℕ → ℕ → Next
@@ -225,10 +239,10 @@ next_of service va (stage.UnlockingMoved done) word = next_of_moved service done
 next_of service va (stage.UnlockingEnd done) word = next.GoOn (step.FileRegion 0 done)
 next_of service va (stage.UnlockingTest done id runs) word = next_of_unlocked done id runs
 next_of service va (stage.TestIdentifying done) own = piped (pipe.TestRuns done own)
-next_of service va (stage.TestRuns done id) word = piped (pipe.TestFrom done id word)
-next_of service va (stage.TestAgain done id runs) word = piped (pipe.TestFrom done id word)
-next_of service va (stage.TestFrom done id runs) word = piped (pipe.TestTo done id runs word)
-next_of service va (stage.TestTo done id runs from) word = next_of_test service done id runs from word
+next_of service va (stage.TestRuns done id) word = piped (pipe.TestOwn done id word)
+next_of service va (stage.TestAgain done id runs) word = piped (pipe.TestOwn done id word)
+next_of service va (stage.TestOwn done id runs) word = piped (pipe.TestOther done id runs word)
+next_of service va (stage.TestOther done id runs own) word = next_of_test service done id runs own word
 next_of service va (stage.TestDescriptor done id runs) word = piped (pipe.TestDescriptorCount done id runs word)
 next_of service va (stage.TestDescriptorCount done id runs entry) word = piped (pipe.TestPipe done id runs word)
 next_of service va (stage.TestPipe done id runs count) word = piped (pipe.TestPipeCount done id runs count word)

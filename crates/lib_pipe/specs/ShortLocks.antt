@@ -66,8 +66,8 @@ pub record LocksAreShort : Type 0 where
 abbrev pub test_steps : PipeStage → ℕ
 test_steps (stage.TestRuns done id) = 8
 test_steps (stage.TestAgain done id runs) = 8
-test_steps (stage.TestFrom done id runs) = 7
-test_steps (stage.TestTo done id runs from) = 6
+test_steps (stage.TestOwn done id runs) = 7
+test_steps (stage.TestOther done id runs own) = 6
 test_steps (stage.TestDescriptor done id runs) = 5
 test_steps (stage.TestDescriptorCount done id runs entry) = 4
 test_steps (stage.TestPipe done id runs count) = 3

@@ -28,7 +28,8 @@ pub enum PipeService {
 }
 
 /// How far it is. `done` is how many bytes it has moved; `from` and `to` are how many have been taken from the pipe and put into it so far, each
-/// modulo 2^32; `id` is the environment's id, and `runs` how often it had got a turn at the test before.
+/// modulo 2^32, of which `own` is that of the bytes that its end has moved; `id` is the environment's id, and `runs` how often it had got a turn at
+/// the test before.
 #[derive(Clone, Copy, Debug, PartialEq, Eq)]
 pub enum PipeStage {
     /// read and write: they are about to read which end their descriptor names.
@@ -119,18 +120,18 @@ pub enum PipeStage {
         id: u32,
         runs: u32,
     },
-    /// They are about to read how many bytes have been taken from the pipe.
-    TestFrom {
+    /// They are about to read how many bytes their own end has moved: read's has taken them, and write's has put them.
+    TestOwn {
         done: u32,
         id: u32,
         runs: u32,
     },
-    /// They are about to read how many have been put into it.
-    TestTo {
+    /// They are about to read how many the other end has moved.
+    TestOther {
         done: u32,
         id: u32,
         runs: u32,
-        from: u32,
+        own: u32,
     },
     /// Still none can be moved, and they are about to read the entry of their descriptor's page.
     TestDescriptor {
@@ -220,17 +221,17 @@ pub fn pipe_stage_of(at: PipeStep) -> Option<PipeStage>
         PipeStep::TestIdentifying { done } => PipeStage::TestIdentifying { done },
         PipeStep::TestRuns { done, id } => PipeStage::TestRuns { done, id },
         PipeStep::TestAgain { done, id, runs } => PipeStage::TestAgain { done, id, runs },
-        PipeStep::TestFrom { done, id, runs } => PipeStage::TestFrom { done, id, runs },
-        PipeStep::TestTo {
+        PipeStep::TestOwn { done, id, runs } => PipeStage::TestOwn { done, id, runs },
+        PipeStep::TestOther {
             done,
             id,
             runs,
-            from,
-        } => PipeStage::TestTo {
+            own,
+        } => PipeStage::TestOther {
             done,
             id,
             runs,
-            from,
+            own,
         },
         PipeStep::TestDescriptor { done, id, runs } => PipeStage::TestDescriptor { done, id, runs },
         PipeStep::TestDescriptorCount {
@@ -318,6 +319,38 @@ fn is_stuck(service: PipeService, from: u32, to: u32) -> bool
     }
 }
 
+/// Whether the test finds that no byte can be moved, by how many bytes the own end has moved, which it reads first, and how many the other end has.
+/// Without the lock others may move bytes between the two loads. But no number falls, and a pipe holds 32 bytes at most: where just 32 lie between
+/// the two, or none, it was full, or empty, all that time.
+fn seems_stuck(service: PipeService, own: u32, other: u32) -> bool
+    ensures { result ≡ stages.seems_stuck service own other }
+{
+    match service {
+        PipeService::Write { .. } => own.wrapping_sub(other) == PIPEBUFSIZ as u32,
+        PipeService::Read { .. } | PipeService::Stat => other == own,
+    }
+}
+
+/// Where the pipe's page has how many bytes the own end has moved.
+fn own_offset(service: PipeService) -> u32
+    ensures { result ≡ stages.own_offset service }
+{
+    match service {
+        PipeService::Write { .. } => PIPE_WRITE,
+        PipeService::Read { .. } | PipeService::Stat => PIPE_READ,
+    }
+}
+
+/// Where it has how many the other end has.
+fn other_offset(service: PipeService) -> u32
+    ensures { result ≡ stages.other_offset service }
+{
+    match service {
+        PipeService::Write { .. } => PIPE_READ,
+        PipeService::Read { .. } | PipeService::Stat => PIPE_WRITE,
+    }
+}
+
 /// Where the pipe's page has the byte that is put as this one.
 fn byte_place(fd: u32, position: u32) -> u32
     ensures { result ≡ stages.byte_place fd position }
@@ -340,8 +373,8 @@ fn count_place(entry: u32) -> u32
 }
 
 /// What read, write or stat on an end of a pipe asks of the kernel at a stage: `fd` is its descriptor.
-pub fn ask_of_pipe(fd: u32, at: PipeStage) -> Ask
-    ensures { result ≡ stages.ask_of fd at }
+pub fn ask_of_pipe(service: PipeService, fd: u32, at: PipeStage) -> Ask
+    ensures { result ≡ stages.ask_of service fd at }
 {
     match at {
         PipeStage::EndMode => Ask::Load {
@@ -361,16 +394,18 @@ pub fn ask_of_pipe(fd: u32, at: PipeStage) -> Ask
                 args: [0; 5],
             }
         }
-        PipeStage::ReadFrom { .. } | PipeStage::TestFrom { .. } | PipeStage::StatFrom => {
-            Ask::Load {
-                va: pipe_va(fd) + PIPE_READ,
-            }
-        }
-        PipeStage::ReadTo { .. } | PipeStage::TestTo { .. } | PipeStage::StatTo { .. } => {
-            Ask::Load {
-                va: pipe_va(fd) + PIPE_WRITE,
-            }
-        }
+        PipeStage::ReadFrom { .. } | PipeStage::StatFrom => Ask::Load {
+            va: pipe_va(fd) + PIPE_READ,
+        },
+        PipeStage::ReadTo { .. } | PipeStage::StatTo { .. } => Ask::Load {
+            va: pipe_va(fd) + PIPE_WRITE,
+        },
+        PipeStage::TestOwn { .. } => Ask::Load {
+            va: pipe_va(fd) + own_offset(service),
+        },
+        PipeStage::TestOther { .. } => Ask::Load {
+            va: pipe_va(fd) + other_offset(service),
+        },
         PipeStage::LoadingHeld { from, .. } => Ask::LoadByte {
             va: byte_place(fd, from),
         },
@@ -518,11 +553,11 @@ fn next_of_moved(service: PipeService, done: u32) -> Next
     }
 }
 
-/// What they do next at the test by how many bytes have been put.
-fn next_of_test(service: PipeService, done: u32, id: u32, runs: u32, from: u32, to: u32) -> Next
-    ensures { result ≡ stages.next_of_test service done id runs from to }
+/// What they do next at the test by how many bytes the other end has moved.
+fn next_of_test(service: PipeService, done: u32, id: u32, runs: u32, own: u32, other: u32) -> Next
+    ensures { result ≡ stages.next_of_test service done id runs own other }
 {
-    if is_stuck(service, from, to) {
+    if seems_stuck(service, own, other) {
         return piped(PipeStep::TestDescriptor { done, id, runs });
     }
     piped(PipeStep::Locking { done, id, runs })
@@ -617,24 +652,24 @@ pub fn next_of_pipe(service: PipeService, va: u32, at: PipeStage, word: u32) -> 
         }
         PipeStage::TestIdentifying { done } => piped(PipeStep::TestRuns { done, id: word }),
         PipeStage::TestRuns { done, id } | PipeStage::TestAgain { done, id, .. } => {
-            piped(PipeStep::TestFrom {
+            piped(PipeStep::TestOwn {
                 done,
                 id,
                 runs: word,
             })
         }
-        PipeStage::TestFrom { done, id, runs } => piped(PipeStep::TestTo {
+        PipeStage::TestOwn { done, id, runs } => piped(PipeStep::TestOther {
             done,
             id,
             runs,
-            from: word,
+            own: word,
         }),
-        PipeStage::TestTo {
+        PipeStage::TestOther {
             done,
             id,
             runs,
-            from,
-        } => next_of_test(service, done, id, runs, from, word),
+            own,
+        } => next_of_test(service, done, id, runs, own, word),
         PipeStage::TestDescriptor { done, id, runs } => piped(PipeStep::TestDescriptorCount {
             done,
             id,

@@ -61,7 +61,7 @@ ask_of fd va len (stage.Delivering done byte) = ask.StoreByte (next_va va done) 
 ask_of fd va len (stage.Faulting done byte) = ask.StoreByte (next_va va done) (byte % 256)
 ask_of fd va len stage.ReadingMode = ask.Load (descriptor_va fd + FD_MODE)
 ask_of fd va len (stage.OfFile at) = bytes.ask_of (of.Read len) fd va at
-ask_of fd va len (stage.OfPipe at) = ends.ask_of fd at
+ask_of fd va len (stage.OfPipe at) = ends.ask_of (end_of.Read len) fd at
 
 -- ---- what it does next
 

@@ -86,7 +86,7 @@ ask_of fd va (stage.BufferEntry done word) = entry_asked (next_va va done)
 ask_of fd va (stage.Delivering done word) = delivery_asked va done word
 ask_of fd va (stage.Faulting done word) = ask.StoreByte (next_va va done) 0
 ask_of fd va (stage.OfFile at) = bytes.ask_of of.Stat fd va at
-ask_of fd va (stage.OfPipe at) = ends.ask_of fd at
+ask_of fd va (stage.OfPipe at) = ends.ask_of end_of.Stat fd at
 
 -- ---- what it does next
 

@@ -160,7 +160,11 @@ impl Planned for Read {
             ReadStage::OfFile { at } => {
                 ask_of_file(FileService::Read { len: self.len }, self.fd, self.va, at)
             }
-            ReadStage::OfPipe { at } => ask_of_pipe(self.fd, at),
+            ReadStage::OfPipe { at } => ask_of_pipe(
+                PipeService::Read { len: self.len },
+                self.fd,
+                at,
+            ),
         }
     }
 

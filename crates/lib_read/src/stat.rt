@@ -217,7 +217,7 @@ impl Planned for Stat {
                 byte: 0,
             },
             StatStage::OfFile { at } => ask_of_file(FileService::Stat, self.fd, self.va, at),
-            StatStage::OfPipe { at } => ask_of_pipe(self.fd, at),
+            StatStage::OfPipe { at } => ask_of_pipe(PipeService::Stat, self.fd, at),
         }
     }
 

@@ -117,7 +117,7 @@ ask_of fd va len (stage.Pausing id) = ask.System SYS_YIELD no_args
 ask_of fd va len (stage.Awaiting id) = reply_asked
 ask_of fd va len (stage.Clearing id) = clearing_asked
 ask_of fd va len (stage.ReadingReply id) = ask.Load (reply_place id)
-ask_of fd va len (stage.OfPipe at) = ends.ask_of fd at
+ask_of fd va len (stage.OfPipe at) = ends.ask_of (end_of.Write len) fd at
 ask_of fd va len (stage.Returning answer) = clearing_asked
 
 -- ---- what it does next

@@ -360,7 +360,11 @@ impl Planned for Write {
             WriteStage::ReadingReply { id } => Ask::Load {
                 va: reply_place(id),
             },
-            WriteStage::OfPipe { at } => ask_of_pipe(self.fd, at),
+            WriteStage::OfPipe { at } => ask_of_pipe(
+                PipeService::Write { len: self.len },
+                self.fd,
+                at,
+            ),
             WriteStage::Returning { answer: _ } => ask_clearing(),
         }
     }
