@@ -1,5 +1,6 @@
 -- spawn comes to an end with its child: each of its hidden steps as it makes it lowers the number of those that may still come.
-use Rattle.std.proofs.Common.{◌≡◌, ◌∙◌, ◌<◌, ◌≤◌, ◌+◌, ◌-◌, ◌*◌, ◌/◌, ◌%◌, ◌^◌, ◌==◌, ◌&&◌, ℕ, Bool, true, false, not, nat_le, nat_lt, min, inl, refl, ap, arith, if◌then◌else◌}
+use Rattle.std.proofs.Common.{◌≡◌, ◌∙◌, ◌<◌, ◌≤◌, ◌+◌, ◌-◌, ◌*◌, ◌/◌, ◌%◌, ◌^◌, ◌==◌, ◌&&◌, ℕ, Bool, true, false, not, nat_le, nat_lt, min, inl, refl, ap}
+use Rattle.std.proofs.Common.{arith, if◌then◌else◌}
 use Rattle.std.proofs.lemmas.Bool.Decides.{nat_tests}
 use Rattle.jos_base.specs.declared.numbers.TheConstants.{FDTABLE, PGSIZE, TRAPFRAME_WORDS}
 use Rattle.jos_base.specs.Counting.{page_limit}
@@ -67,7 +68,8 @@ pages_more headers header below =
 rights_low : (fd headers child : ℕ) → most_at (rights_from fd headers child 0) ≤ rights_left headers 0
 rights_low fd headers child = by_test (nat_lt 0 headers)
   where
-    by_test : (more : Bool) → most_at (if more then spawn.Finishing (finishing.RightsKind fd headers child 0) else spawn.Finishing (finishing.ChildStack fd child))
+    by_test : (more : Bool) → most_at
+        (if more then spawn.Finishing (finishing.RightsKind fd headers child 0) else spawn.Finishing (finishing.ChildStack fd child))
         ≤ rights_left headers 0
     by_test true = omega arith
     by_test false = omega arith
@@ -126,7 +128,8 @@ behind_page fd headers child header page last below = by_test (nat_lt page last)
     by_test true test = let lower : page < last = grind (arith, nat_tests, test) in omega (arith, lower)
     by_test false test = let low = pages_low fd headers child (header + 1) in omega (arith, low)
 
-piece_low : (fd headers child header done length : ℕ) → header < headers → most_at (piece_from fd headers child header done length) < pieces_left headers header + 1
+piece_low : (fd headers child header done length : ℕ) → header < headers →
+    most_at (piece_from fd headers child header done length) < pieces_left headers header + 1
 piece_low fd headers child header done length below =
     let more = pieces_more headers header below in
     let low = pieces_low fd headers child (header + 1) in
@@ -225,7 +228,8 @@ module _ (path argv : ℕ) where
   bearing_falls (bearing.PieceOffset fd headers child header done end) word within = omega arith
   bearing_falls (bearing.PieceAddress fd headers child header done end) word within = omega arith
   bearing_falls (bearing.MappingHere fd headers child header va done end) word within =
-      unless_low (bearing.MappingHere fd headers child header va done end) fd child word (spawn.Bearing (bearing.PieceLoading fd headers child header va done end))
+      unless_low (bearing.MappingHere fd headers child header va done end) fd child word
+      (spawn.Bearing (bearing.PieceLoading fd headers child header va done end))
       (omega arith) (omega arith)
   bearing_falls (bearing.PieceLoading fd headers child header va done end) word within =
       loaded_low fd headers child header va done end word ((moved va done end == 4) && not (done % 4 == 0))

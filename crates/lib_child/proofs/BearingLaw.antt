@@ -21,7 +21,8 @@ use Rattle.lib_child.proofs.SettingRegisters.{setting_registers_holds}
 
 pub bearing_holds : (s : KernelState) (n path argv : ℕ) → is_live (slot_at s n) ≡ true → (at : BearingStep) →
     place_of (slot_at s n) ≡ spawns_at path argv (spawn.Bearing at) → ServiceHolds s n (bears (record { at = at }))
-bearing_holds s n path argv live (bearing.MakingChild esp fd entry_point headers) stands = making_child_holds s n path argv live esp fd entry_point headers stands
+bearing_holds s n path argv live (bearing.MakingChild esp fd entry_point headers) stands =
+    making_child_holds s n path argv live esp fd entry_point headers stands
 bearing_holds s n path argv live (bearing.StoringRegister esp fd entry_point headers child index) stands =
     storing_register_holds s n path argv live esp fd entry_point headers child index stands
 bearing_holds s n path argv live (bearing.SettingRegisters fd headers child) stands = setting_registers_holds s n path argv live fd headers child stands
@@ -33,7 +34,8 @@ bearing_holds s n path argv live (bearing.PlacingPage fd headers child header pa
     placing_page_holds s n path argv live fd headers child header page last stands
 bearing_holds s n path argv live (bearing.PieceKind fd headers child header) stands = piece_kind_holds s n path argv live fd headers child header stands
 bearing_holds s n path argv live (bearing.PieceMemory fd headers child header) stands = piece_memory_holds s n path argv live fd headers child header stands
-bearing_holds s n path argv live (bearing.PieceLength fd headers child header done) stands = piece_length_holds s n path argv live fd headers child header done stands
+bearing_holds s n path argv live (bearing.PieceLength fd headers child header done) stands =
+    piece_length_holds s n path argv live fd headers child header done stands
 bearing_holds s n path argv live (bearing.PieceOffset fd headers child header done end) stands =
     piece_offset_holds s n path argv live fd headers child header done end stands
 bearing_holds s n path argv live (bearing.PieceAddress fd headers child header done end) stands =

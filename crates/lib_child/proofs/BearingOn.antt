@@ -1,5 +1,6 @@
 -- Where spawn goes on behind a program header: at the next of which the pages are to be placed, or the bytes put, or, behind the last, with what comes then.
-use Rattle.std.proofs.Common.{◌≡◌, ◌≢◌, ◌∙◌, ◌+◌, ◌*◌, ◌<◌, ◌≤◌, ◌==◌, ◌&&◌, ◌||◌, ◌%◌, ◌++◌, ℕ, Bool, true, false, List, [], Some, None, refl, sym, ap, subst, arith}
+use Rattle.std.proofs.Common.{◌≡◌, ◌≢◌, ◌∙◌, ◌+◌, ◌*◌, ◌<◌, ◌≤◌, ◌==◌, ◌&&◌, ◌||◌, ◌%◌, ◌++◌, ℕ, Bool, true, false, List, [], Some, None, refl, sym, ap, subst}
+use Rattle.std.proofs.Common.{arith}
 use Rattle.std.proofs.Common.{if◌then◌else◌}
 use Rattle.std.specs.Prelude.{nat_lt}
 use Rattle.std.proofs.lemmas.Bool.Decides.{nat_tests}
@@ -38,7 +39,8 @@ image_pages =
 -- none of the child's stands here
 pub none_mine : (at : SpawnStep) → keeps_here at ≡ false → has_given_stack at ≡ false → (p : ℕ) → is_childs at p ≡ false
 none_mine at here stack p =
-    (λ i. ((p == page_number SPAWN_HERE) && here i) || ((p == page_number SPAWN_STACK) && stack i)) ∙ by_tests (p == page_number SPAWN_HERE) (p == page_number SPAWN_STACK)
+    (λ i. ((p == page_number SPAWN_HERE) && here i) || ((p == page_number SPAWN_STACK) && stack i))
+    ∙ by_tests (p == page_number SPAWN_HERE) (p == page_number SPAWN_STACK)
   where
     by_tests : (c d : Bool) → ((c && false) || (d && false)) ≡ false
     by_tests true true = refl
@@ -56,7 +58,8 @@ pub record ComesTo (v : View) (k : Slot) (b : Born) (path argv id count : ℕ) (
   pub stands : StandsAtSpawn v (record k { extra = spawn_words to }) b path argv to
 
 -- It goes on there, where its child has the same by what is told of it.
-pub comes_goes : {v : View} {k : Slot} {b : Born} {path argv fd child id : ℕ} {image : ImageRead} {pieces : List (List ℕ)} {before after : Progress} {to : SpawnStep}
+pub comes_goes : {v : View} {k : Slot} {b : Born} {path argv fd child id : ℕ} {image : ImageRead} {pieces : List (List ℕ)}
+    {before after : Progress} {to : SpawnStep}
     (from : SpawnStep) → holds_page (spawns_at path argv from) ≡ image_pages → ((p : ℕ) → is_childs from p ≡ false) →
     ((progress : Progress) → IsProgress (count_of image) from progress → progress ≡ before) → b.spawning ≡ Some (loading fd image child pieces) →
     Alike b image (all_of pieces ++ bytes_replied b.phase) before after → ComesTo v k b path argv id (count_of image) after to →
@@ -87,7 +90,8 @@ pub record HasUpTo (v : View) (k : Slot) (b : Born) (path argv fd headers child 
   pub come : HaveComeTo image header 0 had
   pub sized : IsOfFileWith v fd whole.size
 
-module _ {v : View} {k : Slot} {b : Born} {path argv fd headers child header : ℕ} {image : ImageRead} (h : HasUpTo v k b path argv fd headers child header image) where
+module _ {v : View} {k : Slot} {b : Born} {path argv fd headers child header : ℕ} {image : ImageRead}
+    (h : HasUpTo v k b path argv fd headers child header image) where
   -- all of them are put
   abbrev all_bytes : (words : List ℕ) → header ≡ headers → HasAllBytes v (record k { extra = words }) b path argv fd child
   all_bytes words last = record {
@@ -197,7 +201,8 @@ module _ {v : View} {k : Slot} {b : Born} {path argv fd headers child : ℕ} {im
   pub pages_come : (header : ℕ) → header ≤ headers → ComesTo v k b path argv child (count_of image) (placing header 0) (pages_from fd headers child header)
   pages_come header most = by_test (nat_lt header headers) refl
     where
-      more_come : header < headers → ComesTo v k b path argv child (count_of image) (placing header 0) (spawn.Bearing (bearing.PlacingKind fd headers child header))
+      more_come : header < headers → ComesTo v k b path argv child (count_of image) (placing header 0)
+          (spawn.Bearing (bearing.PlacingKind fd headers child header))
       more_come below =
           let to : SpawnStep = spawn.Bearing (bearing.PlacingKind fd headers child header) in
           record {

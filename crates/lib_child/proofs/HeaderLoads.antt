@@ -64,4 +64,5 @@ module _ (s : KernelState) (n path argv id : ℕ) (live : is_live (slot_at s n) 
 
   pub header_load_holds : ServiceHolds s n (staged (service.Spawn path argv) (segment_asked header place) (next_of at))
   header_load_holds =
-      own_load_known s n (service.Spawn path argv) (step.Spawning (spawn.Bearing at)) live refl stands (next_of at) (bearing_known s n path argv at stands) va word_loaded
+      own_load_known s n (service.Spawn path argv) (step.Spawning (spawn.Bearing at)) live refl stands (next_of at)
+      (bearing_known s n path argv at stands) va word_loaded

@@ -1,5 +1,6 @@
 -- The laws of spawn as it maps at SPAWN_HERE the child's page into which the next bytes of a piece are put, and as it gives that back behind a piece.
-use Rattle.std.proofs.Common.{◌≡◌, ◌≢◌, ◌∙◌, ◌+◌, ◌/◌, ◌%◌, ◌==◌, ◌&&◌, ◌||◌, ◌++◌, ℕ, Bool, true, false, not, List, [], ◌∷◌, Some, is_some, refl, sym, ap, subst, arith}
+use Rattle.std.proofs.Common.{◌≡◌, ◌≢◌, ◌∙◌, ◌+◌, ◌/◌, ◌%◌, ◌==◌, ◌&&◌, ◌||◌, ◌++◌, ℕ, Bool, true, false, not, List, [], ◌∷◌, Some, is_some, refl, sym, ap}
+use Rattle.std.proofs.Common.{subst, arith}
 use Rattle.std.proofs.lemmas.Bool.Decides.{nat_tests}
 use Rattle.std.proofs.lemmas.Option.{same_Some}
 use Rattle.jos_base.specs.declared.called.Called.{Called}
@@ -231,7 +232,8 @@ module _ (s : KernelState) (n path argv : ℕ) (live : is_live (slot_at s n) ≡
         (λ x is. ap (λ (e : Entry). is_shared e.perm) (same_Some x page_is.entry (sym is ∙ page_is.stands)) ∙ page_is.own_page)
         (λ q ne. none_childs q ne true) no_childs (λ m progress is. is) last order
         (λ beside. record {
-          filled = filled_aside beside (λ same. omega (arith, same)) (λ same. omega (arith, same)) aside.no_descriptor (filled_told (spawn_words behind) has.filled);
+          filled = filled_aside beside (λ same. omega (arith, same)) (λ same. omega (arith, same)) aside.no_descriptor
+              (filled_told (spawn_words behind) has.filled);
           so = (has.loaded, has.ends);
         })
 

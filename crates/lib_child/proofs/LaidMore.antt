@@ -307,7 +307,8 @@ module _ (image : ImageRead) (headers header : ℕ) (below : header < count_of i
     filled_beside q ne =
         filled_is done file q ∙ sym (by_order (nat_lt q p) refl) ∙ sym (filled_is (done + m) file q)
       where
-        by_order : (c : Bool) → nat_lt q p ≡ c → laid (upto its_segment (done + m)) file q (front_page file q) ≡ laid (upto its_segment done) file q (front_page file q)
+        by_order : (c : Bool) → nat_lt q p ≡ c →
+            laid (upto its_segment (done + m)) file q (front_page file q) ≡ laid (upto its_segment done) file q (front_page file q)
         by_order true test =
             let less = ltb-true q p test in
             laid_before its_segment file q done m (front_page file q) (front_long file q) (omega (arith, less, from))
@@ -323,7 +324,8 @@ page_by b image headers p bytes =
     if nat_le no_page_passed p then under_shared (b.memory p) page else page
 
 filled_by : (b : Born) (image : ImageRead) (file : List ℕ) (headers header done p : ℕ) →
-    child_page b image (filling headers header done) file p ≡ page_by b image headers p (page_bytes (segments_filled image (filling headers header done)) file p)
+    child_page b image (filling headers header done) file p
+    ≡ page_by b image headers p (page_bytes (segments_filled image (filling headers header done)) file p)
 unfolding some_below
 filled_by b image file headers header done p =
     ap (λ (writes : Bool). let page : Option Page = (if p == stack_page then None else (if is_placed_page image (filling headers 0 0) p

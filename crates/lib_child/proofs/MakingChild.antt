@@ -1,5 +1,6 @@
 -- The law of spawn as it makes its child, which is a step of the abstract system.
-use Rattle.std.proofs.Common.{◌≡◌, ◌≢◌, ◌∙◌, ◌<◌, ◌≤◌, ◌^◌, ◌%◌, ◌==◌, ◌*◌, ◌+◌, ℕ, Bool, true, false, List, [], ◌∷◌, length, None, Some, refl, sym, ap, subst, arith, if◌then◌else◌}
+use Rattle.std.proofs.Common.{◌≡◌, ◌≢◌, ◌∙◌, ◌<◌, ◌≤◌, ◌^◌, ◌%◌, ◌==◌, ◌*◌, ◌+◌, ℕ, Bool, true, false, List, [], ◌∷◌, length, None, Some, refl, sym, ap, subst}
+use Rattle.std.proofs.Common.{arith, if◌then◌else◌}
 use Rattle.std.specs.Prelude.{Option, map, slice_index}
 use Rattle.std.proofs.lemmas.Bool.Decides.{nat_tests}
 use Rattle.jos_base.specs.declared.called.Called.{Called}
@@ -59,7 +60,8 @@ use Rattle.lib_child.proofs.PiecesLeft.{rising_none}
 -- ---- what is so where it stands
 
 -- the image that was read
-abbrev pub image_of : {v : View} {k : Slot} {b : Born} {path argv esp fd entry_point headers : ℕ} → IsImage v k b path argv esp fd entry_point headers → ImageRead
+abbrev pub image_of : {v : View} {k : Slot} {b : Born} {path argv esp fd entry_point headers : ℕ} → IsImage v k b path argv esp fd entry_point headers →
+    ImageRead
 image_of h = record { words = h.so.words; header = h.so.header; table = h.so.table }
 
 tabling_same : {fd fd_too : ℕ} {words words_too : List (List ℕ)} {header header_too : List ℕ} →
@@ -227,10 +229,12 @@ module _ (s : KernelState) (n path argv : ℕ) (live : is_live (slot_at s n) ≡
       let small = next_id_small (slot_at s m).id m listed.0 in
       let named : id % NENV ≡ m = next_id_names (slot_at s m).id m listed.0 in
       let image : ImageRead = image_of (it h.1 n path argv esp fd entry_point headers stands) in
-      let other : m ≢ n = maker_apart h.1 n path argv from stands refl m slots slots_are f frames frames_are nobody to refl refl (none_mine to refl refl) fd image in
+      let other : m ≢ n = maker_apart h.1 n path argv from stands refl m slots slots_are f frames frames_are nobody to refl refl
+      (none_mine to refl refl) fd image in
       let is = exofork_is s n live m slots slots_are f frames frames_are other in
       let after : KernelState = begun s n live m slots slots_are f frames frames_are in
-      let goes_is = child_begun_is h.1 n path argv from stands refl m slots slots_are f frames frames_are nobody to refl refl (none_mine to refl refl) fd image in
+      let goes_is = child_begun_is h.1 n path argv from stands refl m slots slots_are f frames frames_are nobody to refl refl
+      (none_mine to refl refl) fd image in
       let shown : StepGoesOn n (with_extra after n (spawn_words to)) a [] = (
         child_begun a n v.b (service.Spawn path argv) fd image a.free_slots,
         making_steps h.1 n path argv esp fd entry_point headers stands,

@@ -20,7 +20,8 @@ use Rattle.lib_os.specs.AbstractState.{Born, ImageRead, Page, named, own}
 use Rattle.lib_os.specs.Fence.{in_fence}
 use Rattle.lib_os.specs.ProgramMemory.{stack_of}
 use Rattle.lib_os.specs.Rows.{is_programs}
-use Rattle.lib_os.specs.SpawnedChild.{IsProgress, Progress, child_page, header_touches, headers_filled, image_page, is_placed_page, is_settled_page, no_page_passed, own_page}
+use Rattle.lib_os.specs.SpawnedChild.{IsProgress, Progress, child_page, header_touches, headers_filled, image_page, is_placed_page, is_settled_page}
+use Rattle.lib_os.specs.SpawnedChild.{no_page_passed, own_page}
 use Rattle.lib_os.specs.SpawnedChild.{passing, placing, segments_filled}
 use Rattle.lib_os.specs.declared.spawn_steps.SpawnStep.{SpawnStep}
 use Rattle.lib_os.proofs.ChildPlaced.{PlacesPage}
@@ -99,7 +100,8 @@ own_unnamed b image progress file p name writable off is =
   where
     by_tests : (c d e : Bool) →
         (if c then (if d then Some (stack_of image.words) else None) else (if e
-        then Some (own (page_bytes (segments_filled image progress) file p) (any_writes p (segments_filled image progress) || not (is_settled_page image progress p)))
+        then Some (own (page_bytes (segments_filled image progress) file p)
+        (any_writes p (segments_filled image progress) || not (is_settled_page image progress p)))
         else None)) ≢ Some (named name writable)
     by_tests true true e same = let contradiction : ◌≡◌ {A = Option Page} (Some (stack_of image.words)) (Some (named name writable)) = same in absurd cc
     by_tests true false e same = let contradiction : ◌≡◌ {A = Option Page} None (Some (named name writable)) = same in absurd cc
@@ -286,7 +288,8 @@ module _ {image : ImageRead} {header page : ℕ} (it : IsPageOf image header pag
         by_touch : (c : Bool) → header_touches image p header ≡ c → (c && nat_lt p (page + 1)) ≡ c
         by_touch false is = refl
         by_touch true is =
-            let touched = (and_parts (nat_lt header (entry_count_of (slice_index image.header)) && is_loaded (one it)) (touches p (segment_of (one it))) is).1 in
+            let touched = (and_parts (nat_lt header (entry_count_of (slice_index image.header)) && is_loaded (one it))
+            (touches p (segment_of (one it))) is).1 in
             let test = (and_parts (nat_lt (one it).va ((p + 1) * PGSIZE)) (nat_lt (p * PGSIZE) ((one it).va + (one it).mem_len)) touched).1 in
             let low : p * PGSIZE < (one it).va + (one it).mem_len = grind (arith, nat_tests, test) in
             let lower : p < page + 1 = omega (arith, low, last) in

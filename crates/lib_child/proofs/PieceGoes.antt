@@ -1,4 +1,5 @@
--- The laws of spawn as it looks at the program headers for the bytes of its child's segments: which piece is asked for next, and where the one that came is put.
+-- The laws of spawn as it looks at the program headers for the bytes of its child's segments: which piece is asked for next, and where
+-- the one that came is put.
 use Rattle.std.proofs.Common.{◌≡◌, ◌≢◌, ◌∙◌, ◌+◌, ◌-◌, ◌*◌, ◌%◌, ◌^◌, ◌<◌, ◌≤◌, ◌==◌, ◌&&◌, ◌||◌, ◌++◌, ℕ, Bool, true, false, not, refl, sym, ap, arith}
 use Rattle.std.proofs.Common.{if◌then◌else◌}
 use Rattle.std.specs.Prelude.{min, nat_lt, slice_index}
@@ -225,7 +226,8 @@ module _ (s : KernelState) (n path argv : ℕ) (live : is_live (slot_at s n) ≡
     abbrev at_length : SpawnStep
     at_length = spawn.Bearing (bearing.PieceLength fd headers child header done)
 
-    length_loads : (v : View) (k : Slot) (b : Born) → IsFilling v k b path argv fd headers child header done (λ one. (is_loaded one ≡ true) × IsPieceEnd done one) →
+    length_loads : (v : View) (k : Slot) (b : Born) →
+        IsFilling v k b path argv fd headers child header done (λ one. (is_loaded one ≡ true) × IsPieceEnd done one) →
         LoadsHeader v k b path argv child (bearing.PieceLength fd headers child header done) header P_FILESZ
     length_loads v k b h = by_length (nat_lt done length) refl
       where

@@ -1,5 +1,5 @@
--- Where spawn goes on behind bytes of a piece that it has put: at the next of them, with another page of the child's first where they lie in that, or, behind the
--- last, where it gives the page back.
+-- Where spawn goes on behind bytes of a piece that it has put: at the next of them, with another page of the child's first where they lie in
+-- that, or, behind the last, where it gives the page back.
 use Rattle.std.proofs.Common.{◌≡◌, ◌≢◌, ◌∙◌, ◌+◌, ◌-◌, ◌*◌, ◌/◌, ◌%◌, ◌<◌, ◌≤◌, ◌==◌, ◌&&◌, ◌||◌, ◌++◌, ℕ, Bool, true, false, not, List, [], ◌∷◌, Some}
 use Rattle.std.proofs.Common.{length, refl, sym, ap, arith, if◌then◌else◌}
 use Rattle.std.specs.Prelude.{drop, min, nat_le}
@@ -97,7 +97,8 @@ behind_next image header start end piece rest loaded some most whole begins is =
 
 -- ---- what is so behind them
 
-module _ {v : View} {k : Slot} {b : Born} {path argv fd headers child header done end : ℕ} (so : IsPutting v k b path argv fd headers child header done end) where
+module _ {v : View} {k : Slot} {b : Born} {path argv fd headers child header done end : ℕ}
+    (so : IsPutting v k b path argv fd headers child header done end) where
   pub piece_most : end ≤ piece_start done + TRANSFER_MAX
   piece_most =
       let most = min-le_left (piece_start done + TRANSFER_MAX) (headers_in so.image.table header).file_len in
@@ -155,7 +156,8 @@ module _ {v w : View} {k : Slot} {b : Born} {path argv fd headers child header d
           had = now.pieces ++ now.bytes ∷ [];
           stage = replied now.bytes now.answer;
           found = now.found;
-          has = and_last now.bytes now.answer (record { at = (headers_in now.image.table header).file_at + piece_start done; len = end - piece_start done }) first.0
+          has = and_last now.bytes now.answer
+              (record { at = (headers_in now.image.table header).file_at + piece_start done; len = end - piece_start done }) first.0
               (now.left ∙ first.1) now.long now.counts;
           of_file = now.of_file;
           whole = now.whole;
@@ -222,7 +224,8 @@ module _ {v : View} {k : Slot} {b : Born} {path argv fd headers child header va 
       }
     where
       all_put_told : (w : View) → HasPut w k b path argv fd headers child header end →
-          HasPut w (record k { extra = spawn_words (spawn.Bearing (bearing.UnmappingHere fd headers child header end)) }) b path argv fd headers child header end
+          HasPut w (record k { extra = spawn_words (spawn.Bearing (bearing.UnmappingHere fd headers child header end)) }) b path argv fd headers child
+          header end
       all_put_told w h = record {
         filled = filled_told (spawn_words (spawn.Bearing (bearing.UnmappingHere fd headers child header end))) h.filled;
         some = h.some;
@@ -263,7 +266,7 @@ module _ {v : View} {k : Slot} {b : Born} {path argv fd headers child header va 
       let inner : (done + m) % TRANSFER_MAX ≢ 0 = (λ none. omega (arith, none, more, most, some)) in
       let kept : true ≡ not ((done + m) % TRANSFER_MAX == 0) = sym (ap not (off ((done + m) % TRANSFER_MAX) inner)) in
       record {
-        held = (λ i. (true, (λ p. ((p == page_number SPAWN_GIVEN) && true) || ((p == page_number SPAWN_STACK) && true) || ((p == page_number SPAWN_HERE) && kept i))));
+        held = λ i. (true, kept_by (kept i));
         bears = refl;
         childs = λ p i. ((p == page_number SPAWN_HERE) && kept i) || ((p == page_number SPAWN_STACK) && false);
         told = λ q is. absurd (none-some q is);
@@ -271,6 +274,9 @@ module _ {v : View} {k : Slot} {b : Born} {path argv fd headers child header va 
         stands = λ w beside. record { putting = putting_told (spawn_words to) (still_putting so.putting m beside more); va_is = so.va_is };
       }
     where
+      kept_by : Bool → ℕ → Bool
+      kept_by here p = ((p == page_number SPAWN_GIVEN) && true) || ((p == page_number SPAWN_STACK) && true) || ((p == page_number SPAWN_HERE) && here)
+
       off : (q : ℕ) → q ≢ 0 → (q == 0) ≡ false
       off q other = grind (arith, nat_tests, other)
 

@@ -1,5 +1,6 @@
 -- The laws of spawn as it loads the next bytes of a piece from the page in which that came: a word, or the two words in which the four bytes stand, or a byte.
-use Rattle.std.proofs.Common.{◌≡◌, ◌≢◌, ◌∙◌, ◌+◌, ◌-◌, ◌*◌, ◌%◌, ◌^◌, ◌<◌, ◌≤◌, ◌==◌, ◌&&◌, ℕ, Bool, true, false, not, List, ◌∷◌, [], length, refl, sym, ap, subst, arith}
+use Rattle.std.proofs.Common.{◌≡◌, ◌≢◌, ◌∙◌, ◌+◌, ◌-◌, ◌*◌, ◌%◌, ◌^◌, ◌<◌, ◌≤◌, ◌==◌, ◌&&◌, ℕ, Bool, true, false, not, List, ◌∷◌, [], length, refl, sym, ap}
+use Rattle.std.proofs.Common.{subst, arith}
 use Rattle.std.proofs.Common.{if◌then◌else◌}
 use Rattle.std.specs.Int.{from_le_bytes, to_le_bytes, w32}
 use Rattle.std.specs.Prelude.{drop, nat_le, slice_index, take}
@@ -112,7 +113,8 @@ one_of at wanted other = by_tests (at % 4 == 0) (nat_le 4 wanted) other
     by_tests true false is = refl
     by_tests false many is = refl
 
-module _ {v : View} {k : Slot} {b : Born} {path argv fd headers child header va done end : ℕ} (so : IsPuttingAt v k b path argv fd headers child header va done end) where
+module _ {v : View} {k : Slot} {b : Born} {path argv fd headers child header va done end : ℕ}
+    (so : IsPuttingAt v k b path argv fd headers child header va done end) where
   pub next_place : next_va va done ≡ va + done
   next_place = subst (λ (first : ℕ). next_va first done ≡ first + done) so.va_is (put_va so.putting)
 
@@ -263,7 +265,8 @@ module _ (s : KernelState) (n path argv : ℕ) (live : is_live (slot_at s n) ≡
           (own_byte_loaded h n path argv loading_at stands (page_number UTEMP) refl 0 bytes so.putting.kept d (omega (arith, left, within))
           (omega (arith, left, within, fit)))
           (step.Spawning (spawn.Bearing (bearing.PiecePutting fd headers child header va done end byte)))
-          (ap (λ (c : Bool). next.GoOn (step.Spawning (if c && not (done % 4 == 0) then spawn.Bearing (bearing.PieceRest fd headers child header va done end byte)
+          (ap (λ (c : Bool). next.GoOn (step.Spawning
+          (if c && not (done % 4 == 0) then spawn.Bearing (bearing.PieceRest fd headers child header va done end byte)
           else spawn.Bearing (bearing.PiecePutting fd headers child header va done end byte)))) test)
           (puts byte (subst (λ (m : ℕ). take m (to_le_bytes w32 byte) ≡ take m (drop d bytes)) (sym one)
           (byte_there bytes d so.putting.small (omega (arith, left, within))))))
@@ -274,9 +277,11 @@ module _ (s : KernelState) (n path argv : ℕ) (live : is_live (slot_at s n) ≡
         by_moved : (c : Bool) → (moved va done end == 4) ≡ c →
             ServiceHolds s n (staged (service.Spawn path argv) (if c then ask.Load word_va else ask.LoadByte byte_va) loading_next)
         by_moved true test =
-            own_load_known s n (service.Spawn path argv) (step.Spawning loading_at) live refl stands loading_next falls word_va (λ names a h. word_loaded names a h test)
+            own_load_known s n (service.Spawn path argv) (step.Spawning loading_at) live refl stands loading_next falls word_va
+            (λ names a h. word_loaded names a h test)
         by_moved false test =
-            own_load_byte_known s n (service.Spawn path argv) (step.Spawning loading_at) live refl stands loading_next falls byte_va (λ names a h. byte_loaded names a h test)
+            own_load_byte_known s n (service.Spawn path argv) (step.Spawning loading_at) live refl stands loading_next falls byte_va
+            (λ names a h. byte_loaded names a h test)
 
 -- ---- the second word
 
@@ -315,14 +320,21 @@ module _ (s : KernelState) (n path argv : ℕ) (live : is_live (slot_at s n) ≡
       same_Some so.putting.kept.entry owned.page.entry (sym so.putting.kept.stands ∙ owned.page.stands) in
       let whole : IsPage raw = subst (λ (e : Entry). IsPage (s.spaces.pages e.frame)) (sym same) owned.whole in
       let all : PageHas (view_of s.spaces rest_home) (page_number UTEMP) 0 raw =
-      record { entry = so.putting.kept.entry; stands = so.putting.kept.stands; own_page = so.putting.kept.own_page; same = λ i lt. ap (slice_index raw) (none_more i) } in
+      record {
+        entry = so.putting.kept.entry;
+        stands = so.putting.kept.stands;
+        own_page = so.putting.kept.own_page;
+        same = λ i lt. ap (slice_index raw)
+            (none_more i);
+      } in
       let i : ℕ = d - done % 4 + 4 in
       let long = whole.long in
       let where_is : page_number UTEMP * PGSIZE + (0 + i) ≡ rest_va = omega (arith, many, left, fit, small, apart) in
       let second : ℕ = word_at (slice_index raw) i in
       let word : ℕ = joined (done % 4) first second in
       let to : SpawnStep = spawn.Bearing (bearing.PiecePutting fd headers child header va done end word) in
-      let taken = rest_taken bytes raw d first so.putting.small whole.small (omega (arith, many, left)) (λ j lt. sym (ap (slice_index raw) (none_more j)) ∙ so.putting.kept.same j lt)
+      let taken = rest_taken bytes raw d first so.putting.small whole.small (omega (arith, many, left))
+      (λ j lt. sym (ap (slice_index raw) (none_more j)) ∙ so.putting.kept.same j lt)
       (first_is ∙ ap (λ (r : ℕ). word_at (slice_index bytes) (d - r)) remainder) in
       subst (λ (q : ℕ). IsLoadedSo s n (service.Spawn path argv) a (next_of rest_step) q (load s n q)) where_is
       (borne_loaded_so h n path argv child rest_at stands refl (next_of rest_step) second
@@ -351,5 +363,6 @@ module _ (s : KernelState) (n path argv : ℕ) (live : is_live (slot_at s n) ≡
 
   pub piece_rest_holds : ServiceHolds s n (bears (record { at = bearing.PieceRest fd headers child header va done end first }))
   piece_rest_holds =
-      own_load_known s n (service.Spawn path argv) (step.Spawning rest_at) live refl stands (next_of rest_step) (bearing_known s n path argv rest_step stands) rest_va
+      own_load_known s n (service.Spawn path argv) (step.Spawning rest_at) live refl stands (next_of rest_step)
+      (bearing_known s n path argv rest_step stands) rest_va
       second_loaded

@@ -254,7 +254,8 @@ module _ (s : KernelState) (n path argv : ℕ) (live : is_live (slot_at s n) ≡
             let first = so.va_is in
             let fits = moves.fits in
             page_alike b image file headers header done (done + m) q
-            (filled_beside image headers header image_below loaded file page done m moves.some (omega (arith, first)) (omega (arith, first, fits)) file_has q ne);
+            (filled_beside image headers header image_below loaded file page done m moves.some (omega (arith, first))
+            (omega (arith, first, fits)) file_has q ne);
       }
 
       puts_behind : PutsBehind b child from to page bytes_now
@@ -266,7 +267,8 @@ module _ (s : KernelState) (n path argv : ℕ) (live : is_live (slot_at s n) ≡
 
       stored : IsInOrder (with_spaces s puts.spaces) → s.last ≡ Some n → StandsFor names (with_extra (with_spaces s puts.spaces) n (spawn_words to)) a
       stored order last =
-          here_stored_stands h n path argv child from to stands refl on.bears on.held on.childs on.told number (number_aside number refl) only_there own_here page
+          here_stored_stands h n path argv child from to stands refl on.bears on.held on.childs on.told number
+          (number_aside number refl) only_there own_here page
           (page_inside mine) there.it.entry there.it.stands there.it.own_page there.writes bytes_now (put_whole (s.spaces.pages frame) offset put small whole)
           rewritten last order puts_behind (λ beside. on.stands (view_of puts.spaces home) beside)
 

@@ -173,7 +173,8 @@ module _ (s : KernelState) (n path argv : ℕ) (live : is_live (slot_at s n) ≡
             whole = h.has.whole;
             below = h.below;
             to = step.Spawning some;
-            next_is = ap (λ (c : Bool). if c then next.GoOn (step.Spawning (pages_from fd headers child (header + 1))) else next.GoOn (step.Spawning some)) test;
+            next_is = ap (λ (c : Bool). if c then next.GoOn (step.Spawning (pages_from fd headers child (header + 1))) else next.GoOn
+                (step.Spawning some)) test;
             goes = record {
               at = some;
               is = refl;

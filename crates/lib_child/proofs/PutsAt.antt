@@ -1,5 +1,6 @@
 -- Where spawn puts a piece: its next byte lies in a page of the segment, which the child has, with the bytes that are put so far.
-use Rattle.std.proofs.Common.{◌≡◌, ◌≢◌, ◌∙◌, ◌+◌, ◌-◌, ◌*◌, ◌/◌, ◌%◌, ◌<◌, ◌≤◌, ◌==◌, ◌&&◌, ◌||◌, ◌++◌, ℕ, Bool, true, false, not, List, Some, None, refl, sym, ap, subst}
+use Rattle.std.proofs.Common.{◌≡◌, ◌≢◌, ◌∙◌, ◌+◌, ◌-◌, ◌*◌, ◌/◌, ◌%◌, ◌<◌, ◌≤◌, ◌==◌, ◌&&◌, ◌||◌, ◌++◌, ℕ, Bool, true, false, not, List, Some, None, refl, sym}
+use Rattle.std.proofs.Common.{ap, subst}
 use Rattle.std.proofs.Common.{arith, if◌then◌else◌}
 use Rattle.std.specs.Prelude.{nat_lt}
 use Rattle.std.proofs.lemmas.Bool.{false≢true}
@@ -33,7 +34,8 @@ use Rattle.lib_child.proofs.PiecesLeft.{count_of}
 
 -- ---- the place of a byte that is put
 
-module _ {v : View} {k : Slot} {b : Born} {path argv fd headers child header done end : ℕ} (so : IsPutting v k b path argv fd headers child header done end) where
+module _ {v : View} {k : Slot} {b : Born} {path argv fd headers child header done end : ℕ}
+    (so : IsPutting v k b path argv fd headers child header done end) where
   abbrev one : ProgramHeader
   one = headers_in so.image.table header
 
@@ -70,7 +72,8 @@ module _ {v : View} {k : Slot} {b : Born} {path argv fd headers child header don
 
 -- ---- a page of the child's, with the bytes of so many segments
 
-module _ {image : ImageRead} {header page : ℕ} (it : IsPageOf image header page) (b : Born) (file : List ℕ) (headers to done : ℕ) (below : header < headers) where
+module _ {image : ImageRead} {header page : ℕ} (it : IsPageOf image header page) (b : Born) (file : List ℕ) (headers to done : ℕ)
+    (below : header < headers) where
   or_first : (c d : Bool) → c ≡ true → (c || d) ≡ true
   or_first true d is = refl
   or_first false d is = absurd (false≢true is)
@@ -117,12 +120,12 @@ writes_so : (c d : Bool) → (c || d) ≡ true → d ≡ false → c ≡ true
 writes_so true d is none = refl
 writes_so false d is none = absurd (false≢true (sym none ∙ is))
 
-pub page_there : {names : Names} {s : KernelState} {parent : Slot} {b : Born} {at : SpawnStep} {k : Slot} {fd headers child header done page id : ℕ} {image : ImageRead}
-    {pieces : List (List ℕ)} (x : HasOfImage names s.spaces parent b at k id) → b.spawning ≡ Some (loading fd image child pieces) →
+pub page_there : {names : Names} {s : KernelState} {parent : Slot} {b : Born} {at : SpawnStep} {k : Slot}
+    {fd headers child header done page id : ℕ} {image : ImageRead} {pieces : List (List ℕ)} (x : HasOfImage names s.spaces parent b at k id) → b.spawning ≡ Some (loading fd image child pieces) →
     ((progress : Progress) → IsProgress (count_of image) at progress → progress ≡ filling headers header done) → IsPageOf image header page → header < headers →
     HasFilling names s k image (filling headers header done) (all_of pieces ++ bytes_replied b.phase) page
-page_there {names = names} {s = s} {b = b} {at = at} {k = k} {headers = headers} {header = header} {done = done} {page = page} {image = image} {pieces = pieces} x found was
-    touched below =
+page_there {names = names} {s = s} {b = b} {at = at} {k = k} {headers = headers} {header = header} {done = done} {page = page} {image = image}
+    {pieces = pieces} x found was touched below =
     let same = loads_same x.loads found in
     let bytes : List ℕ = all_of pieces ++ bytes_replied b.phase in
     let progress_is : x.progress ≡ filling headers header done =
@@ -131,7 +134,8 @@ page_there {names = names} {s = s} {b = b} {at = at} {k = k} {headers = headers}
     x.memory page (page_inside touched)
     ∙ (λ i. child_page b (same.image_is i) (progress_is i) (same.file_is i) page)
     ∙ filled_page touched b bytes headers header done below in
-    let it = own_entry names s.spaces k.directory page (page_bytes (segments_filled image (filling headers header done)) bytes page) true (page_inside touched) seen in
+    let it = own_entry names s.spaces k.directory page (page_bytes (segments_filled image (filling headers header done)) bytes page) true
+    (page_inside touched) seen in
     record {
       it = it;
       writes = writes_so (has_write it.entry.perm) (is_cow it.entry.perm) it.writes_are (x.uncopied page it.entry (page_inside touched) it.stands it.own_page);

@@ -1,5 +1,6 @@
 -- The law of spawn as it sets its child's registers, by the record in its own page: the child stands at its first instruction then.
-use Rattle.std.proofs.Common.{◌≡◌, ◌≢◌, ◌∙◌, ◌+◌, ◌*◌, ◌<◌, ◌≤◌, ◌==◌, ◌%◌, ◌^◌, ◌⊎◌, inl, inr, ℕ, zero, suc, Bool, true, false, List, [], ◌∷◌, Some, Ok, length, map, refl, sym, ap, subst, arith}
+use Rattle.std.proofs.Common.{◌≡◌, ◌≢◌, ◌∙◌, ◌+◌, ◌*◌, ◌<◌, ◌≤◌, ◌==◌, ◌%◌, ◌^◌, ◌⊎◌, inl, inr, ℕ, zero, suc, Bool, true, false, List, [], ◌∷◌, Some, Ok}
+use Rattle.std.proofs.Common.{length, map, refl, sym, ap, subst, arith}
 use Rattle.std.proofs.Common.{if◌then◌else◌}
 use Rattle.std.specs.Prelude.{get_or, slice_index}
 use Rattle.std.proofs.lemmas.Bool.{eqb-false, eqb-true, false≢true}
@@ -253,7 +254,8 @@ module _ (s : KernelState) (n path argv : ℕ) (live : is_live (slot_at s n) ≡
   -- a hidden step lowers the number
   goes_lower : Lowers (Ok progress.Hidden) n s (settled SERVICE_SPAWN (next.GoOn (step.Spawning to)) asked.state n)
   goes_lower a h turn quiet =
-      service_lowers s (settled SERVICE_SPAWN (next.GoOn (step.Spawning to)) asked.state n) n (service.Spawn path argv) (step.Spawning from) (step.Spawning to) stands
+      service_lowers s (settled SERVICE_SPAWN (next.GoOn (step.Spawning to)) asked.state n) n (service.Spawn path argv) (step.Spawning from)
+      (step.Spawning to) stands
       (went_to s asked.state (settled SERVICE_SPAWN (next.GoOn (step.Spawning to)) asked.state n) n n n (service.Spawn path argv) (step.Spawning from)
       (step.Spawning to) stands (own_registers h.0 a h.1) refl refl refl)
       (bearing_falls path argv at 0 tt)

@@ -1,6 +1,8 @@
--- Spawn gives its child a page of zeros at a place where a program may have one. Nothing of it is seen: the state stands for the same abstract one as before, where
+-- Spawn gives its child a page of zeros at a place where a program may have one. Nothing of it is seen: the state stands for the same abstract one as before,
+-- where
 -- the child is to have the page at the next step.
-use Rattle.std.proofs.Common.{◌≡◌, ◌≢◌, ◌∙◌, ◌==◌, ◌%◌, ◌+◌, ◌*◌, ◌-◌, ◌/◌, ◌<◌, ◌&&◌, ◌||◌, ◌⊎◌, ℕ, Bool, true, false, List, ◌∷◌, Some, None, refl, sym, ap, subst, arith}
+use Rattle.std.proofs.Common.{◌≡◌, ◌≢◌, ◌∙◌, ◌==◌, ◌%◌, ◌+◌, ◌*◌, ◌-◌, ◌/◌, ◌<◌, ◌&&◌, ◌||◌, ◌⊎◌, ℕ, Bool, true, false, List, ◌∷◌, Some, None, refl, sym, ap}
+use Rattle.std.proofs.Common.{subst, arith}
 use Rattle.std.proofs.Common.{if◌then◌else◌}
 use Rattle.std.specs.Option.{option_map}
 use Rattle.std.specs.Prelude.{is_some, nat_le, slice_index}
@@ -39,7 +41,8 @@ use Rattle.lib_os.proofs.PageBytes.{zero_page_whole}
 use Rattle.lib_os.proofs.PagesStand.{other_regions, row_elsewhere, row_placed}
 use Rattle.lib_os.proofs.SlotsStand.{SeenAlike, born_stands, counts_unpiped, is_piped}
 use Rattle.lib_os.proofs.SpawnedGoes.{HasOfImage, IsSpawner, spawner, went_own}
-use Rattle.lib_os.proofs.SpawnedMoves.{others_spawning, spawned_counted, spawned_counts, spawned_lives, spawner_apart, spawner_counted, spawner_counts, spawning_moves}
+use Rattle.lib_os.proofs.SpawnedMoves.{others_spawning, spawned_counted, spawned_counts, spawned_lives, spawner_apart, spawner_counted, spawner_counts}
+use Rattle.lib_os.proofs.SpawnedMoves.{spawning_moves}
 use Rattle.lib_os.proofs.Serving.{holds_page}
 use Rattle.lib_os.proofs.SpawnOwnPages.{spawn_there, spawn_words, spawns_at}
 use Rattle.lib_os.proofs.StatesStand.{others_counts}

@@ -346,7 +346,8 @@ module _ {names : Names} {s : KernelState} {a : AbstractState} {sp : SpacesState
   pipe_descriptor q pipes = grind (arith, nat_tests, pipes)
 
   pub here_stands : (IsBesidePage (view_of s.spaces (slot_at s n).directory) (view_of sp (slot_at s n).directory) p →
-      StandsAtSpawn (view_of sp (slot_at s n).directory) (record (slot_at s n) { extra = spawn_words to }) (spawn_there h n path argv from stands).b path argv to) →
+      StandsAtSpawn (view_of sp (slot_at s n).directory) (record (slot_at s n) { extra = spawn_words to })
+      (spawn_there h n path argv from stands).b path argv to) →
       StandsFor names (with_extra (with_spaces s sp) n (spawn_words to)) a
   here_stands so =
       spawning_moves h n path argv id from to b v bears_after sp (λ d not_mine not_childs. others d not_mine) (part (so mapped_beside)) has_still
@@ -384,5 +385,6 @@ module _ {names : Names} {s : KernelState} {a : AbstractState} (h : StandsFor na
       record {
         spaces = sp;
         step = borne_map_here_is h n id b is bears from to own_perm over from_address to_address shares ∙ ap (made_step s) made;
-        given = λ order. inserted_given s.spaces sp home (page_number to) over child_space (page_number from) raw.0 h.in_order.frames order.frames refl raw.1 frame made;
+        given = λ order. inserted_given s.spaces sp home (page_number to) over child_space
+            (page_number from) raw.0 h.in_order.frames order.frames refl raw.1 frame made;
       }

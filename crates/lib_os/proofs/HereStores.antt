@@ -1,4 +1,5 @@
--- Spawn that bears a child stores bytes into a page of the child's own that stands in its own space, too. The child has them in its page then, and nothing else is
+-- Spawn that bears a child stores bytes into a page of the child's own that stands in its own space, too. The child has them in its page then, and nothing else
+-- is
 -- another: the kernel's state goes on standing for the same abstract one, where the child is to have them at the next step.
 use Rattle.std.proofs.Common.{◌≡◌, ◌≢◌, ◌∙◌, ◌==◌, ◌%◌, ◌&&◌, ◌||◌, inl, inr, ◌⊎◌, ℕ, Bool, true, false, List, Some, None, refl, sym, ap, subst, if◌then◌else◌}
 use Rattle.std.specs.Prelude.{nat_le, slice_index}
@@ -302,7 +303,8 @@ module _ {names : Names} {s : KernelState} {a : AbstractState} {sp : SpacesState
   shared_counted : (j q : ℕ) (x : Entry) → before j q ≡ Some x → is_shared x.perm ≡ true → sp.pages x.frame ≡ s.spaces.pages x.frame
   shared_counted j q x hx shared_page =
       bytes_kept x.frame (alone j q x (λ same too.
-      false≢true (sym own_there ∙ ap (λ (e : Entry). is_shared e.perm) (same_Some there x (sym it_counts ∙ (λ i. before (sym same i) (sym too i)) ∙ hx)) ∙ shared_page)) hx)
+      false≢true (sym own_there ∙ ap (λ (e : Entry). is_shared e.perm) (same_Some there x (sym it_counts ∙ (λ i. before (sym same i) (sym too i)) ∙ hx))
+      ∙ shared_page)) hx)
 
   whole_counted : (j q : ℕ) (x : Entry) → before j q ≡ Some x → (c : Bool) → (x.frame == there.frame) ≡ c → IsPage (sp.pages x.frame)
   whole_counted j q x hx true test =
@@ -335,7 +337,8 @@ module _ {names : Names} {s : KernelState} {a : AbstractState} {sp : SpacesState
 
   pub here_stored_stands : PutsBehind (spawn_there h n path argv from stands).b id from to page bytes →
       (IsBesidePage (view_of s.spaces (slot_at s n).directory) (view_of sp (slot_at s n).directory) p →
-      StandsAtSpawn (view_of sp (slot_at s n).directory) (record (slot_at s n) { extra = spawn_words to }) (spawn_there h n path argv from stands).b path argv to) →
+      StandsAtSpawn (view_of sp (slot_at s n).directory) (record (slot_at s n) { extra = spawn_words to })
+      (spawn_there h n path argv from stands).b path argv to) →
       StandsFor names (with_extra (with_spaces s sp) n (spawn_words to)) a
   here_stored_stands puts so =
       let x = u.child in

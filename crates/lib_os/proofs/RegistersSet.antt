@@ -1,6 +1,7 @@
 -- Spawn sets its child's registers by a record that stands in its own page: what the call comes to, and that the kernel's state goes on standing for the same
 -- abstract one, where the child is to have its registers at the next step.
-use Rattle.std.proofs.Common.{◌≡◌, ◌≢◌, ◌∙◌, ◌+◌, ◌*◌, ◌<◌, ◌≤◌, ◌==◌, ◌%◌, ◌&&◌, ◌||◌, ◌^◌, ℕ, Bool, true, false, List, [], ◌∷◌, Option, Some, None, length, not, ◌⊎◌, inl, inr, Result, Err, Ok}
+use Rattle.std.proofs.Common.{◌≡◌, ◌≢◌, ◌∙◌, ◌+◌, ◌*◌, ◌<◌, ◌≤◌, ◌==◌, ◌%◌, ◌&&◌, ◌||◌, ◌^◌, ℕ, Bool, true, false, List, [], ◌∷◌, Option, Some, None, length}
+use Rattle.std.proofs.Common.{not, ◌⊎◌, inl, inr, Result, Err, Ok}
 use Rattle.std.proofs.Common.{refl, sym, ap, subst, arith, if◌then◌else◌}
 use Rattle.std.specs.Prelude.{nat_le, slice_index}
 use Rattle.std.proofs.lemmas.Bool.{false≢true}

@@ -1,4 +1,5 @@
--- Behind the step of spawn that makes its child the kernel's state stands for the abstract one behind its own: the child's slot is taken, and its parent stands where
+-- Behind the step of spawn that makes its child the kernel's state stands for the abstract one behind its own: the child's slot is taken, and its parent stands
+-- where
 -- it is about to give it its image, of which the child has nothing yet.
 use Rattle.std.proofs.Common.{◌≡◌, ◌≢◌, ◌∙◌, ◌==◌, ◌&&◌, ◌+◌, ◌*◌, ◌%◌, ◌<◌, ◌≤◌, ℕ, Bool, true, false, not, List, [], ◌∷◌}
 use Rattle.std.proofs.Common.{Option, Some, None, is_some, refl, sym, ap, subst, arith}
@@ -48,7 +49,8 @@ use Rattle.lib_os.specs.declared.spawn_steps.SpawnStep.{SpawnStep}
 use Rattle.lib_os.specs.AbstractSpawn.{all_of, child_begun, under_shared, with_spawning}
 use Rattle.lib_os.specs.AbstractState.{ImageRead, loading, own, taking}
 use Rattle.lib_os.specs.LibraryPages.{View}
-use Rattle.lib_os.specs.SpawnedChild.{IsProgress, Loads, child_page, fresh, header_touches, image_page, is_loading, is_settled_page, no_page_passed, own_page, segments_filled}
+use Rattle.lib_os.specs.SpawnedChild.{IsProgress, Loads, child_page, fresh, header_touches, image_page, is_loading, is_settled_page, no_page_passed, own_page}
+use Rattle.lib_os.specs.SpawnedChild.{segments_filled}
 use Rattle.lib_os.specs.SpawnedChild.{spawning_child}
 use Rattle.lib_os.specs.SpawnPages.{is_childs}
 use Rattle.lib_os.specs.StandsAtSpawn.{StandsAtSpawn}
@@ -311,7 +313,8 @@ module _ {names : Names} {s : KernelState} {a : AbstractState} (h : StandsFor na
           stack = own.stack;
           flags = own.flags;
           at = subst (λ (p : Place). StandsAt p (view_of sp (slot_at s n).directory) parent bearer) (sym there)
-              (so (view_of sp (slot_at s n).directory) (rows_kept (slot_at s n).directory) (subst (λ (p : Place). StandsAt p (view_of sp (slot_at s n).directory) (slot_at s n) b) stands own.at));
+              (so (view_of sp (slot_at s n).directory) (rows_kept (slot_at s n).directory)
+              (subst (λ (p : Place). StandsAt p (view_of sp (slot_at s n).directory) (slot_at s n) b) stands own.at));
         }
 
     slots_stand : (j : ℕ) → StandsForSlot names sp (slots_after j) (abstract_after j)
@@ -475,7 +478,8 @@ module _ {names : Names} {s : KernelState} {a : AbstractState} (h : StandsFor na
         by_parent true test =
             let here : n ≡ q = grind (arith, nat_tests) in
             let same : bearer ≡ c = same_born bearer c (sym bearer_here ∙ ap abstract_after here ∙ is) in
-            let it_bears : borne_in (place_of (slots_after n)) ≡ Some id = ap (λ (x : Slot). borne_in (place_of x)) parent_here ∙ ap borne_in there ∙ bears_it in
+            let it_bears : borne_in (place_of (slots_after n)) ≡ Some id = ap (λ (x : Slot). borne_in (place_of x)) parent_here ∙ ap borne_in there
+            ∙ bears_it in
             let one : id ≡ own_id = same_Some id own_id (sym it_bears ∙ ap (λ (j : ℕ). borne_in (place_of (slots_after j))) here ∙ bears) in
             subst (λ (j : ℕ). abstract_after (j % NENV) ≡ unborn j c.id) one
             (ap abstract_after names_it ∙ unborn_here ∙ ap (λ (x : Born). unborn id x.id) same)

@@ -1,4 +1,5 @@
--- A call by which spawn makes a page for the child that it bears, or maps one into it, or destroys that, leaves no more pages to be copied to any other environment, and leaves each the
+-- A call by which spawn makes a page for the child that it bears, or maps one into it, or destroys that, leaves no more pages to be copied to any other
+-- environment, and leaves each the
 -- page in which its services keep what they move.
 use Rattle.std.proofs.Common.{◌≡◌, ◌≢◌, ◌∙◌, ◌%◌, inl, inr, ℕ, true, false, List, [], ◌∷◌, Some, refl, sym, ap}
 use Rattle.jos_base.specs.declared.numbers.TheConstants.{NENV, SYS_ENV_DESTROY, SYS_PAGE_ALLOC, SYS_PAGE_MAP}

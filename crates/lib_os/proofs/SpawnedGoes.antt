@@ -31,7 +31,8 @@ use Rattle.lib_os.specs.SpawnedChild.{IsHere, IsProgress, IsSpawned, Loads, Prog
 use Rattle.lib_os.specs.SpawnedChild.{registers_of, spawning_child}
 use Rattle.lib_os.specs.SpawnPages.{is_childs}
 use Rattle.lib_os.specs.StandsAtSpawn.{StandsAtSpawn}
-use Rattle.lib_os.specs.StandsFor.{HasChildren, IsBorneBy, StandsAt, StandsFor, StandsForBorn, StandsForSlot, StandsForUnborn, borne_in, by_fork, by_spawn, view_of}
+use Rattle.lib_os.specs.StandsFor.{HasChildren, IsBorneBy, StandsAt, StandsFor, StandsForBorn, StandsForSlot, StandsForUnborn, borne_in, by_fork, by_spawn}
+use Rattle.lib_os.specs.StandsFor.{view_of}
 use Rattle.lib_os.proofs.BytesKept.{StandsBeside}
 use Rattle.lib_os.proofs.Children.{of_parent}
 use Rattle.lib_os.proofs.CopiesStand.{born_back}
@@ -210,7 +211,8 @@ same_unborn : (id parent other others_parent : ℕ) → unborn id parent ≡ unb
 same_unborn id parent other others_parent same = (cc, cc)
 
 -- who is not born stands in the slot that its id names
-pub unborn_named : {names : Names} {s : KernelState} {a : AbstractState} → StandsFor names s a → (m id parent : ℕ) → a.slots m ≡ unborn id parent → id % NENV ≡ m
+pub unborn_named : {names : Names} {s : KernelState} {a : AbstractState} → StandsFor names s a → (m id parent : ℕ) → a.slots m ≡ unborn id parent →
+    id % NENV ≡ m
 unborn_named {names = names} {s = s} h m id parent is =
     let own : StandsForUnborn (slot_at s m) id parent = subst (λ (y : AbstractSlot). StandsForSlot names s.spaces (slot_at s m) y) is (h.slots m) in
     ap (λ (q : ℕ). q % NENV) (sym own.id_is) ∙ h.tabled.ids m (live_stands h m ∙ ap (λ (x : AbstractSlot). is_live x) is)
@@ -259,8 +261,10 @@ module _ {names : Names} {sp : SpacesState} {slots : ℕ → Slot} {abstract : �
         let other_parent : parent % NENV ≢ n = λ same.
         let one : own_id ≡ id = same_Some own_id id (sym parents.bears ∙ ap (λ (q : ℕ). borne_in (place_of (slots q))) same ∙ borne_id) in
         apart (sym (ids j own_id parent at) ∙ ap (λ (q : ℕ). q % NENV) one) in
-        subst (λ (x : Slot). IsBorneBy names sp x (abstract (parent % NENV)) (slots_after j) own_id parent) (sym (upd-other slots n k (parent % NENV) other_parent))
-        (subst (λ (x : Slot). IsBorneBy names sp (slots (parent % NENV)) (abstract (parent % NENV)) x own_id parent) (sym (upd-other slots n k j not_parent)) was)
+        subst (λ (x : Slot). IsBorneBy names sp x (abstract (parent % NENV)) (slots_after j) own_id parent)
+        (sym (upd-other slots n k (parent % NENV) other_parent))
+        (subst (λ (x : Slot). IsBorneBy names sp (slots (parent % NENV)) (abstract (parent % NENV)) x own_id parent)
+        (sym (upd-other slots n k j not_parent)) was)
 
     borne_still : (j own_id parent : ℕ) → abstract j ≡ unborn own_id parent → Bears j own_id parent
     borne_still j own_id parent at = by_child (j == m) refl

@@ -1,6 +1,8 @@
--- While spawn bears a child: the kernel's state goes on standing for the same abstract one where the slots and the spaces of the two change, and nothing is seen of
+-- While spawn bears a child: the kernel's state goes on standing for the same abstract one where the slots and the spaces of the two change, and nothing is
+-- seen of
 -- anybody else.
-use Rattle.std.proofs.Common.{◌≡◌, ◌≢◌, ◌∙◌, ◌<◌, ◌==◌, ◌%◌, ◌&&◌, ◌||◌, ℕ, Bool, true, false, not, List, Some, None, refl, sym, ap, subst, arith, if◌then◌else◌}
+use Rattle.std.proofs.Common.{◌≡◌, ◌≢◌, ◌∙◌, ◌<◌, ◌==◌, ◌%◌, ◌&&◌, ◌||◌, ℕ, Bool, true, false, not, List, Some, None, refl, sym, ap, subst, arith}
+use Rattle.std.proofs.Common.{if◌then◌else◌}
 use Rattle.std.specs.Prelude.{nat_le}
 use Rattle.std.proofs.lemmas.Bool.Decides.{nat_tests}
 use Rattle.std.proofs.lemmas.Option.{none-some, same_Some}

@@ -130,7 +130,8 @@ placed_over b image file header none = record {
   handler_stack = refl;
   passed = refl;
   pages = λ p.
-      page_same b image file (placing header 0) (placing (header + 1) 0) p refl refl (placed_behind image header 0 p (none_placed image header 0 p none)) refl refl;
+      page_same b image file (placing header 0) (placing (header + 1) 0) p refl refl
+      (placed_behind image header 0 p (none_placed image header 0 p none)) refl refl;
 }
 
 -- ---- which bytes are there
@@ -176,7 +177,8 @@ filled_behind image headers header done all =
     segments_alike (headers_filled image (filling headers header done)) (headers_filled image (filling headers (header + 1) 0))
     (entry_count_of (slice_index image.header))
     (λ m. filled_loaded image (filling headers header done) m ∙ sym (filled_loaded image (filling headers (header + 1) 0) m))
-    (λ m loaded. ap segment_of (by_front m (sym (filled_loaded image (filling headers header done) m) ∙ loaded) (nat_lt m header) refl (nat_lt m (header + 1)) refl))
+    (λ m loaded. ap segment_of (by_front m (sym (filled_loaded image (filling headers header done) m) ∙ loaded) (nat_lt m header) refl
+    (nat_lt m (header + 1)) refl))
   where
     one : ℕ → ProgramHeader
     one m = packed (headers_in image.table) m
@@ -188,7 +190,8 @@ filled_behind image headers header done all =
         (if c then one m else record (one m) { file_len = if m == header then done else 0 })
         ≡ (if d then one m else record (one m) { file_len = if m == header + 1 then 0 else 0 })
     by_front m loaded true test true after = refl
-    by_front m loaded true test false after = absurd (let low : m < header = grind (arith, nat_tests, test) in let high : header + 1 ≤ m = grind (arith, nat_tests, after) in omega (arith, low, high))
+    by_front m loaded true test false after = absurd
+        (let low : m < header = grind (arith, nat_tests, test) in let high : header + 1 ≤ m = grind (arith, nat_tests, after) in omega (arith, low, high))
     by_front m loaded false test true after =
         let here : m ≡ header = grind (arith, nat_tests, test, after) in
         let it : (m == header) ≡ true = grind (arith, nat_tests, here) in

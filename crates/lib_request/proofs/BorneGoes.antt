@@ -1,4 +1,5 @@
--- Where spawn that bears a child goes on behind a word that it has loaded from a page of its own, or stored into one: at another of its steps, with the same pages,
+-- Where spawn that bears a child goes on behind a word that it has loaded from a page of its own, or stored into one: at another of its steps, with the same
+-- pages,
 -- where the child has what it is to have.
 use Rattle.std.proofs.Common.{◌≡◌, ◌∙◌, ℕ, List, Some, refl, sym, ap, subst}
 use Rattle.jos_base.specs.Environments.{Slot}
@@ -51,8 +52,14 @@ module _ {names : Names} {s : KernelState} {a : AbstractState} (h : StandsFor na
     step_is = it.step_is;
     follows = λ order last.
         let on = goes order in
-        subst (λ (x : Next). Follows (with_spaces s it.spaces) n (service.Spawn path argv) a x) (sym (next_is ∙ ap next.GoOn on.is))
-        (refl, (names, borne_stored h n path argv id from on.at stands bears on.bears on.held on.childs on.told it.spaces (it.stands_beside order) last on.goes on.stands));
+        subst (λ (x : Next). Follows (with_spaces s it.spaces) n (service.Spawn path argv) a x) (sym (next_is ∙ ap next.GoOn on.is)) (
+          refl,
+          (
+            names,
+            borne_stored h n path argv id from on.at stands bears on.bears on.held on.childs on.told it.spaces
+                (it.stands_beside order) last on.goes on.stands,
+          ),
+        );
   }
 
   -- behind a load
