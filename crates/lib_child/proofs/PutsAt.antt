@@ -121,7 +121,8 @@ writes_so true d is none = refl
 writes_so false d is none = absurd (false≢true (sym none ∙ is))
 
 pub page_there : {names : Names} {s : KernelState} {parent : Slot} {b : Born} {at : SpawnStep} {k : Slot}
-    {fd headers child header done page id : ℕ} {image : ImageRead} {pieces : List (List ℕ)} (x : HasOfImage names s.spaces parent b at k id) → b.spawning ≡ Some (loading fd image child pieces) →
+    {fd headers child header done page id : ℕ} {image : ImageRead} {pieces : List (List ℕ)}
+    (x : HasOfImage names s.spaces parent b at k id) → b.spawning ≡ Some (loading fd image child pieces) →
     ((progress : Progress) → IsProgress (count_of image) at progress → progress ≡ filling headers header done) → IsPageOf image header page → header < headers →
     HasFilling names s k image (filling headers header done) (all_of pieces ++ bytes_replied b.phase) page
 page_there {names = names} {s = s} {b = b} {at = at} {k = k} {headers = headers} {header = header} {done = done} {page = page} {image = image}
