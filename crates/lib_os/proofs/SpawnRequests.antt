@@ -1,7 +1,7 @@
 -- What the abstract system does where spawn asks the file server: it asks for what its page tells, where the server is idle.
-use Rattle.std.proofs.Common.{◌≡◌, ◌≢◌, ◌∙◌, ◌+◌, ◌-◌, ◌*◌, ◌%◌, ◌<◌, ◌≤◌, ◌++◌, ◌==◌, ◌&&◌, ◌||◌, ℕ, zero, suc, Bool, true, false, List, [], ◌∷◌, length}
+use Rattle.std.proofs.Common.{◌≡◌, ◌∙◌, ◌+◌, ◌-◌, ◌*◌, ◌%◌, ◌<◌, ◌≤◌, ◌++◌, ◌==◌, ◌&&◌, ◌||◌, ℕ, zero, suc, Bool, true, false, List, [], ◌∷◌, length}
 use Rattle.std.proofs.Common.{Option, Some, None, refl, sym, ap, subst, arith}
-use Rattle.std.specs.Prelude.{drop, is_none, nat_lt, slice_index}
+use Rattle.std.specs.Prelude.{drop, nat_lt, slice_index}
 use Rattle.std.specs.Option.{option_map}
 use Rattle.std.proofs.lemmas.Bool.Decides.{nat_tests}
 use Rattle.std.proofs.lemmas.List.{length-append}
@@ -13,7 +13,7 @@ use Rattle.jos_base.specs.KernelState.{KernelState, slot_at}
 use Rattle.jos_base.specs.Reach.{Entry}
 use Rattle.jos_base.specs.Words.{page_number}
 use Rattle.jos_elf.specs.declared.numbers.TheConstants.{EHDR_LEN, PHDR_LEN}
-use Rattle.jos_elf.specs.Headers.{entry_count_of, table_of}
+use Rattle.jos_elf.specs.Headers.{table_of}
 use Rattle.jos_elf.specs.StackPage.{fits_stack}
 use Rattle.jos_elf.specs.Tests.{first_failed, header_tests}
 use Rattle.fs_layout.specs.FileTree.{open_path, read_file}
@@ -23,13 +23,12 @@ use Rattle.lib_os.specs.declared.service.Service.{Service}
 use Rattle.lib_os.specs.declared.service.Service.TheVariants as service
 use Rattle.lib_os.specs.declared.spawn_steps.FilePart.{FilePart}
 use Rattle.lib_os.specs.declared.spawn_steps.ReadStep.{ReadStep}
-use Rattle.lib_os.specs.declared.spawn_steps.SpawnStep.{SpawnStep}
 use Rattle.lib_os.specs.declared.spawn_steps.SpawnStep.TheVariants as spawn
 use Rattle.lib_os.specs.declared.place.Place.{Place}
 use Rattle.lib_os.specs.declared.place.Place.TheVariants as place
 use Rattle.lib_os.specs.AbstractSpawn.{Piece, headers_in, pieces_left, pieces_wanted, spawn_step, table_size, with_spawning}
-use Rattle.lib_os.specs.AbstractState.{AbstractState, Born, ImageRead, Object, OpenFile, Request, Server, Stage, Spawning, act, born, file, guest, heading}
-use Rattle.lib_os.specs.AbstractState.{in_service, loading, opening, replied, tabling, taking}
+use Rattle.lib_os.specs.AbstractState.{AbstractState, Born, ImageRead, Object, OpenFile, Stage, Spawning, act, born, file, guest, heading}
+use Rattle.lib_os.specs.AbstractState.{in_service, loading, opening, replied, tabling}
 use Rattle.lib_os.specs.DescriptorPages.{size_of}
 use Rattle.lib_os.specs.Descriptors.{object_of}
 use Rattle.lib_os.specs.FileServer.{ask, is_count}
@@ -39,8 +38,8 @@ use Rattle.lib_os.specs.Places.{place_of}
 use Rattle.lib_os.specs.Rows.{Names, descriptor_page}
 use Rattle.lib_os.specs.SpawnGiven.{Quotes, amid_word, behind_addresses, behind_word}
 use Rattle.lib_os.specs.SpawnPages.{is_childs}
-use Rattle.lib_os.specs.StandsAtSpawn.{Asks, HasPieces, IsBefore, IsFilled, IsOfFile, IsOfFileWith, TellsAll, TellsFile, and_last, before_header, before_piece}
-use Rattle.lib_os.specs.StandsAtSpawn.{before_table, none_yet, pieces_behind}
+use Rattle.lib_os.specs.StandsAtSpawn.{Asks, HasPieces, IsBefore, IsOfFile, IsOfFileWith, TellsFile, and_last, before_header, before_piece}
+use Rattle.lib_os.specs.StandsAtSpawn.{before_table, none_yet}
 use Rattle.lib_os.specs.StandsFor.{StandsFor, view_of}
 use Rattle.lib_os.proofs.DescriptorLooks.{seen_calm}
 use Rattle.lib_os.proofs.DeviceLooks.{NamesFile, names_file_beside}

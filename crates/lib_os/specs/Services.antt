@@ -1,6 +1,6 @@
 -- Which service a program asks for by INT 0x40. Its number stands in EAX, what it is given in EDX, ECX and EBX, in this
 -- order, and it answers in EAX. (The numbers are this system's own.)
-use Rattle.std.specs.Prelude.{ℕ, ◌==◌, nat_le, Bool, true, false, if◌then◌else◌}
+use Rattle.std.specs.Prelude.{ℕ, ◌==◌, nat_le, Bool, if◌then◌else◌}
 use Rattle.jos_base.specs.declared.registers.Regs.{Regs}
 use Rattle.lib_os.specs.declared.numbers.TheConstants.{SERVICE_EXIT, SERVICE_CPUTS, SERVICE_GETID, SERVICE_YIELD}
 use Rattle.lib_os.specs.declared.numbers.TheConstants.{SERVICE_FORK, SERVICE_WAIT, SERVICE_PAGE_NEW, SERVICE_PAGE_DROP}

@@ -1,5 +1,5 @@
 -- The law of spawn: what it is at each of its steps in the abstract system, by the law of the part in which it is.
-use Rattle.std.proofs.Common.{◌≡◌, ◌||◌, ℕ, true, false, refl}
+use Rattle.std.proofs.Common.{◌≡◌, ◌||◌, ℕ, true, refl}
 use Rattle.jos_base.specs.Environments.{is_live, is_runnable, is_running}
 use Rattle.jos_base.specs.KernelState.{KernelState, slot_at}
 use Rattle.lib_os.specs.declared.place.Place.TheVariants as place
